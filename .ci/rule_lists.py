@@ -42,7 +42,7 @@ EXEMPT = {"h2_spec_machine/specs/End.antt", "h2_spec_machine/specs/Machine.antt"
 
 # Crates of tests and cases, whose calls are no use of a function.
 TESTS = {"h2_cases", "h2_case", "h2_case_conn", "h2_case_ends", "h2_test_ends", "h2_test_layers",
-         "h2_test_scarce", "h2_test_tool"}
+         "h2_test_parts", "h2_test_scarce", "h2_test_tool"}
 TESTS |= {"h2_measure", "h2_uses"}
 
 # Functions that the language calls, or a macro of a library.
@@ -186,6 +186,6 @@ CONFLICTS = {
     "5.1.2 A client has at most as many active streams as the server allows": "9113, 5.1.2: before SETTINGS there is no "
     "limit. A client opens 100 until these have come, and never more than 1,000.",
     "10.5 An end that resets 1,001 streams ends with ENHANCE_YOUR_CALM": "9113, 10.5: an endpoint SHOULD limit what costs "
-    "it work. Streams that the peer opens and resets, empty CONTINUATION frames and interim responses are not counted: each "
+    "it work. Streams that the peer opens and resets, empty CONTINUATION frames and interim responses are not limited: each "
     "costs a frame and leaves nothing behind.",
 }

@@ -6,6 +6,9 @@
  * answers it had and the octets of the output.
  * driver whole CLIENT [BODY] | parts CLIENT [BODY]
  * serves it with a server of messages, whose bodies are given whole or in parts.
+ * driver stream OCTETS
+ * serves a file of so many octets, in parts, to a client in memory, and prints how many bodies and
+ * octets have come, and by how many octets that has raised the most memory that the process had.
  * driver server CLIENT
  * serves it with the README's server, and prints how many octets of output it had.
  * driver blocks LISTS | wire BLOCKS
@@ -67,12 +70,37 @@ static int write_wire(const uint8_t *blocks, size_t n) {
 }
 #endif
 
+#ifdef MAKES_INPUT
+/* The most memory that the process has had (VmHWM), in octets. */
+static size_t most_memory(void) {
+  FILE *file = fopen("/proc/self/status", "r");
+  char line[256];
+  size_t kib = 0;
+  if (!file) exit(3);
+  while (fgets(line, sizeof line, file) && sscanf(line, "VmHWM: %zu kB", &kib) != 1) continue;
+  fclose(file);
+  return kib * 1024;
+}
+
+static int stream(uint64_t length) {
+  struct counts counts = {0, 0};
+  size_t before = most_memory();
+  int failed = measure_stream(length, &counts);
+  printf("%llu %llu %zu\n", (unsigned long long)counts.units, (unsigned long long)counts.octets,
+         most_memory() - before);
+  return failed || counts.units != 1 || counts.octets != length;
+}
+#endif
+
 int main(int argc, char **argv) {
   struct counts counts = {0, 0};
   size_t n;
   uint8_t *octets;
   int failed;
   if (argc < 3) return 2;
+#ifdef MAKES_INPUT
+  if (!strcmp(argv[1], "stream")) return stream(strtoull(argv[2], NULL, 10));
+#endif
   octets = read_all(argv[2], &n);
 #ifdef MAKES_INPUT
   if (!strcmp(argv[1], "server")) {

@@ -1,12 +1,13 @@
 /* Counts what is allocated, by what was asked for, and prints what was added between the two marks
- * (measure.h): what a server's end holds. Linked with --wrap=malloc, realloc and free. */
+ * (measure.h): what a server's end holds at last, and the most that was held between them. Linked
+ * with --wrap=malloc, realloc and free. */
 #include <stdio.h>
 #include <string.h>
 #include "measure.h"
 
 enum { BEFORE = 16 };
 
-static size_t held, held_at_mark[2], marks;
+static size_t held, most, held_at_mark[2], marks;
 
 void *__real_malloc(size_t n);
 void __real_free(void *block);
@@ -20,6 +21,7 @@ void *__wrap_malloc(size_t n) {
   if (n == MARK && marks < 2) held_at_mark[marks++] = held;
   memcpy(block, &n, sizeof n);
   held += n;
+  if (n != MARK && marks == 1 && held > most) most = held;
   return block + BEFORE;
 }
 
@@ -45,5 +47,6 @@ void *__wrap_realloc(void *octets, size_t n) {
 }
 
 __attribute__((destructor)) static void print_held(void) {
-  printf("%zu\n", held_at_mark[1] - held_at_mark[0]);
+  size_t start = held_at_mark[0];
+  printf("%zu %zu\n", held_at_mark[1] - start, most > start ? most - start : 0);
 }

@@ -37,3 +37,8 @@ int measure_server(const uint8_t *octets, size_t n, struct counts *out);
 /* Takes a server's octets with the README's client, which asks for one page. The octets that are
    counted are those of the response's body. */
 int measure_client(const uint8_t *octets, size_t n, struct counts *out);
+
+/* Serves a file of so many octets, which is made as it is read, with the file server of h2_uses to
+ * a client in memory. The units are the bodies that have come whole, the octets those of them.
+ * Allocations of MARK octets say that there is no end yet, and that all has come. */
+int measure_stream(uint64_t length, struct counts *out);

@@ -158,7 +158,7 @@ class Half:
     def pump_some(self, most):
         """Sends shares, one pass: the streams from the turn up, and then those below it. That at which it ended comes
         first in the next one, with what is left of its share."""
-        most, count, first, rest, self.rest = max(most, 1), 0, self.turn, self.rest, 0
+        most, count, first, rest, self.rest = max(min(most, 65_536), 1), 0, self.turn, self.rest, 0
         for number in sorted(self.waiting, key=lambda number: (number < first, number)):
             size = min(rest, most) if number == first and rest else most
             sent, halted = self.share(number, size)

@@ -6,7 +6,7 @@ use h2_case::fields::{add_fields, read_fields};
 use h2_case::octets::{add_frames, read_octets};
 use h2_case::text::Text;
 use h2_case::words::Words;
-use h2_conn::{BadConfig, Config, Conn, Refusal};
+use h2_conn::{BadConfig, Code, Config, Conn, Refusal};
 use h2_replay::Act;
 use std::alloc::Global;
 
@@ -70,6 +70,17 @@ pub fn read_ping(alloc: Global, words: &mut Words<'_>) -> [u8; 8] {
     }
 }
 
+/// The error code that a command names by its number.
+pub fn read_code(words: &mut Words<'_>) -> Code {
+    match Code::from_number(words.number()) {
+        Some(code) => code,
+        None => {
+            words.unread();
+            Code::InternalError
+        }
+    }
+}
+
 /// The call of this name, with what is left of a command.
 pub(crate) fn read_act(alloc: Global, name: &str, words: &mut Words<'_>) -> Act {
     match name {
@@ -79,6 +90,7 @@ pub(crate) fn read_act(alloc: Global, name: &str, words: &mut Words<'_>) -> Act 
         },
         "ping" => Act::Ping(read_ping(alloc, words)),
         "go_away" => Act::GoAway,
+        "fail" => Act::Fail(read_code(words)),
         "out" => Act::PutOut(words.number()),
         "change" => Act::ChangeSettings(read_config(words)),
         _ => {
@@ -141,6 +153,7 @@ fn make_other(conn: &mut Conn, act: &Act) -> Result<(), Refusal> {
         Act::Refuse { id, code } => conn.refuse(*id, *code),
         Act::Ping(octets) => conn.ping(*octets),
         Act::GoAway => conn.go_away(),
+        Act::Fail(code) => conn.fail(*code),
         Act::ChangeSettings(config) => conn.change_settings(*config),
         _ => Ok(()),
     }
@@ -184,6 +197,7 @@ fn add_small_act(text: &mut Text, act: &Act) {
         Act::Reset { id, code } => add_numbers(text, "reset", *id, *code),
         Act::Refuse { id, code } => add_numbers(text, "refuse", *id, *code),
         Act::Ping(octets) => add_octets_act(text, "ping", octets),
+        Act::Fail(code) => write!(text, "fail {}\n", code.number()),
         Act::PutOut(count) => write!(text, "out {count}\n"),
         Act::ChangeSettings(config) => add_change(text, *config),
         _ => text.push_line("go_away"),

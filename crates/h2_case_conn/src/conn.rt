@@ -10,13 +10,14 @@
 //!   that is one call.
 //! - The calls: `open FIELDS`, `fields ID FIELDS`, `data ID OCTETS` (each with `end` before its
 //!   fields or octets where it ends the stream), `release ID N`, `reset ID CODE`,
-//!   `refuse ID CODE`, `ping OCTETS`, `go_away`, `change VALUES` (as of `new`), and `out N`: the
-//!   frames of at most `N` octets of the output. Each answers its number, `done`, or the rule by
-//!   which it is refused.
+//!   `refuse ID CODE`, `ping OCTETS`, `go_away`, `fail CODE`, `change VALUES` (as of `new`), and
+//!   `out N`: the frames of at most `N` octets of the output. Each answers its number, `done`, or
+//!   the rule by which it is refused.
 //! - `out`: the frames of all output; `drop out` and `drop out N`: it is taken away, and not shown.
 //! - The readers: `waiting`, `lent` (the frames of the queued output), `held`, `place`, `due`,
-//!   `failed`, `next_number`, `room ID`, `owed ID`, `next_live ID`, `is_active ID`, and
-//!   `refusal_to_open FIELDS`.
+//!   `failed`, `next_number`, `room ID`, `owed ID`, `next_live ID`, `is_active ID`,
+//!   `refusal_to_open FIELDS`, `last_flow`, `resets_received`, `empty_frames_received`, and
+//!   `peer_settings` (the initial window and the greatest frame).
 //! - `changes`: which of these numbers have changed since the last such command, or, at the first
 //!   one, all: `waiting N`, `held N`, `due N`, `room N`; `room ID N` and `owed ID N` of each active
 //!   stream; `live N`, how many of these there are, and `sum N`, the sum of their numbers.
@@ -162,6 +163,25 @@ fn read(alloc: Global, conn: &Conn, name: &str, words: &mut Words<'_>, text: &mu
     true
 }
 
+// Adds what the reader of this name says of the peer's frames; returns whether there is one.
+fn read_frames_of_peer(conn: &Conn, name: &str, text: &mut Text) -> bool {
+    match name {
+        "last_flow" => add_value(text, conn.last_flow()),
+        "resets_received" => add_value(text, conn.resets_received()),
+        "empty_frames_received" => add_value(text, conn.empty_frames_received()),
+        "peer_settings" => {
+            let settings = conn.peer_settings();
+            write!(
+                text,
+                "{} {}\n",
+                settings.initial_window_size, settings.max_frame_size
+            );
+        }
+        _ => return false,
+    }
+    true
+}
+
 // Adds the value of the reader of this name for a stream; returns whether there is one.
 fn read_stream(conn: &Conn, name: &str, words: &mut Words<'_>, text: &mut Text) -> bool {
     match name {
@@ -169,7 +189,7 @@ fn read_stream(conn: &Conn, name: &str, words: &mut Words<'_>, text: &mut Text) 
         "owed" => add_value(text, conn.owed(words.number())),
         "next_live" => add_option(text, conn.next_live(words.number())),
         "is_active" => add_value(text, conn.is_active(words.number())),
-        _ => return false,
+        _ => return read_frames_of_peer(conn, name, text),
     }
     true
 }

@@ -1,7 +1,7 @@
 //! A client or a server of complete messages.
 //!
 //! - `new client`, `new server`, `take`, `out`, `out N`, `drop out`, `ping OCTETS`, `go_away`,
-//!   `reset ID CODE`, `release ID N`, `change VALUES`, `waiting`, `room ID`, `owed ID` and
+//!   `fail CODE`, `reset ID CODE`, `release ID N`, `change VALUES`, `waiting`, `room ID`, `owed ID` and
 //!   `next_live ID` as of one end of a connection (`h2_case_conn::conn`). What is handed out is as
 //!   [`crate::end_events`] says.
 //! - `start`: the peer's opening comes, with SETTINGS without values, and all output is taken away
@@ -13,7 +13,7 @@
 //!   many of the octets are sent; there may be none. `trailers ID FIELDS`.
 //! - `serve each N MESSAGE`, at a client `ask each N MESSAGE`: see [`crate::crowds`].
 //! - `pump`, `pump_some N`, `release_all`, `unsent ID`, `is_quiet`, `is_full`, `is_drained`;
-//!   `active`: the numbers of all active streams, and `count active`: their number; `count out`: the
+//!   `last_flow`; `last_malformed`: the stream and the rule, or `none`; `active`: the numbers of all active streams, and `count active`: their number; `count out`: the
 //!   number of octets of output that are taken away.
 //! - `other`: the commands that follow are for the other of two ends, which is new at first.
 //!   `exchange N`: octets go to the other end and back, N at once at most, until none are queued
@@ -33,7 +33,7 @@ use h2_case::messages::{add_message, read_message};
 use h2_case::octets::{add_frames, read_part};
 use h2_case::text::Text;
 use h2_case::words::Words;
-use h2_case_conn::acts::{read_config, read_ping};
+use h2_case_conn::acts::{read_code, read_config, read_ping};
 use h2_case_conn::answers::{add_answer, add_done, add_name, add_option, add_value};
 use h2_case_conn::conn::{drop_out, read_role};
 use h2_case_conn::cuts::{Cut, Cutting, answers_in_cuts, read_frames};
@@ -276,8 +276,21 @@ fn answer_call(alloc: Global, side: &mut Side, name: &str, words: &mut Words<'_>
         }
         "ping" => add_done(alloc, text, side.ping(read_ping(alloc, words))),
         "go_away" => add_done(alloc, text, side.go_away()),
+        "fail" => add_done(alloc, text, side.fail(read_code(words))),
         "change" => add_done(alloc, text, side.change_settings(read_config(words))),
+        "last_malformed" => add_malformed(alloc, side, text),
         _ => read(side, name, words, text),
+    }
+}
+
+// Adds which part of a message was refused last.
+fn add_malformed(alloc: Global, side: &Side, text: &mut Text) {
+    match side.last_malformed() {
+        Some((id, rule)) => {
+            write!(text, "{id} ");
+            add_name(alloc, text, &rule);
+        }
+        None => text.push_line("none"),
     }
 }
 
@@ -288,6 +301,7 @@ fn read(side: &Side, name: &str, words: &mut Words<'_>, text: &mut Text) {
         "is_quiet" => add_value(text, side.is_quiet()),
         "is_full" => add_value(text, side.is_full()),
         "is_drained" => add_value(text, side.is_drained()),
+        "last_flow" => add_value(text, side.last_flow()),
         "active" => add_active(side, false, text),
         "room" => add_option(text, side.conn().room(words.number())),
         "owed" => add_value(text, side.conn().owed(words.number())),

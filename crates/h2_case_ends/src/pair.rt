@@ -9,10 +9,10 @@
 //!   pieces of N octets.
 //! - `request MESSAGE`, `respond ID MESSAGE`, `pump SIDE`, `move SIDE COUNT`,
 //!   `deliver SIDE COUNT`, `release_all SIDE`, `reset SIDE ID CODE`, `ping SIDE OCTETS`,
-//!   `go_away SIDE`, `change SIDE TABLE WINDOW STREAMS`: an act, and what it answers: the stream
-//!   of a request, the number of octets sent, moved or delivered, `done`, the rule by which it is
-//!   refused, `fault CODE` or `memory`. Where a refused act has changed what is seen of the ends,
-//!   that is said.
+//!   `go_away SIDE`, `fail SIDE CODE`, `change SIDE TABLE WINDOW STREAMS`: an act, and what it
+//!   answers: the stream of a request, the number of octets sent, moved or delivered, `done`, the
+//!   rule by which it is refused, `fault CODE` or `memory`. Where a refused act has changed what is
+//!   seen of the ends, that is said.
 //! - `begin FIELDS`, `begin_response ID FIELDS`, `body SIDE ID OCTETS`, `body SIDE ID OCTETS end`
 //!   and `trailers SIDE ID FIELDS`: acts of a message that is given in parts. Fields are written as
 //!   the head of a message; there may be no octets.

@@ -1,7 +1,8 @@
 //! A client or a server: each call is that of the one it is.
 
 use h2_ends::{
-    Client, Config, Conn, ConnFault, EndRefusal, EndTaken, Field, Message, Refusal, Server,
+    Client, Code, Config, Conn, ConnFault, EndRefusal, EndTaken, Field, Malformed, Message,
+    Refusal, Server,
 };
 use h2_spec_log::Role;
 use std::alloc::Global;
@@ -193,6 +194,27 @@ impl Side {
         match self {
             Side::Client(client) => client.go_away(),
             Side::Server(server) => server.go_away(),
+        }
+    }
+
+    pub(crate) fn fail(&mut self, code: Code) -> Result<(), Refusal> {
+        match self {
+            Side::Client(client) => client.fail(code),
+            Side::Server(server) => server.fail(code),
+        }
+    }
+
+    pub(crate) fn last_malformed(&self) -> Option<(u32, Malformed)> {
+        match self {
+            Side::Client(client) => client.last_malformed(),
+            Side::Server(server) => server.last_malformed(),
+        }
+    }
+
+    pub(crate) fn last_flow(&self) -> u32 {
+        match self {
+            Side::Client(client) => client.last_flow(),
+            Side::Server(server) => server.last_flow(),
         }
     }
 

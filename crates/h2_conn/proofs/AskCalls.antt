@@ -7,7 +7,7 @@ use Rattle.h2_conn.proofs.Names.{Done, most_max_frame, Log, log_view, MayAnswer,
 use Rattle.h2_conn.proofs.Names.{refusal_of, View, Keeps, End, end_view, payload_limit_of}
 use Rattle.h2_conn.proofs.Names.{after_call, Represents, views_alike, refusal_same, CallRefused}
 use Rattle.h2_conn.proofs.Names.{CallAccepted, answer_by, PartsRepresent, IsTypedAct}
-use Rattle.h2_conn.proofs.Names.{may_lack_memory, end_after}
+use Rattle.h2_conn.proofs.Names.{may_lack_memory, end_after, Counts, CountsFrames, Frame}
 use Rattle.h2_spec_log.specs.CallRules.{answer_of, first_of, conditions}
 use Rattle.std.proofs.Common.{IfErr, OnOk}
 use Rattle.h2_spec_log.specs.LogCalls.{accepts, refuses, lacks}
@@ -21,17 +21,18 @@ use Rattle.hpack.proofs.Tests.{none_since as nothing}
 
 -- Whatever log the parts represent: the call may have the answer, and they represent the log with
 -- it.
-abbrev pub PartsAnswer : CutterState → End → Act → Answer → End → Type 0
-PartsAnswer cutter e act answer new =
-    (values : Values) (log : Log) → PartsRepresent values cutter e log
-    → MayAnswer log act answer × PartsRepresent values cutter new (with_call log act answer)
+abbrev pub PartsAnswer : CutterState → Counts → End → Act → Answer → End → Type 0
+PartsAnswer cutter counts e act answer new =
+    (values : Values) (log : Log) → PartsRepresent values cutter counts e log
+    → MayAnswer log act answer × PartsRepresent values cutter counts new (with_call log act answer)
 
 -- The parts represent the log with a call that may have its answer, where the end keeps its own
 -- settings.
-pub parts_called : (values : Values) (cutter : CutterState) (e : End) (log : Log) (act : Act)
-    (answer : Answer) → PartsRepresent values cutter e log → IsTypedAct act
+pub parts_called : {counts : Counts} (values : Values) (cutter : CutterState) (e : End) (log : Log)
+    (act : Act)
+    (answer : Answer) → PartsRepresent values cutter counts e log → IsTypedAct act
     → MayAnswer log act answer → (end_after e act answer).own ≡ e.own
-    → PartsRepresent values cutter (end_after e act answer) (with_call log act answer)
+    → PartsRepresent values cutter counts (end_after e act answer) (with_call log act answer)
 parts_called values cutter e log act answer parts typed may own =
     parts_kept values cutter e (end_after e act answer) log (with_call log act answer) parts
     (Keeps-call log act answer) own
@@ -56,17 +57,20 @@ unfolding end_after
 refused_after e act refusal = refl
 
 -- A call that is refused, for memory only where the log may lack it.
-pub refused_at : (values : Values) (cutter : CutterState) (e new : End) (log : Log) (act : Act)
-    (refusal : Refusal) → PartsRepresent values cutter e log → IsTypedAct act
+pub refused_at : {counts : Counts} (values : Values) (cutter : CutterState) (e new : End)
+    (log : Log) (act : Act)
+    (refusal : Refusal) → PartsRepresent values cutter counts e log → IsTypedAct act
     → (refusal ≡ Memory → refusal_of (end_view e) act ≡ None
     → may_lack_memory (log_view log) act ≡ true)
     → CallRefused e act refusal new
     → MayAnswer log act (Refused refusal)
-    × PartsRepresent values cutter new (with_call log act (Refused refusal))
-refused_at values cutter e new log act refusal parts typed lacking refused =
+    × PartsRepresent values cutter counts new (with_call log act (Refused refusal))
+refused_at {counts} values cutter e new log act refusal parts typed lacking refused =
     let may = refusal_may values e new log act refusal parts.machine lacking refused in (
       may,
-      subst (λ (x : End). PartsRepresent values cutter x (with_call log act (Refused refusal)))
+      subst
+          (λ (x : End). PartsRepresent values cutter counts x
+          (with_call log act (Refused refusal)))
           (refused_after e act refusal ∙ sym refused.same)
           (parts_called values cutter e log act (Refused refusal) parts typed may
           (ap (λ (x : End). x.own) (refused_after e act refusal))),
@@ -91,19 +95,20 @@ own_kept e act other =
     (λ values is. let wrong : changes_settings act ≡ true = ap changes_settings is in cc)
 
 -- A call that is accepted, with the machine's answer where the log has the same.
-pub accepted_with : (values : Values) (cutter : CutterState) (e new : End) (log : Log) (act : Act)
-    (answer : Answer) → changes_settings act ≡ false → PartsRepresent values cutter e log
+pub accepted_with : {counts : Counts} (values : Values) (cutter : CutterState) (e new : End)
+    (log : Log) (act : Act)
+    (answer : Answer) → changes_settings act ≡ false → PartsRepresent values cutter counts e log
     → IsTypedAct act → answer ≡ answer_of (end_view e) act
     → answer_of (end_view e) act ≡ answer_of (log_view log) act
     → refusal_of (end_view e) act ≡ None → new ≡ after_call e act
-    → MayAnswer log act answer × PartsRepresent values cutter new (with_call log act answer)
-accepted_with values cutter e new log act answer keeps parts typed is alike free after =
+    → MayAnswer log act answer × PartsRepresent values cutter counts new (with_call log act answer)
+accepted_with {counts} values cutter e new log act answer keeps parts typed is alike free after =
     let may : MayAnswer log act answer =
     accepts (sym (refusal_same values e log act parts.machine) ∙ free) (is ∙ alike) in
     let called : end_after e act answer ≡ after_call e act =
     ap (λ (x : Answer). end_after e act x) is ∙ accepted_after e act in (
       may,
-      subst (λ (x : End). PartsRepresent values cutter x (with_call log act answer))
+      subst (λ (x : End). PartsRepresent values cutter counts x (with_call log act answer))
           (called ∙ sym after)
           (parts_called values cutter e log act answer parts typed may
           (ap (λ (x : End). x.own) called ∙ own_kept e act keeps)),
@@ -137,63 +142,67 @@ lacks_alike values e log act represents up =
 
 -- A call that is refused, and doesn't put output out, for memory only where the machine may lack
 -- it.
-pub refused_answers : (cutter : CutterState) (e new : End) (act : Act) (refusal : Refusal)
+pub refused_answers : {counts : Counts} (cutter : CutterState) (e new : End) (act : Act)
+    (refusal : Refusal)
     → puts_out act ≡ false → IsTypedAct act
     → (refusal ≡ Memory → may_lack_memory (end_view e) act ≡ true)
-    → CallRefused e act refusal new → PartsAnswer cutter e act (Refused refusal) new
+    → CallRefused e act refusal new → PartsAnswer cutter counts e act (Refused refusal) new
 refused_answers cutter e new act refusal other typed lacking refused values log parts =
     refused_at values cutter e new log act refusal parts typed
     (λ memory free. sym (lacks_alike values e log act parts.machine (up_if_free e act other free))
     ∙ lacking memory) refused
 
 -- A call that is accepted, and doesn't put output out or change settings.
-pub accepted_answers : (cutter : CutterState) (e new : End) (act : Act) (answer : Answer)
+pub accepted_answers : {counts : Counts} (cutter : CutterState) (e new : End) (act : Act)
+    (answer : Answer)
     → puts_out act ≡ false → changes_settings act ≡ false → IsTypedAct act
     → answer ≡ answer_of (end_view e) act → CallAccepted e act new
-    → PartsAnswer cutter e act answer new
+    → PartsAnswer cutter counts e act answer new
 accepted_answers cutter e new act answer other keeps typed is accepted values log parts =
     accepted_with values cutter e new log act answer keeps parts typed is
     (answer_alike values e log act parts.machine (up_if_free e act other accepted.free))
     accepted.free accepted.after
 
 -- A call's answer by its result, where its value is the machine's answer.
-pub answers_by : {A : Type 0} (answered : A → Answer) (result : Result A Refusal)
+pub answers_by : {counts : Counts} {A : Type 0} (answered : A → Answer) (result : Result A Refusal)
     (cutter : CutterState) (e new : End) (act : Act) → puts_out act ≡ false
     → changes_settings act ≡ false → IsTypedAct act
     → (result ≡ Err Memory → may_lack_memory (end_view e) act ≡ true)
     → IfOk result (λ value. (answered value ≡ answer_of (end_view e) act)
     × CallAccepted e act new)
     → IfErr result (λ refusal. CallRefused e act refusal new)
-    → PartsAnswer cutter e act (answer_by answered result) new
+    → PartsAnswer cutter counts e act (answer_by answered result) new
 answers_by answered (Ok value) cutter e new act other keeps typed lacking ok err =
     accepted_answers cutter e new act (answered value) other keeps typed ok.0 ok.1
 answers_by answered (Err refusal) cutter e new act other keeps typed lacking ok err =
     refused_answers cutter e new act refusal other typed (λ memory. lacking (ap Err memory)) err
 
 -- The same of calls whose answer is that they are done.
-pub done_by : {A : Type 0} (answer : Answer) (result : Result A Refusal)
+pub done_by : {counts : Counts} {A : Type 0} (answer : Answer) (result : Result A Refusal)
     (cutter : CutterState) (e new : End) (act : Act) → puts_out act ≡ false
     → changes_settings act ≡ false → IsTypedAct act
     → (result ≡ Err Memory → may_lack_memory (end_view e) act ≡ true)
     → answer ≡ answer_of (end_view e) act
     → OnOk result (CallAccepted e act new)
     → IfErr result (λ refusal. CallRefused e act refusal new)
-    → PartsAnswer cutter e act (answer_by (λ done. answer) result) new
+    → PartsAnswer cutter counts e act (answer_by (λ done. answer) result) new
 done_by answer (Ok value) cutter e new act other keeps typed lacking is ok err =
     accepted_answers cutter e new act answer other keeps typed is ok
 done_by answer (Err refusal) cutter e new act other keeps typed lacking is ok err =
     refused_answers cutter e new act refusal other typed (λ memory. lacking (ap Err memory)) err
 
 -- A change of settings that is accepted, once the cutter has the limit that is in force.
-pub change_answers : (cutter limited : CutterState) (e new : End) (changed : Values)
+pub change_answers : {counts : Counts} (cutter limited : CutterState) (e new : End)
+    (changed : Values)
     → AreInRange changed → CallAccepted e (ChangeSettings changed) new
     → CutterLimited cutter (payload_limit_of new.own) limited
     → payload_limit_of new.own ≤ most_max_frame → (values : Values) (log : Log)
-    → PartsRepresent values cutter e log
+    → PartsRepresent values cutter counts e log
     → MayAnswer log (ChangeSettings changed) Done
-    × PartsRepresent values limited new (with_call log (ChangeSettings changed) Done)
+    × PartsRepresent values limited counts new (with_call log (ChangeSettings changed) Done)
 unfolding IsTypedAct
-change_answers cutter limited e new changed in_range accepted set within values log parts =
+change_answers {counts} cutter limited e new changed in_range accepted set within values log
+    parts =
     let act : Act = ChangeSettings changed in
     let next : Log = with_call log act Done in
     let may : MayAnswer log act Done =
@@ -208,19 +217,24 @@ change_answers cutter limited e new changed in_range accepted set within values 
           (λ up. has_cut_kept values cutter e log next parts keeps up)
           (parts.place
           ∙ sym (ap (λ (input : List ℕ). saturated (length input)) keeps.input)) set
-          (λ up. within),
+          (λ up. within)
+          (subst (λ (frames : List Frame). CountsFrames counts frames) (sym keeps.frames)
+          parts.counted),
     )
 
 -- A call that is refused for the first condition that holds, such as that the connection has
 -- failed.
-pub condition_answers : (cutter : CutterState) (e : End) (act : Act) (refusal : Refusal)
+pub condition_answers : {counts : Counts} (cutter : CutterState) (e : End) (act : Act)
+    (refusal : Refusal)
     → IsTypedAct act → refusal_of (end_view e) act ≡ Some refusal
-    → PartsAnswer cutter e act (Refused refusal) e
-condition_answers cutter e act refusal typed why values log parts =
+    → PartsAnswer cutter counts e act (Refused refusal) e
+condition_answers {counts} cutter e act refusal typed why values log parts =
     let may : MayAnswer log act (Refused refusal) =
     refuses refusal (sym (refusal_same values e log act parts.machine) ∙ why) refl in (
       may,
-      subst (λ (x : End). PartsRepresent values cutter x (with_call log act (Refused refusal)))
+      subst
+          (λ (x : End). PartsRepresent values cutter counts x
+          (with_call log act (Refused refusal)))
           (refused_after e act refusal)
           (parts_called values cutter e log act (Refused refusal) parts typed may
           (ap (λ (x : End). x.own) (refused_after e act refusal))),

@@ -4,7 +4,7 @@ use Rattle.h2_conn.proofs.Names.{◌≡◌, ℕ, nat_le, if◌then◌else◌, Li
 use Rattle.h2_conn.proofs.Names.{Frame, CutterState, CutterRepresents, saturated, Limits, Role}
 use Rattle.h2_conn.proofs.Names.{Values, is_server, payload_limit, Log, acked, limits_from, Keeps}
 use Rattle.h2_conn.proofs.Names.{End, payload_limit_of, Represents, limit_agrees, PartsRepresent}
-use Rattle.h2_conn.proofs.Names.{rules}
+use Rattle.h2_conn.proofs.Names.{rules, Counts}
 
 -- With the same own settings the same limit is in force.
 same_limit : (values : Values) (e other : End) (log next : Log) → Represents values e log
@@ -34,9 +34,10 @@ cuts_same cutter one two limits others input after frames more role limit came c
     rw (role, limit, came, cut) represents
 
 -- A step that keeps the stream of octets, and the cutter with it.
-pub parts_kept : (values : Values) (cutter : CutterState) (e other : End) (log next : Log)
-    → PartsRepresent values cutter e log → Keeps log next → other.own ≡ e.own
-    → Represents values other next → PartsRepresent values cutter other next
+pub parts_kept : {counts : Counts} (values : Values) (cutter : CutterState) (e other : End)
+    (log next : Log)
+    → PartsRepresent values cutter counts e log → Keeps log next → other.own ≡ e.own
+    → Represents values other next → PartsRepresent values cutter counts other next
 parts_kept values cutter e other log next parts keeps own machine =
     record {
       machine = machine;
@@ -48,4 +49,5 @@ parts_kept values cutter e other log next parts keeps own machine =
       unparsed = λ up. parts.unparsed (keeps.up up) ∙ sym keeps.unparsed;
       greatest = λ up. parts.greatest (keeps.up up);
       place = parts.place ∙ sym (ap (λ (input : List ℕ). saturated (length input)) keeps.input);
+      counted = rw keeps.frames parts.counted;
     }

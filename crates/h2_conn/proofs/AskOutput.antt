@@ -3,7 +3,7 @@ use Rattle.h2_conn.proofs.Names.{◌≡◌, ℕ, suc, ◌+◌, ◌++◌, min, na
 use Rattle.h2_conn.proofs.Names.{length, take, drop, Option, Some, None, Result, Ok, Err, inr, IfOk}
 use Rattle.h2_conn.proofs.Names.{refl, sym, ap, ◌∙◌, arith, Code, CutterState, Refusal, Memory}
 use Rattle.h2_conn.proofs.Names.{Values, PutOut, Count, returns_before_put_out, Log, log_view, End}
-use Rattle.h2_conn.proofs.Names.{end_view, Represents, waiting_alike, Consumes, answer_by}
+use Rattle.h2_conn.proofs.Names.{end_view, Represents, waiting_alike, Consumes, answer_by, Counts}
 use Rattle.h2_conn.proofs.Names.{never_refused, may_lack_memory, with_call, IsTypedAct, after_call}
 use Rattle.h2_conn.proofs.Names.{before_put_out_at, return_credit, if◌then◌else◌, not, rules}
 use Rattle.h2_core.specs.Readers.{PutsOut}
@@ -93,12 +93,13 @@ put_out_lacks_alike values e log count represents =
     (waiting_alike values e log represents)
 
 -- The call's answer.
-pub put_out_answers : (result : Result ℕ Refusal) (cutter : CutterState) (e new : End) (count : ℕ)
+pub put_out_answers : {counts : Counts} (result : Result ℕ Refusal) (cutter : CutterState)
+    (e new : End) (count : ℕ)
     → IsTypedAct (PutOut count)
     → (result ≡ Err Memory → may_lack_memory (end_view e) (PutOut count) ≡ true)
     → IfOk result (λ given. Consumes e count given new)
     → IfErr result (λ refusal. (refusal ≡ Memory) × (new ≡ e))
-    → PartsAnswer cutter e (PutOut count) (answer_by (λ given. Count given) result) new
+    → PartsAnswer cutter counts e (PutOut count) (answer_by (λ given. Count given) result) new
 put_out_answers (Ok given) cutter e new count typed lacking ok err values log parts =
     accepted_with values cutter e new log (PutOut count) (Count given) refl parts typed ok.answer
     (put_out_alike values e log count parts.machine) (never_refused e count) ok.machine
@@ -110,11 +111,12 @@ put_out_answers (Err refusal) cutter e new count typed lacking ok (memory, same)
     (record { why = inr (memory, never_refused e count); same = same })
 
 -- Where 0 octets are to be consumed, the answer is that of putting out 0;
-pub ready_consumes : (result : Result ℕ Refusal) (cutter : CutterState) (e new : End)
+pub ready_consumes : {counts : Counts} (result : Result ℕ Refusal) (cutter : CutterState)
+    (e new : End)
     → (returns_before_put_out (end_view e) ≡ false → IsOk result)
     → IfOk result (λ given. Consumes e 0 given new)
     → IfErr result (λ refusal. (refusal ≡ Memory) × (new ≡ e))
-    → PartsAnswer cutter e (PutOut 0) (answer_by (λ given. Count given) result) new
+    → PartsAnswer cutter counts e (PutOut 0) (answer_by (λ given. Count given) result) new
 unfolding IsTypedAct may_lack_memory
 ready_consumes result cutter e new nothing ok err =
     put_out_answers result cutter e new 0 (omega arith)
@@ -122,10 +124,11 @@ ready_consumes result cutter e new nothing ok err =
     (λ none few. nothing none)) ok err
 
 -- none are consumed;
-pub ready_answers : (result : Result ℕ Refusal) (given : ℕ) (cutter : CutterState) (e new : End)
+pub ready_answers : {counts : Counts} (result : Result ℕ Refusal) (given : ℕ)
+    (cutter : CutterState) (e new : End)
     → result ≡ Ok given → IfOk result (λ given. Consumes e 0 given new)
-    → PartsAnswer cutter e (PutOut 0) (answer_by (λ given. Count given) result) new
-    → PartsAnswer cutter e (PutOut 0) (Count 0) new
+    → PartsAnswer cutter counts e (PutOut 0) (answer_by (λ given. Count given) result) new
+    → PartsAnswer cutter counts e (PutOut 0) (Count 0) new
 ready_answers (Ok given) other cutter e new is ok answers = search rules
 ready_answers (Err refusal) other cutter e new is ok answers = cc
 

@@ -4,6 +4,7 @@ pub mod AskLimits
 mod SetLimits
 -- The parts of a connection after calls.
 pub mod AskCalls
+mod CountsFlow
 pub mod AskSound
 pub mod AskOutput
 pub mod AskRefusing

@@ -1,8 +1,10 @@
 -- The names of std and of the crates below that several proofs cite, passed on from one place.
 pub use Rattle.h2_block.specs.Grouping.{alone, block, Item}
 pub use Rattle.h2_conn.specs.Conn.{answer_by}
+pub use Rattle.h2_conn.specs.Counts.{CountsFrames}
 pub use Rattle.h2_conn.specs.Events.{happened_value, LocatedEvent}
 pub use Rattle.h2_conn.specs.Inner.{PartsRepresent}
+pub use Rattle.h2_conn.specs.declared.counts.Counts.{Counts}
 pub use Rattle.h2_core.specs.Calls.{CallAccepted, CallRefused, CallRefuses}
 pub use Rattle.h2_core.specs.Endpoint.{end_of, IsSoundEnd}
 pub use Rattle.h2_core.specs.Events.{FrameEvent}

@@ -4,7 +4,7 @@ use Rattle.h2_conn.proofs.Names.{length, None, refl, sym, ap, ◌∙◌, arith, 
 use Rattle.h2_conn.proofs.Names.{CutterRepresents, CutterLimited, saturated, body_at, Limits}
 use Rattle.h2_conn.proofs.Names.{Complete, Values, most_max_frame, is_server, payload_limit, Log}
 use Rattle.h2_conn.proofs.Names.{acked, limits_from, Keeps, End, payload_limit_of, Represents}
-use Rattle.h2_conn.proofs.Names.{limit_agrees, PartsRepresent, rules}
+use Rattle.h2_conn.proofs.Names.{limit_agrees, PartsRepresent, rules, Counts, CountsFrames}
 use Rattle.h2_conn.proofs.AskLimits.{cuts_same}
 
 -- A cutter that has cut the octets of a log, whatever limit it has for those to come.
@@ -31,13 +31,15 @@ limits_set : (log : Log) (limits : Limits) (limit : ℕ)
 limits_set log limits limit same set = search rules
 
 -- Such a cutter, whose limit is set, and the machine are the parts of a connection.
-pub parts_limited : (values : Values) (cutter limited : CutterState) (e : End) (log : Log)
+pub parts_limited : {counts : Counts} (values : Values) (cutter limited : CutterState) (e : End)
+    (log : Log)
     → Represents values e log → (log.failed ≡ None → HasCut cutter log)
     → cutter.place ≡ saturated (length log.input)
     → CutterLimited cutter (payload_limit_of e.own) limited
     → (log.failed ≡ None → payload_limit_of e.own ≤ most_max_frame)
-    → PartsRepresent values limited e log
-parts_limited values cutter limited e log machine has place set within =
+    → CountsFrames counts log.frames
+    → PartsRepresent values limited counts e log
+parts_limited values cutter limited e log machine has place set within counts_are =
     record {
       machine = machine;
       cut = λ up.
@@ -56,6 +58,7 @@ parts_limited values cutter limited e log machine has place set within =
             within up,
           );
       place = ap (λ (state : CutterState). state.place) set.same ∙ place;
+      counted = counts_are;
     }
 
 -- The limits of octets that were used are those of the log.
@@ -64,8 +67,9 @@ limit_of_used : (log : Log) (place : ℕ) → nat_le place (length log.input) �
 limit_of_used log place used = rw used refl
 
 -- After a step that keeps the stream of octets the cutter has cut it.
-pub has_cut_kept : (values : Values) (cutter : CutterState) (e : End) (log next : Log)
-    → PartsRepresent values cutter e log → Keeps log next → next.failed ≡ None
+pub has_cut_kept : {counts : Counts} (values : Values) (cutter : CutterState) (e : End)
+    (log next : Log)
+    → PartsRepresent values cutter counts e log → Keeps log next → next.failed ≡ None
     → HasCut cutter next
 has_cut_kept values cutter e log next parts keeps going = search rules
 

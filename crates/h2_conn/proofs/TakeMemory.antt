@@ -5,7 +5,7 @@ use Rattle.h2_conn.proofs.Names.{Frame, alone, block, WireFault, CutterState, Va
 use Rattle.h2_conn.proofs.Names.{fails_with, begins_block, completes, frame_step, verdict_of, Log}
 use Rattle.h2_conn.proofs.Names.{acked, limits_from, log_view, payload_limit, Verdict, View, End}
 use Rattle.h2_conn.proofs.Names.{end_view, with_begun, Represents, step_alike, views_alike}
-use Rattle.h2_conn.proofs.Names.{PartsRepresent, rules}
+use Rattle.h2_conn.proofs.Names.{PartsRepresent, rules, Counts}
 use Rattle.h2_wire.specs.declared.cut.Advance.{Advance}
 use Rattle.h2_wire.specs.Streams.{GoesPastPreface}
 use Rattle.h2_wire.specs.Cutter.{FaultsAtHead, BeginsWithFrame}
@@ -42,13 +42,13 @@ limit_now : (log : Log)
 limit_now log = rw not_above refl
 
 -- The cutter is the log's.
-limit_same : (values : Values) (cutter : CutterState) (e : End) (log : Log)
-    → PartsRepresent values cutter e log → log.failed ≡ None
+limit_same : {counts : Counts} (values : Values) (cutter : CutterState) (e : End) (log : Log)
+    → PartsRepresent values cutter counts e log → log.failed ≡ None
     → cutter.limit ≡ (cutter_of log).limit
 limit_same values cutter e log p up = search rules
 
-pub keeps_octets : (values : Values) (cutter : CutterState) (e : End) (log : Log)
-    (piece : List ℕ) → PartsRepresent values cutter e log → log.failed ≡ None
+pub keeps_octets : {counts : Counts} (values : Values) (cutter : CutterState) (e : End) (log : Log)
+    (piece : List ℕ) → PartsRepresent values cutter counts e log → log.failed ≡ None
     → CutterLacks cutter piece → KeepsOctets log piece
 keeps_octets values cutter e log piece p up lacks =
     let limit : cutter.limit ≡ (cutter_of log).limit = limit_same values cutter e log p up in

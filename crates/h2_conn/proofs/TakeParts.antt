@@ -1,5 +1,6 @@
 -- Taking octets, on the parts of a connection: it is a step of each log that they represent.
-use Rattle.h2_conn.proofs.Names.{◌≡◌, ◌≢◌, ℕ, ◌≤◌, true, List, [], ◌∷◌, ◌++◌, length, take, drop}
+use Rattle.h2_conn.proofs.Names.{◌≡◌, ◌≢◌, ℕ, ◌≤◌, true, false, List, [], ◌∷◌, ◌++◌, length}
+use Rattle.h2_conn.proofs.Names.{take, drop}
 use Rattle.h2_conn.proofs.Names.{Option, inl, inr, Some, None, refl, ap, sym, subst, ◌∙◌}
 use Rattle.h2_conn.proofs.Names.{take-append-drop, length-take-le, take-length, option_map, Field}
 use Rattle.h2_conn.proofs.Names.{Code, InternalError, Frame, WireFault, wire_fault_code, Limits}
@@ -9,7 +10,7 @@ use Rattle.h2_conn.proofs.Names.{limits_from, took_frame, log_view, credit_needs
 use Rattle.h2_conn.proofs.Names.{IsDecodedFor, End, end_view, payload_limit_of, after_frame, fail}
 use Rattle.h2_conn.proofs.Names.{close_unprocessed, unprocessed_of_end, Represents, views_alike}
 use Rattle.h2_conn.proofs.Names.{Failed, FailsWithoutMemory, LocatedEvent, happened_value}
-use Rattle.h2_conn.proofs.Names.{PartsRepresent, used, with_sent, rules}
+use Rattle.h2_conn.proofs.Names.{PartsRepresent, used, with_sent, rules, Counts, CountsFrames}
 use Rattle.h2_spec_log.specs.LogSteps.{took_part, took_fault, took_none, took_out_of_memory}
 use Rattle.std.proofs.Common.{◌⊎◌, append-nil}
 use Rattle.std.specs.Option.{MatchOption}
@@ -29,6 +30,7 @@ use Rattle.h2_laws_machine.proofs.ReadLimits.{own_of_unprocessed}
 use Rattle.h2_laws_end.specs.Takes.{TakeAnswer, Took, events_answered, MayTake, has_failed}
 use Rattle.h2_laws_end.specs.Takes.{reports_unprocessed, ends_no_frame, ends_frame, meets_fault}
 use Rattle.h2_laws_end.specs.Takes.{runs_out_of_memory}
+use Rattle.h2_laws_end.proofs.NotInternal.{frame_up}
 use Rattle.h2_laws_end.proofs.PieceLogs.{limits_used}
 use Rattle.h2_core.specs.Failure.{FailsAlike}
 use Rattle.h2_core.specs.Frames.{FrameFails, FrameLacksMemory}
@@ -39,11 +41,13 @@ use Rattle.h2_conn.proofs.TakeFrames.{happened_events, FrameHappens}
 use Rattle.h2_conn.proofs.TakeMemory.{CutterLacks, keeps_octets, frame_needs}
 use Rattle.h2_conn.proofs.TakeReports.{frame_reported, decoded_for}
 use Rattle.h2_wire.specs.declared.fault.WireFault.TheVariants as faults
+use denote.Enum.Bare.{sameb}
+use Rattle.h2_frame.specs.contracts.code.Code.{the_type}
 
 -- A call of `take` may have this answer, and the parts represent the log with it.
-abbrev pub Takes : Values → Log → List ℕ → TakeAnswer → CutterState → End → Type 0
-Takes values log piece answer cutter e =
-    (after : Log) × MayTake log piece answer after × PartsRepresent values cutter e after
+abbrev pub Takes : Values → Log → List ℕ → TakeAnswer → CutterState → Counts → End → Type 0
+Takes values log piece answer cutter counts e =
+    (after : Log) × MayTake log piece answer after × PartsRepresent values cutter counts e after
 
 -- An end that has failed as another has represents what that one does.
 represents_alike : (values : Values) (e other : End) (log : Log) → Represents values e log
@@ -72,13 +76,17 @@ fault_input log octets fault = refl
 
 module _ (values : Values) where
   -- Of a connection that has failed only the machine and the place count.
-  pub failed_parts : (cutter : CutterState) (e : End) (log : Log) → Represents values e log
-      → e.failed ≢ None → IsAtEnd cutter log → PartsRepresent values cutter e log
-  failed_parts cutter e log s down at_end = search rules
+  pub failed_parts : {counts : Counts} (cutter : CutterState) (e : End) (log : Log)
+      → Represents values e log
+      → e.failed ≢ None → IsAtEnd cutter log → CountsFrames counts log.frames
+      → PartsRepresent values cutter counts e log
+  failed_parts cutter e log s down at_end counts_are = search rules
 
-  alike_parts : (cutter : CutterState) (e other : End) (log : Log) → Represents values e log
-      → FailsAlike e other → IsAtEnd cutter log → PartsRepresent values cutter other log
-  alike_parts cutter e other log s alike at_end = search rules
+  alike_parts : {counts : Counts} (cutter : CutterState) (e other : End) (log : Log)
+      → Represents values e log
+      → FailsAlike e other → IsAtEnd cutter log → CountsFrames counts log.frames
+      → PartsRepresent values cutter counts other log
+  alike_parts cutter e other log s alike at_end counts_are = search rules
 
   -- An end takes octets where it is up and has reported all unprocessed streams.
   pub takes_octets : (e : End) (log : Log) → Represents values e log → e.failed ≡ None
@@ -88,10 +96,11 @@ module _ (values : Values) where
       record { up = log_up; all_reported = sym (next_same values e log s log_up) ∙ reported }
 
   -- Octets that end no frame.
-  pub no_frame_taken : (cutter new : CutterState) (e : End) (log : Log) (piece : List ℕ) (count : ℕ)
-      → PartsRepresent values cutter e log → TakesOctets log → e.failed ≡ None
+  pub no_frame_taken : {counts : Counts} (cutter new : CutterState) (e : End) (log : Log)
+      (piece : List ℕ) (count : ℕ)
+      → PartsRepresent values cutter counts e log → TakesOctets log → e.failed ≡ None
       → count ≡ length piece → CutterContinues cutter (take count piece) [] new
-      → Takes values log piece (Took count None) new e
+      → Takes values log piece (Took count None) new counts e
   unfolding MayStep log_after machine_after used
   no_frame_taken cutter new e log piece count p takes up all continues =
       let all_of : take count piece ≡ piece =
@@ -115,6 +124,7 @@ module _ (values : Values) where
           unparsed = λ going. refl;
           greatest = λ going. rw continues.same_greatest (p.greatest takes.up);
           place = now.place;
+          counted = p.counted;
         },
       )
 
@@ -127,7 +137,7 @@ pub record IsCut (cutter new : CutterState) (piece : List ℕ) (count : ℕ) (fr
 
 module _ (values : Values) (cutter new : CutterState) (e : End) (log : Log) (piece : List ℕ)
     (count : ℕ) (frame : Frame) where
-  cut_now : PartsRepresent values cutter e log → log.failed ≡ None
+  cut_now : {counts : Counts} → PartsRepresent values cutter counts e log → log.failed ≡ None
       → IsCut cutter new piece count frame
       → CutterRepresents new (is_server log.role) (limits_from log) (log.input ++ take count piece)
       (log.frames ++ frame ∷ [])
@@ -136,14 +146,15 @@ module _ (values : Values) (cutter new : CutterState) (e : End) (log : Log) (pie
       (p.cut up)
 
   -- The cutter's place then.
-  cut_end : (decoded : Option Decoded) → PartsRepresent values cutter e log → log.failed ≡ None
+  cut_end : {counts : Counts} (decoded : Option Decoded)
+      → PartsRepresent values cutter counts e log → log.failed ≡ None
       → IsCut cutter new piece count frame
       → IsAtEnd new (took_frame log (take count piece) decoded frame)
   unfolding used
   cut_end decoded p up cut = end_kept new.place (log.input ++ take count piece) _
       (Keeps-frame (used log (take count piece) []) decoded frame).input (cut_now p up cut).place
 
-  read_of : PartsRepresent values cutter e log → log.failed ≡ None
+  read_of : {counts : Counts} → PartsRepresent values cutter counts e log → log.failed ≡ None
       → IsCut cutter new piece count frame → TakesFrame log.role log (take count piece) frame
   read_of p up cut = search rules
 
@@ -155,9 +166,10 @@ answered list octets None = refl
 answered list octets (Some happened) = refl
 
 -- After a frame that the connection outlives the cutter has cut the octets of the log.
-has_cut_frame : (values : Values) (cutter new : CutterState) (e : End) (log : Log)
+has_cut_frame : {counts : Counts} (values : Values) (cutter new : CutterState) (e : End)
+    (log : Log)
     (piece : List ℕ) (count : ℕ) (frame : Frame) (decoded : Option Decoded)
-    → PartsRepresent values cutter e log → log.failed ≡ None
+    → PartsRepresent values cutter counts e log → log.failed ≡ None
     → IsCut cutter new piece count frame
     → HasCut new (took_frame log (take count piece) decoded frame)
 unfolding used
@@ -175,18 +187,33 @@ has_cut_frame values cutter new e log piece count frame decoded p up cut =
       greatest = rw cut.continues.same_greatest (p.greatest up);
     }
 
+-- Counts that have counted some frames count one more.
+abbrev pub CountsOneMore : Counts → Frame → Counts → Type 0
+CountsOneMore counts frame more =
+    (frames : List Frame) → CountsFrames counts frames → CountsFrames more (frames ++ frame ∷ [])
+
+-- So they count a frame that was taken.
+counts_frame : {counts more : Counts} (log : Log) (octets : List ℕ) (decoded : Option Decoded)
+    (frame : Frame) → CountsFrames counts log.frames → CountsOneMore counts frame more
+    → CountsFrames more (took_frame log octets decoded frame).frames
+unfolding used
+counts_frame {more = more} log octets decoded frame were counts_it =
+    subst (λ (frames : List Frame). CountsFrames more frames)
+    (sym (Keeps-frame (used log octets []) decoded frame).frames) (counts_it log.frames were)
+
 -- A frame that the connection outlives, after which the cutter is given the limit in force.
-pub frame_taken : (values : Values) (cutter new limited : CutterState) (e other : End) (log : Log)
+pub frame_taken : {counts more : Counts} (values : Values) (cutter new limited : CutterState)
+    (e other : End) (log : Log)
     (piece : List ℕ) (count : ℕ) (frame : Frame) (list : List Field) (octets : List ℕ)
-    (happened : Option LocatedEvent) → PartsRepresent values cutter e log → TakesOctets log
+    (happened : Option LocatedEvent) → PartsRepresent values cutter counts e log → TakesOctets log
     → e.failed ≡ None → IsCut cutter new piece count frame
     → FrameHappens e frame list octets happened other
     → CutterLimited new (payload_limit_of other.own) limited
-    → payload_limit_of other.own ≤ most_max_frame
+    → payload_limit_of other.own ≤ most_max_frame → CountsOneMore counts frame more
     → Takes values log piece (Took count (option_map (happened_value list octets) happened)) limited
-    other
+    more other
 frame_taken values cutter new limited e other log piece count frame list octets happened p takes up
-    cut h set within =
+    cut h set within counts_it =
     let taken : List ℕ = take count piece in
     let read = read_of values cutter new e log piece count frame p takes.up cut in
     let sees : IsDecodedFor log h.decoded frame =
@@ -207,36 +234,45 @@ frame_taken values cutter new limited e other log piece count frame list octets 
       parts_limited values new limited other after machine
           (λ going. has_cut_frame values cutter new e log piece count frame h.decoded p takes.up
           cut) (cut_end values cutter new e log piece count frame h.decoded p takes.up cut) set
-          (λ going. within),
+          (λ going. within) (counts_frame log taken h.decoded frame p.counted counts_it),
     )
 
 module _ (values : Values) (cutter new : CutterState) (e other : End) (log : Log)
     (piece : List ℕ) where
   -- A frame with which the connection fails.
-  pub frame_fails : (count : ℕ) (frame : Frame) (code : Code) → PartsRepresent values cutter e log
+  pub frame_fails : {counts more : Counts} (count : ℕ) (frame : Frame) (code : Code)
+      → PartsRepresent values cutter counts e log
       → TakesOctets log → e.failed ≡ None → IsCut cutter new piece count frame
-      → FrameFails e frame code other → Takes values log piece (Failed code) new other
-  frame_fails count frame code p takes up cut h =
+      → FrameFails e frame code other → CountsOneMore counts frame more
+      → (code ≢ InternalError) × Takes values log piece (Failed code) new more other
+  frame_fails count frame code p takes up cut h counts_it =
       let taken : List ℕ = take count piece in
       let read = read_of values cutter new e log piece count frame p takes.up cut in
       let sees : IsDecodedFor log h.decoded frame =
       decoded_for values e log h.decoded frame p.machine up h.says in
       let after : Log = took_frame log taken h.decoded frame in
       let machine : Represents values (after_frame e h.decoded frame) after =
-      frames_represent values e log taken frame h.decoded p.machine takes read sees in (
-        after,
-        ends_frame takes taken (drop count piece) (sym (take-append-drop count piece)) frame
-            h.decoded read sees refl (sym machine.failed ∙ h.fails),
-        alike_parts values new (after_frame e h.decoded frame) other after machine h.after
-            (cut_end values cutter new e log piece count frame h.decoded p takes.up cut),
+      frames_represent values e log taken frame h.decoded p.machine takes read sees in
+      let fails : after.failed ≡ Some code = sym machine.failed ∙ h.fails in (
+        λ internal. frame_up log taken h.decoded frame takes.up
+            (fails ∙ ap (λ (c : Code). Some c) internal),
+        (
+          after,
+          ends_frame takes taken (drop count piece) (sym (take-append-drop count piece)) frame
+              h.decoded read sees refl fails,
+          alike_parts values new (after_frame e h.decoded frame) other after machine h.after
+              (cut_end values cutter new e log piece count frame h.decoded p takes.up cut)
+              (counts_frame log taken h.decoded frame p.counted counts_it),
+        ),
       )
 
   -- Memory was refused with these octets.
-  pub memory_refused : (octets unused : List ℕ) (code : Code) → PartsRepresent values cutter e log
+  pub memory_refused : {counts : Counts} (octets unused : List ℕ) (code : Code)
+      → PartsRepresent values cutter counts e log
       → log.failed ≡ None → piece ≡ octets ++ unused → LacksMemory log.role log octets unused
       → new.place ≡ saturated (length (log.input ++ octets)) → FailsWithoutMemory e code other
-      → Takes values log piece (Failed code) new other
-  unfolding MayStep log_after machine_after
+      → Takes values log piece (Failed code) new counts other
+  unfolding MayStep log_after machine_after used with_sent
   memory_refused octets unused code p up joined may place h =
       let after : Log = took_out_of_memory log octets in
       let machine : Represents values (fail InternalError e.streams.last_processed e) after =
@@ -244,13 +280,15 @@ module _ (values : Values) (cutter new : CutterState) (e other : End) (log : Log
         after,
         runs_out_of_memory up octets unused joined may (ap Failed h.lacks) refl,
         alike_parts values new (fail InternalError e.streams.last_processed e) other after machine
-            h.after (end_kept new.place (log.input ++ octets) _ (lacking_input log octets) place),
+            h.after (end_kept new.place (log.input ++ octets) _ (lacking_input log octets) place)
+            p.counted,
       )
 
   -- Memory was refused with a frame.
-  pub frame_lacks : (count : ℕ) (frame : Frame) (code : Code) → PartsRepresent values cutter e log
+  pub frame_lacks : {counts : Counts} (count : ℕ) (frame : Frame) (code : Code)
+      → PartsRepresent values cutter counts e log
       → TakesOctets log → e.failed ≡ None → IsCut cutter new piece count frame
-      → FrameLacksMemory e frame code other → Takes values log piece (Failed code) new other
+      → FrameLacksMemory e frame code other → Takes values log piece (Failed code) new counts other
   frame_lacks count frame code p takes up cut lacks =
       memory_refused (take count piece) (drop count piece) code p
       takes.up (sym (take-append-drop count piece))
@@ -258,22 +296,27 @@ module _ (values : Values) (cutter new : CutterState) (e other : End) (log : Log
       (frame_needs values e log frame p.machine up lacks.needs))
       (cut_now values cutter new e log piece count frame p takes.up cut).place lacks.fails
 
-  -- Either of them.
-  pub frame_stops : (count : ℕ) (frame : Frame) (code : Code) → PartsRepresent values cutter e log
+  -- Either of them; the frame is counted where memory was not refused to it.
+  pub frame_stops : {counts more after : Counts} (count : ℕ) (frame : Frame) (code : Code)
+      → PartsRepresent values cutter counts e log
       → TakesOctets log → e.failed ≡ None → IsCut cutter new piece count frame
       → FrameFails e frame code other ⊎ FrameLacksMemory e frame code other
-      → Takes values log piece (Failed code) new other
-  frame_stops count frame code p takes up cut (inl fails) =
-      frame_fails count frame code p takes up cut fails
-  frame_stops count frame code p takes up cut (inr lacks) =
-      frame_lacks count frame code p takes up cut lacks
+      → CountsOneMore counts frame more → (code ≢ InternalError → after ≡ more)
+      → (code ≡ InternalError → after ≡ counts)
+      → Takes values log piece (Failed code) new after other
+  frame_stops count frame code p takes up cut (inl fails) counts_it counted_it kept =
+      let made = frame_fails count frame code p takes up cut fails counts_it in
+      rw (counted_it made.0) made.1
+  frame_stops count frame code p takes up cut (inr lacks) counts_it counted_it kept =
+      rw (kept lacks.fails.lacks) (frame_lacks count frame code p takes up cut lacks)
 
   -- A fault of the stream.
-  pub fault_taken : (fault : WireFault) → PartsRepresent values cutter e log → TakesOctets log
+  pub fault_taken : {counts : Counts} (fault : WireFault)
+      → PartsRepresent values cutter counts e log → TakesOctets log
       → CutterFaults cutter piece fault new
       → other ≡ fail (wire_fault_code fault) e.streams.last_processed e
-      → Takes values log piece (Failed (wire_fault_code fault)) new other
-  unfolding MayStep log_after machine_after
+      → Takes values log piece (Failed (wire_fault_code fault)) new counts other
+  unfolding MayStep log_after machine_after used with_sent
   fault_taken fault p takes met failed =
       let cut = p.cut takes.up in
       let at = met.at (is_server log.role) (limits_from log) log.input log.frames cut in
@@ -289,8 +332,19 @@ module _ (values : Values) (cutter new : CutterState) (e other : End) (log : Log
         meets_fault takes made.0 made.1 made.2 fault made.3 refl refl,
         failed_parts values new other after machine down
             (end_kept new.place (log.input ++ made.0) _ (fault_input log made.0 fault)
-            (at.2 ∙ ap saturated made.4)),
+            (at.2 ∙ ap saturated made.4)) p.counted,
       )
+
+-- The test whether a code is that of refused memory.
+pub is_internal : (code : Code) → sameb the_type code InternalError ≡ true → code ≡ InternalError
+is_internal InternalError is = refl
+is_internal code is = cc
+
+pub not_internal : (code : Code) → sameb the_type code InternalError ≡ false → code ≢ InternalError
+not_internal code is same =
+    let wrong : true ≡ false =
+    subst (λ (other : Code). sameb the_type other InternalError ≡ false) same is in
+    cc
 
 -- The same end fails in the same way.
 fails_alike : (e other : End) (code : Code) → other ≡ fail code e.streams.last_processed e
@@ -304,18 +358,20 @@ first_fault None Meets Stays none h = h
 first_fault (Some fault) Meets Stays none h = cc
 
 -- A connection that has failed returns its code again.
-pub failed_again : (values : Values) (cutter : CutterState) (e : End) (log : Log) (piece : List ℕ)
-    (code : Code) → PartsRepresent values cutter e log → e.failed ≡ Some code
-    → Takes values log piece (Failed code) cutter e
+pub failed_again : {counts : Counts} (values : Values) (cutter : CutterState) (e : End) (log : Log)
+    (piece : List ℕ)
+    (code : Code) → PartsRepresent values cutter counts e log → e.failed ≡ Some code
+    → Takes values log piece (Failed code) cutter counts e
 failed_again values cutter e log piece code p down =
     (log, has_failed code (sym p.machine.failed ∙ down) refl refl, p)
 
 -- A stream that the peer doesn't process is reported.
-pub unprocessed_taken : (values : Values) (cutter : CutterState) (e other : End) (log : Log)
-    (piece : List ℕ) (id : ℕ) → PartsRepresent values cutter e log → e.failed ≡ None
+pub unprocessed_taken : {counts : Counts} (values : Values) (cutter : CutterState) (e other : End)
+    (log : Log)
+    (piece : List ℕ) (id : ℕ) → PartsRepresent values cutter counts e log → e.failed ≡ None
     → id ≡ unprocessed_of_end e.role e.streams.entries e.goaway.received → id ≢ 0
     → other ≡ close_unprocessed e id
-    → Takes values log piece (Took 0 (Some (UnprocessedEvent id))) cutter other
+    → Takes values log piece (Took 0 (Some (UnprocessedEvent id))) cutter counts other
 unfolding MayStep log_after machine_after
 unprocessed_taken values cutter e other log piece id p up next some closed =
     let log_up : log.failed ≡ None = sym p.machine.failed ∙ up in
@@ -340,11 +396,12 @@ used_none : (cutter : CutterState) (log : Log) → IsAtEnd cutter log
 used_none cutter log at_end = search rules
 
 -- Or memory is refused to it.
-pub unprocessed_lacks : (values : Values) (cutter : CutterState) (e other : End) (log : Log)
-    (piece : List ℕ) (id : ℕ) (code : Code) → PartsRepresent values cutter e log
+pub unprocessed_lacks : {counts : Counts} (values : Values) (cutter : CutterState) (e other : End)
+    (log : Log)
+    (piece : List ℕ) (id : ℕ) (code : Code) → PartsRepresent values cutter counts e log
     → e.failed ≡ None → id ≡ unprocessed_of_end e.role e.streams.entries e.goaway.received
     → id ≢ 0 → FailsWithoutMemory e code other × (credit_needs_memory (end_view e) id ≡ true)
-    → Takes values log piece (Failed code) cutter other
+    → Takes values log piece (Failed code) cutter counts other
 unprocessed_lacks values cutter e other log piece id code p up next some (fails, due) =
     let log_up : log.failed ≡ None = sym p.machine.failed ∙ up in
     let named : id ≡ next_unprocessed log = next ∙ next_same values e log p.machine log_up in
@@ -356,11 +413,12 @@ unprocessed_lacks values cutter e other log piece id code p up next some (fails,
     (to_report refl (λ none. some (named ∙ none)) due_there) (used_none cutter log p.place) fails
 
 -- What stops the cutter.
-pub cut_stopped : (values : Values) (cutter new : CutterState) (e other : End) (log : Log)
-    (piece : List ℕ) (fault : WireFault) → PartsRepresent values cutter e log → TakesOctets log
+pub cut_stopped : {counts : Counts} (values : Values) (cutter new : CutterState) (e other : End)
+    (log : Log) (piece : List ℕ) (fault : WireFault) → PartsRepresent values cutter counts e log
+    → TakesOctets log
     → CutterFails cutter piece fault new → (fault ≡ faults.Memory → CutterLacks cutter piece)
     → other ≡ fail (wire_fault_code fault) e.streams.last_processed e
-    → Takes values log piece (Failed (wire_fault_code fault)) new other
+    → Takes values log piece (Failed (wire_fault_code fault)) new counts other
 cut_stopped values cutter new e other log piece faults.Memory p takes fails lacks failed =
     memory_refused values cutter new e other log piece [] piece InternalError p takes.up refl
     (to_keep refl takes (keeps_octets values cutter e log piece p takes.up (lacks refl)))
@@ -373,10 +431,11 @@ cut_stopped values cutter new e other log piece fault p takes fails lacks failed
     (p.cut takes.up).sound fails) failed
 
 -- The event that is returned may be given in another form.
-pub said_so : (values : Values) (log : Log) (piece : List ℕ) (count : ℕ)
+pub said_so : {counts : Counts} (values : Values) (log : Log) (piece : List ℕ) (count : ℕ)
     (event other : Option Event)
     (cutter : CutterState) (e : End) → event ≡ other
-    → Takes values log piece (Took count other) cutter e
-    → Takes values log piece (Took count event) cutter e
-said_so values log piece count event other cutter e same takes =
-    subst (λ (o : Option Event). Takes values log piece (Took count o) cutter e) (sym same) takes
+    → Takes values log piece (Took count other) cutter counts e
+    → Takes values log piece (Took count event) cutter counts e
+said_so {counts} values log piece count event other cutter e same takes =
+    subst (λ (o : Option Event). Takes values log piece (Took count o) cutter counts e) (sym same)
+    takes

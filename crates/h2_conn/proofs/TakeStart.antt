@@ -4,7 +4,7 @@ use Rattle.h2_conn.proofs.Names.{arith, Limits, Frames, CutterState, CutterRepre
 use Rattle.h2_conn.proofs.Names.{CutterLimited, Role, Client, Server, Values, AreInRange, is_server}
 use Rattle.h2_conn.proofs.Names.{End, payload_limit_of, Represents, is_whole, is_counted}
 use Rattle.h2_conn.proofs.Names.{are_in_range, limit_in_range, IsSoundEnd, PartsRepresent}
-use Rattle.h2_conn.proofs.Names.{with_sent, rules}
+use Rattle.h2_conn.proofs.Names.{with_sent, rules, Counts, CountsFrames}
 use denote.Enum.Bare.{sameb}
 use Rattle.h2_spec_log.specs.contracts.role.Role.{the_type}
 use Rattle.h2_spec_log.specs.LogCalls.{opened}
@@ -59,16 +59,17 @@ unfolding opened with_sent
 opened_cut cutter role values cut greatest = grind (arith, common_steps)
 
 -- A new end represents its log, with such a cutter that is given the limit in force.
-pub new_parts : (cutter limited : CutterState) (e : End) (role : Role) (values : Values)
+pub new_parts : {counts : Counts} (cutter limited : CutterState) (e : End) (role : Role)
+    (values : Values)
     → AreInRange values → e ≡ new_end role values
     → CutterRepresents cutter (is_server role) first_limits [] [] → cutter.greatest ≡ 16384
-    → CutterLimited cutter (payload_limit_of e.own) limited
-    → PartsRepresent values limited e (opened role values)
+    → CutterLimited cutter (payload_limit_of e.own) limited → CountsFrames counts []
+    → PartsRepresent values limited counts e (opened role values)
 unfolding opened with_sent
-new_parts cutter limited e role values in_range new cut greatest set =
+new_parts cutter limited e role values in_range new cut greatest set counts_none =
     let machine : Represents values e (opened role values) =
     subst (λ (x : End). Represents values x (opened role values)) (sym new)
     (new_represents role values in_range) in
     parts_limited values cutter limited e (opened role values) machine
     (λ up. opened_cut cutter role values cut greatest) cut.place set
-    (λ up. limit_in_range e (new_sound e role values in_range new).ranges)
+    (λ up. limit_in_range e (new_sound e role values in_range new).ranges) counts_none

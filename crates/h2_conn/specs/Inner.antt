@@ -12,28 +12,32 @@ use Rattle.h2_spec_log.specs.LogSteps.{limits_from}
 use Rattle.h2_spec_machine.specs.End.{End}
 use Rattle.h2_spec_machine.specs.Represents.{Represents}
 use Rattle.h2_laws_end.specs.Takes.{MayTake}
+use Rattle.h2_conn.specs.declared.counts.Counts.{Counts}
 use Rattle.h2_conn.specs.declared.taken.Progress.{Progress}
+use Rattle.h2_conn.specs.Counts.{CountsFrames}
 use Rattle.h2_conn.specs.Events.{answer_progress}
 
 -- The machine represents the log. As long as the connection hasn't failed, the cutter has returned
 -- the log's frames, with the limits in force, and keeps what is unparsed. Its place is always that
--- of the last octet used.
-pub record PartsRepresent (values : Values) (cutter : CutterState) (e : End) (log : Log) : Type 0
-  where
-    pub machine : Represents values e log
-    pub cut : log.failed ≡ None → CutterRepresents cutter (is_server log.role) (limits_from log)
-        log.input log.frames
-    pub unparsed : log.failed ≡ None → cutter.unparsed ≡ log.unparsed
-    -- the greatest limit of payloads that it has had
-    pub greatest : log.failed ≡ None → cutter.greatest ≤ most_max_frame
-    -- after a failure too
-    pub place : cutter.place ≡ saturated (length log.input)
+-- of the last octet used, and the log's frames are always counted.
+pub record PartsRepresent (values : Values) (cutter : CutterState) (counts : Counts) (e : End)
+    (log : Log) : Type 0 where
+  pub machine : Represents values e log
+  pub cut : log.failed ≡ None → CutterRepresents cutter (is_server log.role) (limits_from log)
+      log.input log.frames
+  pub unparsed : log.failed ≡ None → cutter.unparsed ≡ log.unparsed
+  -- the greatest limit of payloads that it has had
+  pub greatest : log.failed ≡ None → cutter.greatest ≤ most_max_frame
+  -- after a failure too
+  pub place : cutter.place ≡ saturated (length log.input)
+  pub counted : CountsFrames counts log.frames
 
 -- Whatever log the parts represent: the answer is one that a call of `take` may give after it, and
 -- they represent the log with that call.
-abbrev pub PartsTake : (cutter : CutterState) (e : End) → List ℕ → List Field → List ℕ
-    → Result Progress Code → (new_cutter : CutterState) (new : End) → Type 0
-PartsTake cutter e piece list octets result new_cutter new =
-    (values : Values) (log : Log) → PartsRepresent values cutter e log
+abbrev pub PartsTake : (cutter : CutterState) (counts : Counts) (e : End) → List ℕ → List Field
+    → List ℕ → Result Progress Code → (new_cutter : CutterState) (new_counts : Counts) (new : End)
+    → Type 0
+PartsTake cutter counts e piece list octets result new_cutter new_counts new =
+    (values : Values) (log : Log) → PartsRepresent values cutter counts e log
     → (after : Log) × MayTake log piece (answer_progress list octets result) after
-    × PartsRepresent values new_cutter new after
+    × PartsRepresent values new_cutter new_counts new after

@@ -1,4 +1,5 @@
 pub mod Conn
+pub mod Counts
 pub mod Events
 pub mod Inner
 pub mod Loans

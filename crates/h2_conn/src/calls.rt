@@ -6,7 +6,7 @@ ghost use Rattle.hpack_text.specs.Bits.{IsOctet};
 ghost use Rattle.hpack.specs.Written.{AreOctets};
 ghost use Rattle.h2_spec_log.specs.Acts.{Open, SendFields, SendData, Release, ResetStream, Refuse};
 ghost use Rattle.h2_spec_log.specs.Acts.{SendPing, SendGoAway, ChangeSettings, Values, Number};
-ghost use Rattle.h2_spec_log.specs.Acts.{Count, Done};
+ghost use Rattle.h2_spec_log.specs.Acts.{Count, Done, Fail};
 ghost use Rattle.h2_spec_log.specs.CallRules.{sends_no_data};
 ghost use Rattle.h2_spec_log.specs.Log.{Log};
 ghost use Rattle.h2_spec_log.specs.LogView.{log_view};
@@ -15,6 +15,7 @@ ghost use Rattle.h2_conn.specs.Conn.{ConnAnswers, ConnRepresents, ConnShows, ans
 
 use crate::conn::Conn;
 use h2_flow::Config;
+use h2_frame::Code;
 use h2_spec_log::Refusal;
 use hpack::Field;
 
@@ -145,6 +146,21 @@ impl Conn {
         ensures { ConnAnswers self.old SendGoAway (answer_by (λ done. Done) result) self.new }
     {
         self.inner.end.go_away()
+    }
+
+    // contract: calls (own) The layer above ends the connection with a code of its own
+    /// Ends the connection with a code of the caller's (section 5.4.1): GOAWAY with it, and with
+    /// the greatest stream that this end has processed, follows what waits, and nothing after it.
+    /// From then on [`Conn::failed`] and [`Conn::take`] return the code, and every call but output
+    /// is refused with C1. It takes no memory.
+    ///
+    /// # Errors
+    ///
+    /// [`Refusal::Closed`] (C1): the connection has failed before. Nothing has changed.
+    pub fn fail(&mut self, code: Code) -> Result<(), Refusal>
+        ensures { ConnAnswers self.old (Fail code) (answer_by (λ done. Done) result) self.new }
+    {
+        self.inner.end.fail_on_request(code)
     }
 
     // contract: 6.5.3 (own) Own SETTINGS are changed once those before are acknowledged

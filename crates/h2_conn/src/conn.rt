@@ -19,6 +19,7 @@ ghost use Rattle.h2_conn.specs.Events.{code_result, happened_value, lent_value};
 ghost use Rattle.h2_conn.specs.Loans.{LiesThere, IsBodyOf, frame_in};
 ghost use Rattle.h2_conn.specs.contracts.conn.Conn.{the_row};
 
+use crate::counts::Counts;
 use crate::inner::Inner;
 use crate::taken::{ConnFault, Progress, Taken};
 use crate::taking::take_piece;
@@ -104,7 +105,12 @@ impl Conn {
                 happened: Some(Event::Unprocessed { id }),
             });
         }
-        let progress = take_piece(&mut self.inner.cutter, &mut self.inner.end, piece)?;
+        let progress = take_piece(
+            &mut self.inner.cutter,
+            &mut self.inner.end,
+            &mut self.inner.counts,
+            piece,
+        )?;
         Ok(progress)
     }
 
@@ -196,14 +202,18 @@ impl Conn {
 // rule: 4.2 The limit of an end is its greatest MAX_FRAME_SIZE of those in force
 /// The parts of a new end.
 fn new_inner(alloc: Global, role: Role, config: Config) -> Result<Inner, Refusal>
-    ensures ok { IfOk result (λ inner. PartsRepresent (values_of config) inner.cutter
+    ensures ok { IfOk result (λ inner. PartsRepresent (values_of config) inner.cutter inner.counts
         (end_of inner.end) (opened role (values_of config))) }
     ensures err { IfErr result (λ refusal. refusal ≡ Refusal.Memory) }
 {
     let end = Endpoint::new(alloc, role, config)?;
     let mut cutter = Cutter::new(alloc, LEAST_MAX_FRAME, role == Role::Server);
     cutter.set_limit(end.payload_limit());
-    Ok(Inner { cutter, end })
+    Ok(Inner {
+        cutter,
+        end,
+        counts: Counts::new(),
+    })
 }
 
 impl fmt::Debug for Conn {

@@ -5,16 +5,19 @@ ghost use Rattle.h2_wire.specs.Cutter.{CutterLimited};
 ghost use Rattle.h2_spec_machine.specs.End.{payload_limit_of};
 ghost use Rattle.h2_core.specs.Endpoint.{end_of, IsSoundEnd};
 
+use crate::counts::Counts;
 use h2_core::Endpoint;
 use h2_wire::Cutter;
 
-/// The cutter of an end's octets, and the end.
+/// The cutter of an end's octets, the end, and what is counted.
 #[derive(Drop)]
 pub(crate) struct Inner {
     /// What is unparsed.
     pub(crate) cutter: Cutter,
     /// The end.
     pub(crate) end: Endpoint,
+    /// What is counted of the frames that came.
+    pub(crate) counts: Counts,
     // As long as the connection has not failed, its values are sound and the cutter has not failed.
     ghost sound: { end.failed ≡ None → IsSoundEnd (end_of end) },
     ghost cuts: { end.failed ≡ None → cutter.fault ≡ None },
@@ -27,6 +30,7 @@ impl Inner {
         ensures cutter { CutterLimited self.old.cutter
             (payload_limit_of (end_of self.old.end).own) self.new.cutter }
         ensures end { self.new.end ≡ self.old.end }
+        ensures counts { self.new.counts ≡ self.old.counts }
     {
         self.cutter.set_limit(self.end.payload_limit());
     }

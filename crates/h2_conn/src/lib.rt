@@ -7,8 +7,10 @@
 
 mod calls;
 mod conn;
+mod counts;
 mod inner;
 mod output;
+mod peer;
 mod readers;
 mod taken;
 mod taking;
@@ -20,4 +22,5 @@ pub use h2_frame::Code;
 pub use h2_spec_log::{Refusal, Role};
 pub use h2_wire::Complete;
 pub use hpack::FieldList;
+pub use peer::PeerSettings;
 pub use taken::{ConnFault, Progress, Taken};

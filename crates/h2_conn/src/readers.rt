@@ -1,15 +1,20 @@
 //! The readers of a connection. None of them takes memory.
 
-ghost use Rattle.std.specs.Prelude.{◌≡◌, ◌≤◌, ◌<◌, Bool, IfSome, length};
+ghost use Rattle.std.specs.Prelude.{◌≡◌, ◌≤◌, ◌<◌, Bool, IfSome, None, length};
 ghost use Rattle.h2_wire.specs.Cutter.{saturated};
 ghost use Rattle.hpack.specs.Written.{AreOctets};
 ghost use Rattle.h2_spec_log.specs.Acts.{Values, Open};
+ghost use Rattle.h2_spec_log.specs.Counted.{counted, empty_among, resets_among};
 ghost use Rattle.h2_spec_log.specs.Log.{Log, active, waiting, reader_held, reader_next_live};
 ghost use Rattle.h2_spec_log.specs.LogView.{log_view};
+ghost use Rattle.h2_spec_log.specs.Settings.{value_read};
+ghost use Rattle.h2_spec_log.specs.Windows.{first_window};
 ghost use Rattle.h2_spec_log.specs.CallRules.{reader_room, reader_owed, reader_due, refusal_of};
 ghost use Rattle.h2_conn.specs.Conn.{ConnRepresents, reader_next_number};
+ghost use Rattle.h2_conn.specs.Counts.{last_flow};
 
 use crate::conn::Conn;
+use crate::peer::PeerSettings;
 use h2_frame::Code;
 use h2_spec_log::{Refusal, Role};
 use hpack::Field;
@@ -89,6 +94,24 @@ impl Conn {
         endpoint.failed()
     }
 
+    // contract: 6.5.3 Settings apply in order: the first fault decides, the last value counts
+    /// The values of the peer's SETTINGS that are in force (section 6.5.2): those that were read
+    /// last, and 65,535 and 16,384 before. Once the connection has failed nothing is said of them.
+    /// It has no errors.
+    pub fn peer_settings(&self) -> PeerSettings
+        ensures window { (values : Values) (log : Log) → ConnRepresents values self.now log
+            → log.failed ≡ None
+            → result.initial_window_size ≡ value_read 4 first_window log.received }
+        ensures frame { (values : Values) (log : Log) → ConnRepresents values self.now log
+            → log.failed ≡ None → result.max_frame_size ≡ value_read 5 16384 log.received }
+    {
+        let settings = self.inner.end.peer_settings();
+        PeerSettings {
+            initial_window_size: settings.initial_window_size,
+            max_frame_size: settings.max_frame_size,
+        }
+    }
+
     /// Whether a stream is active: open or half-closed (RFC 9113, section 5.1). That does not end
     /// with the connection.
     pub fn is_active(&self, id: u32) -> bool
@@ -120,6 +143,43 @@ impl Conn {
         ensures octets { AreOctets fields.now }
     {
         self.inner.end.refusal_to_open(fields)
+    }
+
+    // contract: 6.1 The complete payload of DATA, padding included, counts for windows
+    /// How many octets of the windows the last DATA took that came: its payload, with the padding
+    /// (section 6.1). After [`Event::Data`](crate::Event::Data) it is the event's `flow`, which is
+    /// released ([`Conn::release`]) once its octets are used. It is 0 before any DATA, works after
+    /// a failure too, and has no errors.
+    pub fn last_flow(&self) -> u32
+        ensures { (values : Values) (log : Log) → ConnRepresents values self.now log
+            → result ≡ last_flow log.frames }
+    {
+        self.inner.counts.flow
+    }
+
+    // contract: 10.5 (own) The resets and the empty frames that a peer has sent are counted
+    /// How many RST_STREAM frames (section 6.4) of the peer's were read; the greatest number of 32
+    /// bits where it is more than that. One whose head or payload is at fault is not among them.
+    /// This end sets no limit on them: a layer above may end the connection ([`Conn::fail`]) where
+    /// the peer opens streams and resets them at once (section 10.5). It works after a failure too,
+    /// and has no errors.
+    pub fn resets_received(&self) -> u32
+        ensures { (values : Values) (log : Log) → ConnRepresents values self.now log
+            → result ≡ counted (resets_among log.frames) }
+    {
+        self.inner.counts.resets
+    }
+
+    // contract: 10.5 (own) The resets and the empty frames that a peer has sent are counted
+    /// How many frames without octets of the peer's were read that say nothing (section 10.5):
+    /// DATA, padded or not, without END_STREAM, and HEADERS and CONTINUATION without END_HEADERS;
+    /// the greatest number of 32 bits where it is more than that. PRIORITY, and frames of unknown
+    /// types, are not among them. It works after a failure too, and has no errors.
+    pub fn empty_frames_received(&self) -> u32
+        ensures { (values : Values) (log : Log) → ConnRepresents values self.now log
+            → result ≡ counted (empty_among log.frames) }
+    {
+        self.inner.counts.empty
     }
 
     // rule: calls (own) An end lends its output, and says the place of a fault

@@ -31,7 +31,8 @@ pub struct Progress {
 }
 
 /// The connection has failed with this code; GOAWAY with it is the last frame of the output
-/// (RFC 9113, section 5.4.1). INTERNAL_ERROR means out of memory.
+/// (RFC 9113, section 5.4.1). INTERNAL_ERROR means out of memory, unless the caller gave it
+/// ([`Conn::fail`](crate::Conn::fail)).
 #[derive(Clone, Copy, Debug, PartialEq, Eq, Hash, Error)]
 #[error("the connection has failed: {code}")]
 pub struct ConnFault {

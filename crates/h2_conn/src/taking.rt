@@ -8,6 +8,7 @@ ghost use Rattle.h2_core.specs.Endpoint.{end_of, IsSoundEnd};
 ghost use Rattle.h2_conn.specs.Inner.{PartsTake};
 ghost use Rattle.h2_conn.specs.Loans.{LiesThere, IsBodyOf};
 
+use crate::counts::Counts;
 use crate::taken::Progress;
 use h2_core::Endpoint;
 use h2_frame::Code;
@@ -16,10 +17,12 @@ use h2_wire::Cutter;
 // rule: calls (own) A fault of the octets fails the connection with its code
 // rule: calls (own) take uses octets up to one frame's end, and answers one event at most
 // rule: 5.4 (own) A frame whole in its piece that needs no memory is never refused any
-/// Cuts the piece, and takes the frame that it completes, which may change the limit of payloads.
+/// Cuts the piece, and takes and counts the frame that it completes, which may change the limit of
+/// payloads.
 pub(crate) fn take_piece(
     cutter: &mut Cutter,
     end: &mut Endpoint,
+    counts: &mut Counts,
     piece: &[u8],
 ) -> Result<Progress, Code>
     requires up { end.old.failed ≡ None }
@@ -32,8 +35,8 @@ pub(crate) fn take_piece(
     ensures cuts { end.new.failed ≡ None → cutter.new.fault ≡ None }
     ensures lies { LiesThere cutter.new piece.now result }
     ensures takes { (octets : List ℕ) → IsBodyOf cutter.new piece.now octets result
-        → PartsTake cutter.old (end_of end.old) piece.now end.new.list octets result cutter.new
-        (end_of end.new) }
+        → PartsTake cutter.old counts.old (end_of end.old) piece.now end.new.list octets result
+        cutter.new counts.new (end_of end.new) }
 {
     let advance = match cutter.advance(piece) {
         Ok(advance) => advance,
@@ -50,7 +53,19 @@ pub(crate) fn take_piece(
             happened: None,
         });
     };
-    let event = end.take_frame(cutter.frame(piece, complete))?;
+    let frame = cutter.frame(piece, complete);
+    let counted = counts.with(frame);
+    let event = match end.take_frame(frame) {
+        Ok(event) => event,
+        Err(code) => {
+            // A frame for which memory was refused was not taken.
+            if code != Code::InternalError {
+                *counts = counted;
+            }
+            return Err(code);
+        }
+    };
+    *counts = counted;
     let happened = match event {
         Some(event) => Some(event.with_parts((), complete)),
         None => None,

@@ -2,9 +2,9 @@
 //! 9113, sections 6.4, 6.5, 6.7, 6.8 and 6.9).
 
 ghost use Rattle.std.specs.Prelude.{◌≡◌, nat_le, length, is_some, None, true, false, OnOk};
-ghost use Rattle.std.specs.Prelude.{IfErr};
+ghost use Rattle.std.specs.Prelude.{IfErr, Err, ◌≢◌};
 ghost use Rattle.h2_spec_log.specs.Limits.{full_output};
-ghost use Rattle.h2_spec_log.specs.Acts.{Release, ResetStream, SendPing, SendGoAway};
+ghost use Rattle.h2_spec_log.specs.Acts.{Release, ResetStream, SendPing, SendGoAway, Fail};
 ghost use Rattle.h2_core.specs.Endpoint.{end_of, IsSoundEnd};
 ghost use Rattle.h2_core.specs.Calls.{CallRefused, CallAccepted, CallRefuses};
 
@@ -183,6 +183,26 @@ impl Endpoint {
             debug: &[],
         });
         self.goaway_sent = Some(self.last_processed);
+        Ok(())
+    }
+
+    // rule: calls (own) The layer above ends the connection with a code of its own
+    /// Ends the connection with a code of the layer above (section 5.4.1): GOAWAY with it, and
+    /// with the greatest stream that this end has processed, follows the queued output. It takes
+    /// no memory.
+    ///
+    /// # Errors
+    ///
+    /// [`Refusal::Closed`] (C1). Nothing has changed.
+    pub fn fail_on_request(&mut self, code: Code) -> Result<(), Refusal>
+        requires sound { self.old.failed ≡ None → IsSoundEnd (end_of self.old) }
+        ensures ok { OnOk result (CallAccepted (end_of self.old) (Fail code) (end_of self.new)) }
+        ensures err { IfErr result (λ refusal. CallRefused (end_of self.old) (Fail code) refusal
+            (end_of self.new)) }
+        ensures memory { result ≢ Err Refusal.Memory }
+    {
+        self.check_up()?;
+        self.fail(code, self.last_processed);
         Ok(())
     }
 

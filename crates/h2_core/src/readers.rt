@@ -9,6 +9,7 @@ ghost use Rattle.h2_core.specs.Endpoint.{end_of};
 ghost use Rattle.h2_core.specs.Readers.{room_of, owed_of};
 
 use crate::endpoint::Endpoint;
+use h2_flow::Settings;
 use h2_frame::Code;
 use h2_spec_log::Role;
 use hpack::FieldList;
@@ -33,6 +34,15 @@ impl Endpoint {
             Some(config) => self.max_frame.max(config.max_frame()),
             None => self.max_frame,
         }
+    }
+
+    /// The settings that the peer's SETTINGS have brought in force (RFC 9113, section 6.5.2). It
+    /// takes no memory.
+    pub fn peer_settings(&self) -> Settings
+        ensures window { result.initial_window_size ≡ (end_of self.now).peer.initial_window }
+        ensures frame { result.max_frame_size ≡ (end_of self.now).peer.max_frame }
+    {
+        self.peer
     }
 
     /// The fields of the block that was reported last. It takes no memory.

@@ -15,6 +15,7 @@ none_in_step spans stream happened id still is =
       within = λ waiting waits. cc;
       owes = is.owes;
       turn = is.turn;
+      malformed = is.malformed;
     }
 
 -- So it may be forgotten.

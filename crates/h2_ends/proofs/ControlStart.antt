@@ -49,10 +49,10 @@ new_sends role values i =
 
 -- nothing was heard, and no stream is active.
 new_in_step : (spans : Spans) (role : Role) (values : Values) (i : ℕ) →
-    spans.turn ≡ record { id = 0; rest = 0 }
+    spans.turn ≡ record { id = 0; rest = 0 } → spans.malformed ≡ None
     → IsInStep spans None (new_end_log role values) i
 unfolding opened with_sent tokens_heard tokens_of_parts parts_on
-new_in_step spans role values i turn =
+new_in_step spans role values i turn none =
     record {
       all = λ up alive. absurd (both_ways _ (none_active role values i) alive);
       handed = inl refl;
@@ -60,13 +60,15 @@ new_in_step spans role values i turn =
       owes = λ some. absurd (some (owed_inactive (new_end_log role values).log i
           (none_active role values i)));
       turn = turn;
+      malformed = none;
     }
 
 pub starts : (role : Role) (values : Values) (end : End)
     → ConnRepresents values end.conn (opened role values) → end.role ≡ role
     → end.streams.entries ≡ [] → end.spans.turn ≡ record { id = 0; rest = 0 }
+    → end.spans.malformed ≡ None
     → EndRepresents values end (new_end_log role values)
-starts role values end conn is none turn =
+starts role values end conn is none turn unrefused =
     record {
       streams = record {
         conn = conn;
@@ -74,6 +76,6 @@ starts role values end conn is none turn =
         streams = λ i. inr (rw none (nothing_kept role values i));
         sent = new_sends role values;
       };
-      in_step = λ i. rw none (new_in_step end.spans role values i turn);
+      in_step = λ i. rw none (new_in_step end.spans role values i turn unrefused);
       active = λ i. rw none (λ some. absurd (some refl));
     }

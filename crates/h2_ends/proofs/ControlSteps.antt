@@ -3,7 +3,7 @@ use Rattle.h2_ends.proofs.Names
 use Names.{◌≡◌, ◌≢◌, ℕ, false, [], refl, sym, ne_eqb, Refusal, Values, Act, Answer, Number, Done}
 use Names.{Refused, MayAnswer, with_call, ConnAnswers, answer_by, tokens_of_call, End, EndLog}
 use Names.{end_with_log, EndRepresents, RepresentsBut, call_may_close, Release, Result, Ok, Err}
-use Rattle.h2_spec_log.specs.Acts.{ResetStream, SendPing, SendGoAway, ChangeSettings, PutOut}
+use Rattle.h2_spec_log.specs.Acts.{ResetStream, SendPing, SendGoAway, Fail, ChangeSettings, PutOut}
 use Rattle.h2_ends.specs.Represents.{EndAnswers}
 use Rattle.h2_ends.proofs.EndTokens.{no_part_tokens}
 use Rattle.h2_ends.proofs.InSteps.{called_as, called_but}
@@ -12,6 +12,7 @@ use Rattle.h2_ends.proofs.InSteps.{called_as, called_but}
 abbrev pub ClosesNone : Act → Type 0
 ClosesNone (SendPing octets) = Unit {0}
 ClosesNone SendGoAway = Unit {0}
+ClosesNone (Fail code) = Unit {0}
 ClosesNone (ChangeSettings own) = Unit {0}
 ClosesNone (PutOut count) = Unit {0}
 ClosesNone (Release id count) = Unit {0}
@@ -22,6 +23,7 @@ pub closes_none : (act : Act) (answer : Answer) (i : ℕ) → ClosesNone act
 unfolding tokens_of_call call_may_close
 closes_none (SendPing octets) answer i is = (refl, refl)
 closes_none SendGoAway answer i is = (refl, refl)
+closes_none (Fail code) answer i is = (refl, refl)
 closes_none (ChangeSettings own) answer i is = (refl, refl)
 closes_none (PutOut count) answer i is = (refl, refl)
 closes_none (Release id count) answer i is = (refl, refl)

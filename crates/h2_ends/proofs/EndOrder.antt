@@ -14,6 +14,7 @@ use Names.{IsReadableWith, end_with_log, end_with_handed, hands_nothing, passes,
 use Names.{refusal_fails, BodyWaits, TrailersWait, end_with_said, end_after_call, SendsInOrder}
 use Names.{HandsInOrder, end_tokens, part_of_event, tokens_given, is_none}
 use Rattle.h2_ends.specs.EndTakes.{EndMayTake, fails, refuses, runs_out_of_memory}
+use Rattle.h2_message.specs.declared.malformed.Malformed.{Malformed}
 use Rattle.std.proofs.Common.{map as each}
 use Rattle.h2_ends.proofs.EndParts.{handed_elsewhere, readable_here, same_part, no_tokens}
 use Rattle.h2_ends.proofs.EndParts.{part_tokens, other_tokens}
@@ -173,6 +174,21 @@ order_turned end turn is =
       hands = λ i. handed_by end (record end { turn = turn }) i refl refl (is.hands i);
     }
 
+-- So it does whatever part was refused last.
+pub order_named : (end : EndLog) (last : Option (ℕ × Malformed)) → KeepsOrder end
+    → KeepsOrder (record end { malformed = last })
+order_named end last is =
+    record {
+      sends = λ i. same_sent end (record end { malformed = last }) i (record {
+        handed = refl;
+        accepted = refl;
+        sent = refl;
+        role = refl;
+        used_still = λ was. was;
+      }) (is.sends i);
+      hands = λ i. handed_by end (record end { malformed = last }) i refl refl (is.hands i);
+    }
+
 -- So does one that sends the head of what is given, where nothing was sent on its stream before.
 pub order_by_head : (end : EndLog) (act : Act) (answer : Answer) (id : ℕ) (said : Said)
     → KeepsOrder end → MayAnswer end.log act answer → tokens_out end id ≡ []
@@ -330,11 +346,12 @@ order_by_take end piece answer after is
     rw same (order_handed end piece count event log may is id part of readable)
 order_by_take end piece answer after is
     (refuses count event log may id part of stops refused may_refuse up answers same) =
-    rw same (order_reset end (with_call log (Refuse id 1) refused) id
-    (order_refused end piece count event log may is id part of 1 refused may_refuse))
+    rw same (order_named _ _ (order_reset end (with_call log (Refuse id 1) refused) id
+    (order_refused end piece count event log may is id part of 1 refused may_refuse)))
 order_by_take end piece answer after is
     (refusal_fails count event log may id part of stops refused may_refuse code down answers same) =
-    rw same (order_refused end piece count event log may is id part of 1 refused may_refuse)
+    rw same (order_named _ _
+    (order_refused end piece count event log may is id part of 1 refused may_refuse))
 order_by_take end piece answer after is
     (runs_out_of_memory count id list ends log may role first readable refused may_refuse answers
     same) =

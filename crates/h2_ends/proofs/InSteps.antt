@@ -84,6 +84,7 @@ in_step_called role values spans stream happened act answer accepted i came may 
       within = is.within;
       owes = owes_called role values spans.owing happened.log act answer i came may is.owes;
       turn = is.turn;
+      malformed = is.malformed;
     }
 
 -- A call that does not close the stream.
@@ -163,6 +164,7 @@ in_step_taken role values spans stream happened piece answer log i came may none
       owes = owes_taken role values spans.owing happened.log log piece answer i came may no_data
           is.owes;
       turn = is.turn;
+      malformed = is.malformed;
     }
 
 -- Octets that do not close it.
@@ -202,6 +204,7 @@ in_step_elsewhere spans stream happened handed i none is =
       within = is.within;
       owes = is.owes;
       turn = is.turn;
+      malformed = is.malformed;
     }
 
 -- Something else is kept, with the same message to send.
@@ -215,6 +218,7 @@ in_step_with spans stream other happened i keeps same is =
       within = λ waiting waits. is.within waiting (sym same ∙ waits);
       owes = is.owes;
       turn = is.turn;
+      malformed = is.malformed;
     }
 
 -- An end represents what has happened where what it keeps of the one stream is active too.

@@ -255,6 +255,7 @@ module _ (values : Values) (old mid new : End) (end : EndLog) (act : Act) (answe
       stepped_but values old new end act answer id (Some given) after.accepted is more.may streams
       keeps (λ i within. more.gives.more i (rw more.spans within))
       (rw more.spans at more.gives.owing) (rw more.spans at more.gives.turn)
+      (rw more.spans at more.gives.malformed)
       (λ i other. more.opens i) more.closes
       (record {
         all = λ up alive none. cc;
@@ -263,6 +264,8 @@ module _ (values : Values) (old mid new : End) (end : EndLog) (act : Act) (answe
             (λ waiting waits. absurd (more.waits waiting waits));
         owes = λ some. rw (more.gives.owing, more.spans) (before.owes some);
         turn = more.gives.turn ∙ ap (λ (s : Spans). s.turn) more.spans ∙ before.turn;
+        malformed = more.gives.malformed ∙ ap (λ (s : Spans). s.malformed) more.spans
+            ∙ before.malformed;
       })
 
   -- Where the call does not close it, the end represents all of it.

@@ -5,10 +5,9 @@ use Names.{refl, sym, ap, ◌∙◌, subst, arith, Values, Code, Refusal, Closed
 use Names.{EndLog}
 use Names.{Result, Ok, Err, EndRepresents, InSpan, WaitsWithin, keeps_of, is_some, Spans}
 use Names.{outgoing_in}
-use Rattle.std.specs.Prelude.{max}
 use Rattle.h2_ends.specs.declared.passing.Pass.{Pass}
 use Rattle.h2_ends.specs.Passes.{Halt, Stopped, PassesOver, Passes, passes_part, passes_round}
-use Rattle.h2_ends.specs.Passes.{IsNoError, numbers, share_size, sizes_by, end_with_turn}
+use Rattle.h2_ends.specs.Passes.{IsNoError, numbers, share_most, share_size, sizes_by, end_with_turn}
 use Rattle.h2_ends.specs.declared.span.Turn.{Turn}
 use Rattle.h2_ends.proofs.PassSteps.{with_turn, turned}
 unfoldable use Rattle.h2_ends.specs.Passes.{MayPumpSome}
@@ -74,7 +73,7 @@ module _ (old : End) (most turn : ℕ) (same_turn : turn ≡ old.spans.turn.id) 
     (low : above.last < numbers)
     (is_above : (i : ℕ) → InSpan above i ↔ (InSpan old.spans.waiting i × (turn ≤ i)))
     (is_below : (i : ℕ) → 0 < i → InSpan below i ↔ (InSpan old.spans.waiting i × (i < turn)))
-    (first : Pass) (size : first.most ≡ max most 1) (begun : first.turn ≡ old.spans.turn)
+    (first : Pass) (size : first.most ≡ share_most most) (begun : first.turn ≡ old.spans.turn)
     (zero : first.count ≡ 0) (mid : End)
     (between : Pass) where
   module _ (failed : Option Code) (reads : ReadsFailed old.conn failed)
@@ -305,6 +304,7 @@ module _ (old : End) (most turn : ℕ) (same_turn : turn ≡ old.spans.turn.id) 
                     within = left_in values start half after is passed over i;
                     owes = (over.represents.in_step i).owes;
                     turn = (over.represents.in_step i).turn;
+                    malformed = (over.represents.in_step i).malformed;
                   };
                   active = over.represents.active;
                 }

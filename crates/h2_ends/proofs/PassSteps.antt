@@ -85,6 +85,7 @@ turned values end happened id is =
         within = (is.in_step i).within;
         owes = (is.in_step i).owes;
         turn = refl;
+        malformed = (is.in_step i).malformed;
       };
       active = is.active;
     }

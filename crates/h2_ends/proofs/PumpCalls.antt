@@ -206,6 +206,7 @@ module _ (values : Values) (start : EndLog) where
           ];
           owes = (is.in_step i).owes;
           turn = (is.in_step i).turn;
+          malformed = (is.in_step i).malformed;
         };
         active = active;
       }

@@ -68,6 +68,7 @@ in_step_here spans stream happened id waits outgoing is =
       within = λ other same. is.within waits refl;
       owes = is.owes;
       turn = is.turn;
+      malformed = is.malformed;
     }
 
 -- the call that sends what is left of the body

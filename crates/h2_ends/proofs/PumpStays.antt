@@ -102,7 +102,7 @@ stays_active log id octets end n may goes =
     let lasts = lasts_parts id log.received log.sent parts.lasts in
     let grows = grows_call log act (Count n) in
     let writes = call_writes log act (Count n) (ap Count (data_accepted log id octets end n may).1)
-    (λ other code wrong. cc) in
+    (λ other code wrong. cc) (λ code wrong. cc) in
     let kept = none_written (resets id) (data_resets id) (update_resets id) log after id octets end
     n writes lasts.kept in
     let below = below_after log.role id log.sent after.sent

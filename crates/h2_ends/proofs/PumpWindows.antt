@@ -136,7 +136,7 @@ data_waits log id octets end n within may =
     let after = with_items log act (Count n) in
     let least = (most_between log.received).0 in
     let writes = call_writes log act (Count n) (ap Count (data_accepted log id octets end n may).1)
-    (λ other code wrong. cc) in
+    (λ other code wrong. cc) (λ code wrong. cc) in
     let waits = waits_by log after (items_of (log_view log) act (Count n)) within
     (call_given log act (Count n) (λ other is. cc)) writes in
     let size = body_size (max_payload_sent after) (max_payload_sent log) id octets end n
@@ -150,7 +150,7 @@ pub fields_wait : (log : Log) (id : ℕ) (fields : List Field) (end : Bool)
 unfolding with_call
 fields_wait log id fields end within =
     let act = SendFields id fields end in
-    let writes = call_writes log act Done refl (λ other code wrong. cc) in
+    let writes = call_writes log act Done refl (λ other code wrong. cc) (λ code wrong. cc) in
     let waits = waits_by log (with_items log act Done) (items_of (log_view log) act Done)
     within (call_given log act Done (λ other is. cc)) writes in
     omega (arith, waits)
@@ -170,14 +170,16 @@ refused_failed log act refusal = refl
 pub data_failed : (log : Log) (id : ℕ) (octets : List ℕ) (end : Bool) (n : ℕ)
     → (with_call log (SendData id octets end) (Count n)).failed ≡ log.failed
 data_failed log id octets end n =
-    call_failed log (SendData id octets end) (Count n) (λ other code is. cc) (λ is. cc)
+    call_failed log (SendData id octets end) (Count n) (λ other code is. cc) (λ code is. cc)
+    (λ is. cc)
 
 pub fields_failed : (log : Log) (id : ℕ) (fields : List Field) (end : Bool)
     → (with_call log (SendFields id fields end) Done).failed ≡ log.failed
 fields_failed log id fields end =
-    call_failed log (SendFields id fields end) Done (λ other code is. cc) (λ is. cc)
+    call_failed log (SendFields id fields end) Done (λ other code is. cc) (λ code is. cc)
+    (λ is. cc)
 
 pub release_failed : (log : Log) (id count : ℕ)
     → (with_call log (Release id count) Done).failed ≡ log.failed
 release_failed log id count =
-    call_failed log (Release id count) Done (λ other code is. cc) (λ is. cc)
+    call_failed log (Release id count) Done (λ other code is. cc) (λ code is. cc) (λ is. cc)

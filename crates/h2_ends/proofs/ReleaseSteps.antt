@@ -186,6 +186,7 @@ none_owing values end happened span is none =
         within = (is.in_step i).within;
         owes = λ some. absurd (some (none i));
         turn = (is.in_step i).turn;
+        malformed = (is.in_step i).malformed;
       };
       active = is.active;
     }

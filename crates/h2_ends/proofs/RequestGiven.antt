@@ -14,6 +14,7 @@ pub record IsWidened (old : End) (id : ℕ) (outgoing : Outgoing) (new : End) : 
       → InSpan new.spans.waiting id
   pub owing : new.spans.owing ≡ old.spans.owing
   pub turn : new.spans.turn ≡ old.spans.turn
+  pub malformed : new.spans.malformed ≡ old.spans.malformed
 
 -- So it is by the test whether something waits.
 pub with_span : (old : End) (id : ℕ) (outgoing : Outgoing) (span : Span) → InSpan span id
@@ -28,6 +29,7 @@ with_span old id outgoing span here more =
       here = λ waiting waits. here;
       owing = refl;
       turn = refl;
+      malformed = refl;
     }
 
 pub with_none : (old : End) (id : ℕ) (outgoing : Outgoing)
@@ -42,6 +44,7 @@ with_none old id outgoing none =
       here = λ waiting waits. absurd (none waiting waits);
       owing = refl;
       turn = refl;
+      malformed = refl;
     }
 
 -- This is given to the stream of which something is kept.
@@ -64,6 +67,7 @@ given_here old mid new id outgoing stream set widened was is conn role waiting c
       here = rw waiting widened.here;
       owing = rw waiting widened.owing;
       turn = rw waiting widened.turn;
+      malformed = rw waiting widened.malformed;
     }
 
 -- Where nothing is kept of the stream, all else is as before.
@@ -83,4 +87,5 @@ given_nowhere old mid new id outgoing widened none conn role same waiting =
       here = rw waiting widened.here;
       owing = rw waiting widened.owing;
       turn = rw waiting widened.turn;
+      malformed = rw waiting widened.malformed;
     }

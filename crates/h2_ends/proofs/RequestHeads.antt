@@ -142,6 +142,7 @@ request_given values old opened given end id said outgoing is opens gives left =
     (stepped_but values old given end act (Number id) id (Some stream) after.accepted is
     opens.answers streams keeps (λ i within. gives.more i (rw opens.spans within))
     (rw opens.spans at gives.owing) (rw opens.spans at gives.turn)
+    (rw opens.spans at gives.malformed)
     (λ i other. opens_one i id other)
     (λ i other. open_keeps i id said.message.head ends)
     (record {
@@ -152,6 +153,8 @@ request_given values old opened given end id said outgoing is opens gives left =
       owes = λ some. rw (gives.owing, opens.spans) (owes_called _ values old.spans.owing end.log
           act (Number id) id is.streams.conn.machine.came opens.answers (is.in_step id).owes some);
       turn = gives.turn ∙ ap (λ (s : Spans). s.turn) opens.spans ∙ (is.in_step id).turn;
+      malformed = gives.malformed ∙ ap (λ (s : Spans). s.malformed) opens.spans
+          ∙ (is.in_step id).malformed;
     }))
     (λ some. active_by_open _ values end.log said.message.head ends id
     is.streams.conn.machine.came opens.answers)
@@ -214,7 +217,7 @@ module _ (values : Values) (old answered given : End) (end : EndLog) (id : ℕ) 
       stepped_but values old given end act Done id (Some (given_stream outgoing stream))
       after.accepted is answers.answers streams keeps
       (λ i within. gives.more i (rw answers.spans within)) (rw answers.spans at gives.owing)
-      (rw answers.spans at gives.turn)
+      (rw answers.spans at gives.turn) (rw answers.spans at gives.malformed)
       (λ i other same. cc) (λ i other. fields_keep i id said.message.head ends other)
       (record {
         all = λ up alive none. cc;
@@ -222,6 +225,8 @@ module _ (values : Values) (old answered given : End) (end : EndLog) (id : ℕ) 
         within = within_given given.spans.waiting id outgoing stream gives.here;
         owes = λ some. rw (gives.owing, answers.spans) (before.owes some);
         turn = gives.turn ∙ ap (λ (s : Spans). s.turn) answers.spans ∙ before.turn;
+        malformed = gives.malformed ∙ ap (λ (s : Spans). s.malformed) answers.spans
+            ∙ before.malformed;
       })
 
   -- Where the head does not end it, the stream is active still.

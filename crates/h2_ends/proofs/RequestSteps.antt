@@ -17,15 +17,16 @@ use Rattle.h2_ends.specs.declared.outgoing.Outgoing.TheVariants as outgoings
 -- What is in a span is in a wider one.
 wider : (spans more : Spans) (stream : Option Stream) (happened : EndLog) (i : ℕ)
     → (InSpan spans.waiting i → InSpan more.waiting i) → more.owing ≡ spans.owing
-    → more.turn ≡ spans.turn
+    → more.turn ≡ spans.turn → more.malformed ≡ spans.malformed
     → IsInStep spans stream happened i → IsInStep more stream happened i
-wider spans more stream happened i grows same turn is =
+wider spans more stream happened i grows same turn malformed is =
     record {
       all = is.all;
       handed = is.handed;
       within = λ waiting waits. grows (is.within waiting waits);
       owes = rw same is.owes;
       turn = turn ∙ is.turn;
+      malformed = malformed ∙ is.malformed;
     }
 
 -- A call that opens and closes no stream but one leaves the others in step, and active.
@@ -36,18 +37,19 @@ pub stepped_but : (values : Values) (end new : End) (happened : EndLog) (act : A
     → KeepsOne end new id stream
     → ((i : ℕ) → InSpan end.spans.waiting i → InSpan new.spans.waiting i)
     → new.spans.owing ≡ end.spans.owing → new.spans.turn ≡ end.spans.turn
+    → new.spans.malformed ≡ end.spans.malformed
     → ((i : ℕ) → i ≢ id → answer ≢ Number i)
     → ((i : ℕ) → i ≢ id → call_may_close i act answer ≡ false)
     → IsInStep new.spans stream (called_end happened act answer accepted) id
     → RepresentsBut values new (called_end happened act answer accepted) id
 stepped_but values end new happened act answer id stream accepted is may streams keeps more owing
-    turn opens closes one =
+    turn malformed opens closes one =
     record {
       streams = streams;
       in_step = λ i. elim (cases_eq i id) [
         | inl here ↦ rw (here, keeps.one) one
         | inr other ↦ rw (keeps.others i other) (wider end.spans new.spans (kept end i)
-            (called_end happened act answer accepted) i (more i) owing turn
+            (called_end happened act answer accepted) i (more i) owing turn malformed
             (in_step_called _ values end.spans (kept end i) happened act answer accepted i
             is.streams.conn.machine.came may (opens i other) (is.in_step i)))
       ];

@@ -83,7 +83,7 @@ module _ (values : Values) (old new : End) (end : EndLog) (act : Act) (answer : 
       (is.in_step id) in
       stepped_but values old new end act answer id (Some given) end.accepted is called.may streams
       called.keeps (λ i within. rw called.spans within) (rw called.spans refl)
-      (rw called.spans refl) (λ i other. called.opens i) called.closes
+      (rw called.spans refl) (rw called.spans refl) (λ i other. called.opens i) called.closes
       (record {
         all = λ up alive none. cc;
         handed = before.handed;
@@ -91,6 +91,7 @@ module _ (values : Values) (old new : End) (end : EndLog) (act : Act) (answer : 
             (ap outgoing_in called.here ∙ called.outgoing));
         owes = rw called.spans before.owes;
         turn = rw called.spans before.turn;
+        malformed = rw called.spans before.malformed;
       })
 
   -- Where the call does not close it, the end represents all of it.

@@ -1,6 +1,6 @@
 -- What an end hands out of what its connection has reported.
 use Rattle.h2_ends.proofs.Names
-use Names.{◌≡◌, ℕ, Bool, true, false, List, [], Some, None, refl, sym, ap, ◌∙◌, both_ways, eq-eqb}
+use Names.{◌≡◌, ℕ, Bool, true, false, List, [], Option, Some, None, refl, sym, ap, ◌∙◌, both_ways, eq-eqb}
 use Names.{Field, InternalError, Server, Values, Answer, Refuse, Event, FieldsEvent, DataEvent}
 use Names.{ResetEvent, Log, MayAnswer, with_call, MayTake, Took, fields_in_use, data_in_use}
 use Names.{log_after_take, Place, Part, FieldsPart, OctetsPart, End, EndLog, Handed, BodyHanded}
@@ -9,7 +9,10 @@ use Names.{end_with_handed, passes, hands_out, refusal_fails, Span, EndRepresent
 use Names.{MustRefuse, HasReported, code_unread, tokens_of_event, reads_on, handed_as, handed_at}
 use Names.{part_of_event, tokens_of_part, ReadsFields, ReadsData, AnswersRefusal, take_has_fields}
 use Names.{take_has_data, take_may_close, event_may_close, Ok, Err, Result, IfOk, LocatedPart}
-use Rattle.h2_ends.specs.EndTakes.{EndMayTake, refuses, runs_out_of_memory}
+use Rattle.h2_ends.specs.EndTakes.{EndMayTake, refuses, runs_out_of_memory, with_malformed}
+use Rattle.h2_ends.specs.EndTakes.{rule_broken}
+use Rattle.h2_ends.specs.Taking.{refused_last, with_unread}
+use Rattle.h2_message.specs.declared.malformed.Malformed.{Malformed}
 use Rattle.h2_ends.specs.Loans.{handed_value, BodyLiesIn, located_at}
 use Rattle.h2_ends.specs.Taking.{IsRead, IsResetBy, answer_of_report}
 use Rattle.h2_conn.specs.declared.taken.ConnFault.{ConnFault}
@@ -88,6 +91,11 @@ goes_before : (end : EndLog) (log : Log) (id : ℕ) (part : Part × Bool)
     → IsReadableWith (end_with_log end log) id part → IsReadableWith end id part
 goes_before end log id part same goes = rw same at goes
 
+broken_before : (end : EndLog) (log : Log) (id : ℕ) (part : Part × Bool) (rule : Option Malformed)
+    → reads_on (end_with_log end log) id ≡ reads_on end id
+    → rule ≡ rule_broken (end_with_log end log) id part → rule ≡ rule_broken end id part
+broken_before end log id part rule same broken = rw same at broken
+
 goes_after : (end : EndLog) (log : Log) (id : ℕ) (part : Part × Bool)
     → reads_on (end_with_log end log) id ≡ reads_on end id
     → IsReadableWith end id part → IsReadableWith (end_with_log end log) id part
@@ -120,30 +128,38 @@ up_after log after piece count event may =
 module _ (values : Values) (now new : End) (end : EndLog) (piece : List ℕ) (count : ℕ) where
   -- One of a part that can't be read is refused.
   pub part_refused : (event : Event) (log : Log) (id : ℕ) (part : Part × Bool) (list : List Field)
-      (octets : List ℕ) (one : Answer) (result : Result LocatedPart ConnFault)
+      (octets : List ℕ) (rule : Option Malformed) (one : Answer)
+      (result : Result LocatedPart ConnFault)
       → HasReported values now end piece count event log → part_of_event event ≡ Some (id, part)
-      → (IsReadableWith (end_with_log end log) id part → ⊥) → MayAnswer log (Refuse id 1) one
-      → AnswersRefusal values (end_with_log (end_with_log end log)
-      (with_call log (Refuse id 1) one)) result new
+      → (IsReadableWith (end_with_log end log) id part → ⊥)
+      → rule ≡ rule_broken (end_with_log end log) id part → MayAnswer log (Refuse id 1) one
+      → AnswersRefusal values (with_malformed (end_with_log end (with_call log (Refuse id 1) one))
+      id rule) result new
       → IsResetBy id 1 result
       → Hands values end piece (answer_of_report list octets count result) new
   unfolding AnswersRefusal
-  part_refused event log id part list octets one (Ok handed) reported of stops may answers is =
+  part_refused event log id part list octets rule one (Ok handed) reported of stops broken may
+      answers is =
       let same = reads_after values now end piece count event log id reported in
-      let after = with_call log (Refuse id 1) one in (
-        end_with_handed end after (Passed (ResetEvent id 1 true)),
+      let breaks = broken_before end log id part rule same broken in
+      let after = with_call log (Refuse id 1) one in
+      let all = end_with_handed end after (Passed (ResetEvent id 1 true)) in (
+        with_malformed all id rule,
         refuses count event log reported.took id part of
             (λ goes. stops (goes_after end log id part same goes)) one may answers.0 (rw is refl)
-            refl,
-        passed_over values new (end_with_log end after) (ResetEvent id 1 true) answers.1,
+            (ap (with_malformed all id) breaks),
+        passed_over values new (with_malformed (end_with_log end after) id rule)
+            (ResetEvent id 1 true) answers.1,
       )
-  part_refused event log id part list octets one (Err fault) reported of stops may answers is =
+  part_refused event log id part list octets rule one (Err fault) reported of stops broken may
+      answers is =
       let same = reads_after values now end piece count event log id reported in
+      let breaks = broken_before end log id part rule same broken in
       let after = with_call log (Refuse id 1) one in (
-        end_with_log end after,
+        with_malformed (end_with_log end after) id rule,
         refusal_fails count event log reported.took id part of
             (λ goes. stops (goes_after end log id part same goes)) one may fault.code answers.0
-            refl refl,
+            refl (ap (with_malformed (end_with_log end after) id) breaks),
         answers.1,
       )
 
@@ -153,8 +169,7 @@ module _ (values : Values) (now new : End) (end : EndLog) (piece : List ℕ) (co
       → HasReported values now end piece count (FieldsEvent id list last) log
       → IsReadableWith (end_with_log end log) id (FieldsPart list, last) → log.role ≡ Server
       → parts_on id end.handed ≡ [] → MayAnswer log (Refuse id 2) one
-      → AnswersRefusal values (end_with_log (end_with_log end log)
-      (with_call log (Refuse id 2) one)) result new
+      → AnswersRefusal values (end_with_log end (with_call log (Refuse id 2) one)) result new
       → Hands values end piece (answer_of_report fields octets count result) new
   unfolding AnswersRefusal
   part_lacks id list last log fields octets one (Ok handed) reported goes server none may answers =
@@ -236,16 +251,17 @@ pub fields_not_handed : (values : Values) (now mid new : End) (end : EndLog) (pi
     → (MustRefuse values mid (end_with_log end log) id
     → (one : Answer) × MayAnswer log (Refuse id (code_unread unread)) one
     × AnswersRefusal values
-    (end_with_log (end_with_log end log) (with_call log (Refuse id (code_unread unread)) one))
-    result new)
+    (end_with_log (with_unread (end_with_log end log) id unread)
+    (with_call log (Refuse id (code_unread unread)) one)) result new)
     → IsResetBy id (code_unread unread) result
     → Hands values end piece (answer_of_report fields octets count result) new
-unfolding ReadsFields part_of_event
-fields_not_handed values now mid new end piece count id list last unreads.Malformed log fields
-    octets result reported read refuses_it is =
-    let made = refuses_it read.1 in
+unfolding ReadsFields part_of_event refused_last
+fields_not_handed values now mid new end piece count id list last (unreads.Malformed rule) log
+    fields octets result reported read refuses_it is =
+    let made = refuses_it read.0.1 in
     part_refused values now new end piece count (FieldsEvent id list last) log id
-    (FieldsPart list, last) fields octets made.0 result reported refl read.0 made.1 made.2 is
+    (FieldsPart list, last) fields octets rule made.0 result reported refl read.0.0 read.1 made.1
+    made.2 is
 fields_not_handed values now mid new end piece count id list last unreads.OutOfMemory log fields
     octets result reported read refuses_it is =
     let made = refuses_it read.1 in
@@ -256,7 +272,7 @@ fields_not_handed values now mid new end piece count id list last unreads.OutOfM
 pub data_handed : (values : Values) (now new : End) (end : EndLog) (piece : List ℕ)
     (count id : ℕ) (octets : List ℕ) (flow : ℕ) (last : Bool) (log : Log)
     → HasReported values now end piece count (DataEvent id octets flow last) log
-    → ReadsData values (end_with_log end log) id octets last true new
+    → ReadsData values (end_with_log end log) id octets last (Ok tt) new
     → Hands values end piece (EndTook count (Some (BodyHanded id octets last))) new
 unfolding ReadsData handed_as part_of_event
 data_handed values now new end piece count id octets flow last log reported read =
@@ -265,22 +281,26 @@ data_handed values now new end piece count id octets flow last log reported read
 
 -- Those that weren't are refused.
 pub data_not_handed : (values : Values) (now mid new : End) (end : EndLog) (piece : List ℕ)
-    (count id : ℕ) (body : List ℕ) (flow : ℕ) (last : Bool) (log : Log)
+    (count id : ℕ) (body : List ℕ) (flow : ℕ) (last : Bool) (unread : Unread) (log : Log)
     (fields : List Field) (octets : List ℕ) (result : Result LocatedPart ConnFault)
     → HasReported values now end piece count (DataEvent id body flow last) log
-    → ReadsData values (end_with_log end log) id body last false mid
+    → ReadsData values (end_with_log end log) id body last (Err unread) mid
     → (MustRefuse values mid (end_with_log end log) id
-    → (one : Answer) × MayAnswer log (Refuse id 1) one
+    → (one : Answer) × MayAnswer log (Refuse id (code_unread unread)) one
     × AnswersRefusal values
-    (end_with_log (end_with_log end log) (with_call log (Refuse id 1) one)) result new)
-    → IsResetBy id 1 result
+    (end_with_log (with_unread (end_with_log end log) id unread)
+    (with_call log (Refuse id (code_unread unread)) one)) result new)
+    → IsResetBy id (code_unread unread) result
     → Hands values end piece (answer_of_report fields octets count result) new
-unfolding ReadsData part_of_event
-data_not_handed values now mid new end piece count id body flow last log fields octets result
-    reported read refuses_it is =
-    let made = refuses_it read.1 in
+unfolding ReadsData part_of_event refused_last
+data_not_handed values now mid new end piece count id body flow last (unreads.Malformed rule) log
+    fields octets result reported read refuses_it is =
+    let made = refuses_it read.0.1 in
     part_refused values now new end piece count (DataEvent id body flow last) log id
-    (OctetsPart body, last) fields octets made.0 result reported refl read.0 made.1 made.2 is
+    (OctetsPart body, last) fields octets rule made.0 result reported refl read.0.0 read.1 made.1
+    made.2 is
+data_not_handed values now mid new end piece count id body flow last unreads.OutOfMemory log
+    fields octets result reported read refuses_it is = absurd read
 
 -- Where a stream was reset nothing is lent.
 pub reset_lies : (end : End) (piece : List ℕ) (id code : ℕ) (result : Result LocatedPart ConnFault)

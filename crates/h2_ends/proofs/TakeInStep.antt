@@ -160,6 +160,7 @@ module _ (values : Values) (now : End) (end : EndLog) (piece : List ℕ) (count 
           within = (reported.in_step i).within;
           owes = λ some. more i ((reported.in_step i).owes some);
           turn = (reported.in_step i).turn;
+          malformed = (reported.in_step i).malformed;
         };
         active = reported.active;
       }
@@ -191,6 +192,7 @@ module _ (values : Values) (now : End) (end : EndLog) (piece : List ℕ) (count 
           within = (reported.in_step id).within;
           owes = owes;
           turn = (reported.in_step id).turn;
+          malformed = (reported.in_step id).malformed;
         };
         kept = kept_still (IsOver end.log id) _ of.0 (reported.kept id);
         was_used = of.1;
@@ -226,6 +228,7 @@ in_step_here values end happened id part stream handed is here outgoing =
       within = λ waiting waits. is.others.within waiting (sym outgoing ∙ waits);
       owes = is.others.owes;
       turn = is.others.turn;
+      malformed = is.others.malformed;
     }
 
 -- A part that a reading has taken is handed out, and only of its stream something may be kept that

@@ -8,7 +8,11 @@ use Names.{RepresentsMessages, RepresentsBut, IsStream, IsUntouched, KeepsActive
 use Names.{outgoing_in, IsReadOn, MustRefuse, end_with_part, KeepsOne, reads_on, asked_head, IsKept}
 use Names.{ReadsFields, ReadsData, reads_of_new, Ok, Err, IsReadable, place_after}
 use Rattle.h2_message.specs.Reading.{trailers_parts, ended, message_parts, final_parts}
-use Rattle.h2_message.specs.Phases.{FollowsFields, FollowsData}
+use Rattle.h2_message.specs.Phases.{FollowsFields, FollowsData, phase_after_all}
+use Rattle.h2_message.specs.Broken.{broken_after, broken_in, rules_of_part}
+use Rattle.h2_message.specs.Messages.{first_broken}
+use Rattle.h2_message.specs.declared.malformed.Malformed.{Malformed}
+use Rattle.h2_message.specs.declared.malformed.Malformed.TheVariants.{BadOrder}
 use Rattle.std.proofs.Common.{map as each}
 use Rattle.h2_ends.proofs.EndSteps.{kept}
 use Rattle.h2_ends.proofs.InSteps.{represents_all}
@@ -54,6 +58,7 @@ must_refuse values end new happened id part is conn role waiting alike =
         within = rw (alike id, waiting) is.others.within;
         owes = rw waiting is.others.owes;
         turn = rw waiting is.others.turn;
+        malformed = rw waiting is.others.malformed;
       };
       was_used = is.was_used;
       prefix = (tokens_of_part part, is.heard);
@@ -118,16 +123,20 @@ module _ (values : Values) (end new : End) (happened : EndLog) (id : ℕ) (last 
         let more = follows (reads_on happened id) (parts_on id happened.handed) now.reading in
         (part_taken _ is more.0, more.1)
 
-    pub fields_refused : (list : List Field)
+    pub fields_refused : (list : List Field) (rule : Option Malformed)
         → IsReadOn values end happened id (FieldsPart list, last)
         → ((reads : Reads) (parts : List (Part × Bool)) → Follows reads parts stream.reading
         → FollowsFields reads parts list last None stream.reading reading)
-        → ReadsFields values happened id list last (Err unreads.Malformed) new
+        → ((reads : Reads) (parts : List (Part × Bool)) → Follows reads parts reading
+        → rule ≡ broken_after reads parts (FieldsPart list, last))
+        → ReadsFields values happened id list last (Err (unreads.Malformed rule)) new
     unfolding ReadsFields FollowsFields
-    fields_refused list is follows =
+    fields_refused list rule is follows named =
+        let reads = reads_on happened id in
+        let parts = parts_on id happened.handed in
         let now = stream_of values end happened id _ stream is found in
-        let more = follows (reads_on happened id) (parts_on id happened.handed) now.reading in
-        (more.0, part_refused _ is more.1)
+        let more = follows reads parts now.reading in
+        ((more.0, part_refused _ is more.1), named reads parts (rw more.1 now.reading))
 
     -- and with octets of a body.
     pub data_taken : (octets : List ℕ) → IsReadOn values end happened id (OctetsPart octets, last)
@@ -139,15 +148,20 @@ module _ (values : Values) (end new : End) (happened : EndLog) (id : ℕ) (last 
         let now = stream_of values end happened id _ stream is found in
         part_taken _ is (follows (reads_on happened id) (parts_on id happened.handed) now.reading)
 
-    pub data_refused : (octets : List ℕ) → IsReadOn values end happened id (OctetsPart octets, last)
+    pub data_refused : (octets : List ℕ) (rule : Option Malformed)
+        → IsReadOn values end happened id (OctetsPart octets, last)
         → ((reads : Reads) (parts : List (Part × Bool)) → Follows reads parts stream.reading
         → FollowsData reads parts octets last false stream.reading reading)
-        → ReadsData values happened id octets last false new
+        → ((reads : Reads) (parts : List (Part × Bool)) → Follows reads parts reading
+        → rule ≡ broken_after reads parts (OctetsPart octets, last))
+        → ReadsData values happened id octets last (Err (unreads.Malformed rule)) new
     unfolding ReadsData FollowsData
-    data_refused octets is follows =
+    data_refused octets rule is follows named =
+        let reads = reads_on happened id in
+        let parts = parts_on id happened.handed in
         let now = stream_of values end happened id _ stream is found in
-        let more = follows (reads_on happened id) (parts_on id happened.handed) now.reading in
-        (more.0, part_refused _ is more.1)
+        let more = follows reads parts now.reading in
+        ((more.0, part_refused _ is more.1), named reads parts (rw more.1 now.reading))
 
 -- What is read on a stream on which nothing has happened.
 reads_by : (role : Role) (given : Option Said) → given ≡ None
@@ -205,14 +219,20 @@ module _ (values : Values) (end : End) (happened : EndLog) (id : ℕ) (list : Li
         more.1,
       )
 
-  pub first_refused : ReadsFirst None
-      → ReadsFields values happened id list last (Err unreads.Malformed) end
+  pub first_refused : (rule : Option Malformed) → ReadsFirst None
+      → ((reads : Reads) (parts : List (Part × Bool)) → Follows reads parts reading
+      → rule ≡ broken_after reads parts (FieldsPart list, last))
+      → ReadsFields values happened id list last (Err (unreads.Malformed rule)) end
   unfolding ReadsFields FollowsFields
-  first_refused follows =
+  first_refused rule follows named =
       let part : Part × Bool = (FieldsPart list, last) in
+      let reads = reads_on happened id in
+      let parts = parts_on id happened.handed in
       let now = follows_first values end happened id part old is found start in
-      let more = follows (reads_on happened id) (parts_on id happened.handed) now in
-      (more.0, must_refuse values end end happened id part is refl refl refl (λ i. refl))
+      let more = follows reads parts now in (
+        (more.0, must_refuse values end end happened id part is refl refl refl (λ i. refl)),
+        named reads parts (rw more.1 now),
+      )
 
   -- Memory was refused to a field block that could be read.
   pub first_lacks : (new : End) (place : Place) → ReadsFirst (Some place)
@@ -266,11 +286,14 @@ no_data_first reads octets last is =
 pub first_data : (values : Values) (end : End) (happened : EndLog) (id : ℕ)
     (octets : List ℕ) (last : Bool)
     → IsReadOn values end happened id (OctetsPart octets, last) → kept end id ≡ None
-    → ReadsData values happened id octets last false end
-unfolding ReadsData
+    → ReadsData values happened id octets last (Err (unreads.Malformed (Some BadOrder))) end
+unfolding ReadsData broken_in rules_of_part first_broken phase_after_all
 first_data values end happened id octets last is found =
     let part : Part × Bool = (OctetsPart octets, last) in
     let none = untouched values end happened id part is found in (
-      λ goes. no_data_first (reads_on happened id) octets last (rw none.unread at goes),
-      must_refuse values end end happened id part is refl refl refl (λ i. refl),
+      (
+        λ goes. no_data_first (reads_on happened id) octets last (rw none.unread at goes),
+        must_refuse values end end happened id part is refl refl refl (λ i. refl),
+      ),
+      rw none.unread refl,
     )

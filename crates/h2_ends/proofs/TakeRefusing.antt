@@ -1,6 +1,8 @@
 -- A stream that is refused at an end, and what the connection is then.
+use Rattle.h2_ends.specs.declared.taking.Unread.{Unread}
+use Rattle.h2_ends.specs.Taking.{refused_last as last_after, with_unread}
 use Rattle.h2_ends.proofs.Names
-use Names.{◌≡◌, ◌≢◌, ◌⊎◌, ℕ, true, false, Option, Some, None, ◌∷◌, List, arith, inl, inr, refl}
+use Names.{◌≡◌, ◌≢◌, ◌⊎◌, ℕ, true, false, Option, Some, None, ◌∷◌, List, arith, inl, inr, refl, ap}
 use Names.{both_ways, cases_eq, Code, InternalError, Values, Act, Answer, Refuse, Number, Count}
 use Names.{Done, Refused, Log, log_view, MayAnswer, accepts, lacks, grows_call, IsOver}
 use Names.{is_number_used, used_by_call, tokens_heard, IsPrefixOfTokens, call_calls, End, EndLog}
@@ -10,8 +12,8 @@ use Rattle.h2_spec_log.specs.CallRules.{first_of, conditions, refuse_fault, may_
 use Rattle.h2_laws_end.proofs.ActivityCalls.{inactive_by_refusal}
 use Rattle.h2_conn.specs.Conn.{ConnShows}
 use Rattle.h2_ends.proofs.EndTokens.{no_part_tokens}
-use Rattle.h2_ends.proofs.EndSteps.{kept, quiet_call}
-use Rattle.h2_ends.proofs.InSteps.{in_step_called, active_called, owes_called}
+use Rattle.h2_ends.proofs.EndSteps.{kept, quiet_call, all_same}
+use Rattle.h2_ends.proofs.InSteps.{in_step_called, active_called, owes_called, handed_by}
 use Rattle.h2_ends.proofs.TakeInStep.{differs}
 
 -- A refusal opens no stream.
@@ -83,6 +85,49 @@ refused_in_step values old id code one end is may =
       owes = owes_called _ values old.spans.owing end.log (Refuse id code) one id
           is.streams.conn.machine.came may is.others.owes;
       turn = is.others.turn;
+      malformed = is.others.malformed;
+    }
+
+-- An end that keeps for which cause it refuses the stream.
+abbrev pub end_unread : End → ℕ → Unread → End
+end_unread end id unread =
+    record end {
+      spans = record end.spans { malformed = last_after id unread end.spans.malformed };
+    }
+
+pub kept_unread : (values : Values) (old : End) (id : ℕ) (unread : Unread) (end : EndLog)
+    → MustRefuse values old end id
+    → MustRefuse values (end_unread old id unread) (with_unread end id unread) id
+kept_unread values old id unread end is =
+    let after = with_unread end id unread in
+    let last = λ (i : ℕ) (other : i ≢ id). ap (last_after id unread)
+    (is.others.others i other).malformed in
+    record {
+      streams = all_same values old (end_unread old id unread) end after is.streams is.streams.conn
+          refl refl (λ i past. past) (λ i. record {
+            handed = refl;
+            accepted = refl;
+            sent = refl;
+            role = refl;
+            used_still = λ was. was;
+          });
+      others = record {
+        others = λ i other. record {
+          all = (is.others.others i other).all;
+          handed = handed_by end after i refl refl (is.others.others i other).handed;
+          within = (is.others.others i other).within;
+          owes = (is.others.others i other).owes;
+          turn = (is.others.others i other).turn;
+          malformed = last i other;
+        };
+        active = is.others.active;
+        within = is.others.within;
+        owes = is.others.owes;
+        turn = is.others.turn;
+        malformed = ap (last_after id unread) is.others.malformed;
+      };
+      was_used = is.was_used;
+      prefix = is.prefix;
     }
 
 -- The end represents what has happened with the refusal, but for what is kept of that stream.

@@ -4,11 +4,11 @@ use Names.{◌==◌, ltb-true, and_parts, false, ◌⊎◌, ◌≡◌, ◌≢◌
 use Names.{◌∷◌, ◌++◌, length, Option}
 use Names.{refl, sym, ◌∙◌, arith, cases_eq, both_ways, and_from, Field, Count, MayAnswer}
 use Names.{BodyWaits, EndLog, Token, FieldsToken, OctetToken, EndToken}
-use Rattle.std.specs.Prelude.{take, ◌&&◌, nat_le, nat_lt, min, max, if◌then◌else◌}
+use Rattle.std.specs.Prelude.{take, ◌&&◌, nat_le, nat_lt, min, if◌then◌else◌}
 use Rattle.std.proofs.Common.{map as each, length-take}
 use Rattle.h2_ends.specs.Passes.{Halt, Shares, share_act, shares_octets, shares_some}
 use Rattle.h2_ends.specs.Passes.{share_is_cut, shares_rest, shares_trailers, octets_refused}
-use Rattle.h2_ends.specs.Passes.{list_refused, share_size}
+use Rattle.h2_ends.specs.Passes.{list_refused, share_most, share_size}
 use Rattle.h2_ends.specs.declared.span.Turn.{Turn}
 use Rattle.h2_ends.specs.Turns.{HasRoomFor, IsNotStopped}
 use Rattle.h2_ends.proofs.PumpWindows.{none_without_room}
@@ -42,7 +42,7 @@ module _ (turn : Turn) (most id : ℕ) (end : EndLog) (room : HasRoomFor end id)
   some_size = by_rest (id == turn.id && nat_lt 0 turn.rest) refl
     where
       by_rest : (b : Bool) → (id == turn.id && nat_lt 0 turn.rest) ≡ b
-          → 0 < (if b then min turn.rest (max most 1) else max most 1)
+          → 0 < (if b then min turn.rest (share_most most) else share_most most)
       by_rest true is =
           let some = ltb-true 0 turn.rest (and_parts _ _ is).1 in omega (arith, some)
       by_rest false is = omega arith

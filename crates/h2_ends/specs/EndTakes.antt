@@ -1,6 +1,6 @@
 -- What a call of `take` may answer at a client or a server, and what has happened after it (RFC
 -- 9113, sections 8.1 and 8.1.1).
-use Rattle.std.specs.Prelude.{◌≡◌, ℕ, Bool, true, List, [], ◌∷◌, ◌++◌, Some, None}
+use Rattle.std.specs.Prelude.{◌≡◌, ℕ, Bool, true, List, [], ◌∷◌, ◌++◌, Option, Some, None}
 use Rattle.hpack.specs.declared.types.field.Field.{Field}
 use Rattle.h2_frame.specs.declared.code.Code.{Code}
 use Rattle.h2_frame.specs.declared.code.Code.TheVariants.{InternalError}
@@ -11,6 +11,8 @@ use Rattle.h2_spec_log.specs.Log.{Log}
 use Rattle.h2_spec_log.specs.LogCalls.{MayAnswer, with_call}
 use Rattle.h2_laws_end.specs.Promises.{NeedsNoMemory}
 use Rattle.h2_laws_end.specs.Takes.{MayTake, Took, Failed}
+use Rattle.h2_message.specs.declared.malformed.Malformed.{Malformed}
+use Rattle.h2_message.specs.Broken.{broken_after}
 use Rattle.h2_message.specs.Reading.{Part, FieldsPart, OctetsPart, IsReadable}
 use Rattle.h2_ends.specs.Ends.{EndLog, Handed, Passed, EndAnswer, EndTook, EndFailed, parts_on}
 use Rattle.h2_ends.specs.Ends.{reads_on, part_of_event, handed_as}
@@ -23,6 +25,20 @@ end_with_log end log = record end { log = log }
 abbrev pub end_with_handed : EndLog → Log → Handed → EndLog
 end_with_handed end log handed = record end { log = log; handed = handed ∷ end.handed }
 
+-- a rule with the stream on which it is broken
+unfoldable pub named_on : ℕ → Option Malformed → Option (ℕ × Malformed)
+named_on id None = None
+named_on id (Some rule) = Some (id, rule)
+
+-- the end once a part was refused on a stream, for this rule
+abbrev pub with_malformed : EndLog → ℕ → Option Malformed → EndLog
+with_malformed end id rule = record end { malformed = named_on id rule }
+
+-- the rule that a part breaks after what was handed out of its stream, the least one of several
+-- rule: 8.1.1 (own) A part that is refused breaks a rule, the least of which is named
+abbrev pub rule_broken : EndLog → ℕ → (Part × Bool) → Option Malformed
+rule_broken end id part = broken_after (reads_on end id) (parts_on id end.handed) part
+
 -- What was read of a stream, with one part more, begins a message that breaks no rule.
 -- rule: 8.1.1 A malformed message is a stream error PROTOCOL_ERROR
 abbrev pub IsReadableWith : EndLog → ℕ → (Part × Bool) → Type 0
@@ -32,7 +48,7 @@ IsReadableWith end id part = IsReadable (reads_on end id) (parts_on id end.hande
 -- what was read of the stream with it begins a message that breaks no rule. Else the stream is
 -- refused with PROTOCOL_ERROR, and the answer is that this end has reset it (which the last octet
 -- of the part may have closed already: then no RST_STREAM is sent); or the connection has failed.
--- At a server the first field block of a stream takes memory, and where that is refused the
+-- The rule that the part breaks is kept. At a server the first field block of a stream takes memory, and where that is refused the
 -- connection fails.
 -- rule: 8.1.1 A malformed message is a stream error PROTOCOL_ERROR
 -- rule: 8.1.1 (own) How the connection takes a refusal is what is answered
@@ -66,8 +82,8 @@ pub data EndMayTake (end : EndLog) (piece : List ℕ) (answer : EndAnswer) (afte
         → MayAnswer log (Refuse id 1) refused
         → (with_call log (Refuse id 1) refused).failed ≡ None
         → answer ≡ EndTook count (Some (Passed (ResetEvent id 1 true)))
-        → after ≡ end_with_handed end (with_call log (Refuse id 1) refused)
-        (Passed (ResetEvent id 1 true))
+        → after ≡ with_malformed (end_with_handed end (with_call log (Refuse id 1) refused)
+        (Passed (ResetEvent id 1 true))) id (rule_broken end id part)
         → EndMayTake end piece answer after
     refusal_fails : (count : ℕ) (event : Event) (log : Log)
         → MayTake end.log piece (Took count (Some event)) log
@@ -75,7 +91,8 @@ pub data EndMayTake (end : EndLog) (piece : List ℕ) (answer : EndAnswer) (afte
         → (IsReadableWith end id part → ⊥) → (refused : Answer)
         → MayAnswer log (Refuse id 1) refused → (code : Code)
         → (with_call log (Refuse id 1) refused).failed ≡ Some code → answer ≡ EndFailed code
-        → after ≡ end_with_log end (with_call log (Refuse id 1) refused)
+        → after ≡ with_malformed (end_with_log end (with_call log (Refuse id 1) refused)) id
+        (rule_broken end id part)
         → EndMayTake end piece answer after
     runs_out_of_memory : (count id : ℕ) (list : List Field) (ends : Bool) (log : Log)
         → MayTake end.log piece (Took count (Some (FieldsEvent id list ends))) log

@@ -7,6 +7,7 @@ use Rattle.h2_frame.specs.declared.code.Code.{Code}
 use Rattle.h2_spec_log.specs.Events.{Event, FieldsEvent, DataEvent}
 use Rattle.h2_spec_log.specs.Settings.{is_server}
 use Rattle.h2_spec_log.specs.Log.{Log}
+use Rattle.h2_message.specs.declared.malformed.Malformed.{Malformed}
 use Rattle.h2_message.specs.declared.reading.Reads.{Reads}
 use Rattle.h2_message.specs.declared.reading.Reads.TheVariants.{Requests, Responses}
 use Rattle.h2_message.specs.declared.reading.Place.{Place}
@@ -40,6 +41,8 @@ pub record EndLog : Type 0 where
   pub handed : List Handed
   -- with which stream the next pass of `pump_some` begins, and what that has left of its share
   pub turn : Turn
+  -- the stream of the part that was refused last, and the rule that it breaks
+  pub malformed : Option (ℕ × Malformed)
 
 -- what was accepted for a stream
 unfoldable pub said_for : ℕ → List (ℕ × Said) → Option Said

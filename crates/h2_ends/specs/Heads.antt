@@ -62,6 +62,7 @@ pub record IsGiven (old : End) (id : ℕ) (outgoing : Outgoing) (new : End) : Ty
       → InSpan new.spans.waiting id
   pub owing : new.spans.owing ≡ old.spans.owing
   pub turn : new.spans.turn ≡ old.spans.turn
+  pub malformed : new.spans.malformed ≡ old.spans.malformed
 
 -- The head of a request was sent on a new stream, of which nothing else is kept.
 pub record IsOpened (values : Values) (end : EndLog) (said : Said) (old : End) (id : ℕ)

@@ -35,10 +35,16 @@ abbrev pub sizes_by : Turn → (most : ℕ) → ℕ → ℕ
 sizes_by turn most i =
     if i == turn.id && nat_lt 0 turn.rest then min turn.rest most else most
 
--- the same by what was asked for: at least one octet
+-- how many octets a share has at most by what was asked for: one at least, and no more than fill
+-- the output, so that a share is given in two passes
+-- rule: 8.1 (own) pump_some gives each stream a share, in turn
+abbrev pub share_most : (most : ℕ) → ℕ
+share_most most = max (min most full_output) 1
+
+-- the size of a stream's share by that
 -- rule: 8.1 (own) pump_some gives each stream a share, in turn
 abbrev pub share_size : Turn → (most : ℕ) → ℕ → ℕ
-share_size turn most i = sizes_by turn (max most 1) i
+share_size turn most i = sizes_by turn (share_most most) i
 
 -- the call that hands over a share of what is left of a body: the first octets, so many at most.
 -- The message ends with them where they are all of it and no trailers follow.

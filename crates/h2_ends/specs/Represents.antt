@@ -53,6 +53,7 @@ new_end_log role values =
       accepted = [];
       handed = [];
       turn = record { id = 0; rest = 0 };
+      malformed = None;
     }
 
 -- what is read on a stream of which nothing has happened
@@ -178,7 +179,8 @@ OwesWithin span log i = owed log i ≢ 0 → InSpan span i
 
 -- What is kept of a stream keeps step with what has happened: something is kept where it is active,
 -- as long as the connection is up; parts are handed out in order; where a message waits or
--- something is owed, that is found; and a pass begins where it is to begin.
+-- something is owed, that is found; a pass begins where it is to begin; and the part that was
+-- refused last is known.
 -- rule: 8.1 (own) Something is kept of each active stream, and of no other
 pub record IsInStep (spans : Spans) (stream : Option Stream) (happened : EndLog) (i : ℕ) : Type 0
   where
@@ -187,6 +189,7 @@ pub record IsInStep (spans : Spans) (stream : Option Stream) (happened : EndLog)
     pub within : WaitsWithin spans.waiting stream i
     pub owes : OwesWithin spans.owing happened.log i
     pub turn : spans.turn ≡ happened.turn
+    pub malformed : spans.malformed ≡ happened.malformed
 
 -- Something is kept only where the stream is active.
 -- rule: 8.1 (own) Something is kept of each active stream, and of no other

@@ -1,7 +1,7 @@
 -- How a part of a message is read, and how a stream is refused, at an end whose connection has
 -- taken octets.
-use Rattle.std.specs.Prelude.{◌≡◌, ◌≢◌, ◌⊎◌, ◌++◌, ℕ, Bool, true, false, List, [], Some, None}
-use Rattle.std.specs.Prelude.{IfSome, IsSome, IfOk, Result, Ok, Err}
+use Rattle.std.specs.Prelude.{◌≡◌, ◌≢◌, ◌⊎◌, ◌++◌, ℕ, Bool, true, false, List, [], Option, Some}
+use Rattle.std.specs.Prelude.{None, IfSome, IsSome, IfOk, Result, Ok, Err}
 use Rattle.hpack.specs.declared.types.field.Field.{Field}
 use Rattle.h2_wire.specs.Cutter.{body_at}
 use Rattle.h2_spec_log.specs.declared.role.Role.{Role}
@@ -15,6 +15,7 @@ use Rattle.h2_laws_end.specs.Takes.{MayTake, Took}
 use Rattle.h2_conn.specs.declared.taken.ConnFault.{ConnFault}
 use Rattle.h2_conn.specs.Events.{LocatedEvent, happened_value}
 use Rattle.h2_conn.specs.Loans.{frame_in}
+use Rattle.h2_message.specs.declared.malformed.Malformed.{Malformed}
 use Rattle.h2_message.specs.declared.reading.Place.{Place}
 use Rattle.h2_message.specs.Reading.{Part, FieldsPart, OctetsPart}
 use Rattle.h2_message.specs.Phases.{place_after}
@@ -25,6 +26,7 @@ use Rattle.h2_ends.specs.declared.taking.Unread.{Unread}
 use Rattle.h2_ends.specs.declared.taking.Unread.TheVariants as unreads
 use Rattle.h2_ends.specs.Ends.{EndLog, EndAnswer, EndTook, EndFailed, parts_on, reads_on, handed_as}
 use Rattle.h2_ends.specs.EndTakes.{EndMayTake, IsReadableWith, end_with_log, end_with_handed}
+use Rattle.h2_ends.specs.EndTakes.{named_on, rule_broken}
 use Rattle.h2_ends.specs.EndEvents.{LocatedPart}
 use Rattle.h2_ends.specs.Loans.{handed_value}
 use Rattle.h2_ends.specs.Ends.{tokens_handed, tokens_of_part}
@@ -32,9 +34,8 @@ use Rattle.h2_ends.specs.Represents.{RepresentsMessages, EndRepresents, IsKept, 
 use Rattle.h2_ends.specs.Represents.{KeepsActive, WaitsWithin, OwesWithin}
 
 -- What is kept of all streams but one keeps step with what has happened, and is of active streams;
--- where a message waits on that one, or something is owed, that is found; and a pass begins where
--- it
--- is to begin.
+-- where a message waits on that one, or something is owed, that is found; a pass begins where it is
+-- to begin; and the part that was refused last is known.
 pub record IsInStepBut (end : End) (happened : EndLog) (id : ℕ) : Type 0 where
   pub others : (i : ℕ) → i ≢ id
       → IsInStep end.spans (kept_at i end.streams.entries) happened i
@@ -42,6 +43,7 @@ pub record IsInStepBut (end : End) (happened : EndLog) (id : ℕ) : Type 0 where
   pub within : WaitsWithin end.spans.waiting (kept_at id end.streams.entries) id
   pub owes : OwesWithin end.spans.owing happened.log id
   pub turn : end.spans.turn ≡ happened.turn
+  pub malformed : end.spans.malformed ≡ happened.malformed
 
 -- A part of a message has come on the stream and isn't handed out yet. What is kept of the stream
 -- is so still, also where that part has closed it. Where nothing is kept it is the first part, at a
@@ -87,23 +89,37 @@ unfoldable pub ReadsFields : Values → EndLog → ℕ → List Field → (end :
 ReadsFields values happened id list end (Ok place) new =
     IsRead values happened id (FieldsPart list, end) new
     × (place ≡ place_after (reads_on happened id) (parts_on id happened.handed) list)
-ReadsFields values happened id list end (Err unreads.Malformed) new =
+ReadsFields values happened id list end (Err (unreads.Malformed rule)) new =
     IsNotRead values happened id (FieldsPart list, end) new
+    × (rule ≡ rule_broken happened id (FieldsPart list, end))
 ReadsFields values happened id list end (Err unreads.OutOfMemory) new =
     IsReadableWith happened id (FieldsPart list, end) × MustRefuse values new happened id
     × (happened.log.role ≡ Server) × (parts_on id happened.handed ≡ [])
 
 -- What is made of octets of a body.
-unfoldable pub ReadsData : Values → EndLog → ℕ → List ℕ → (end : Bool) → Bool → End → Type 0
-ReadsData values happened id octets end true new =
+unfoldable pub ReadsData : Values → EndLog → ℕ → List ℕ → (end : Bool)
+    → Result (Unit {0}) Unread → End → Type 0
+ReadsData values happened id octets end (Ok read) new =
     IsRead values happened id (OctetsPart octets, end) new
-ReadsData values happened id octets end false new =
+ReadsData values happened id octets end (Err (unreads.Malformed rule)) new =
     IsNotRead values happened id (OctetsPart octets, end) new
+    × (rule ≡ rule_broken happened id (OctetsPart octets, end))
+ReadsData values happened id octets end (Err unreads.OutOfMemory) new = ⊥
 
 -- the code with which a stream is refused
 abbrev pub code_unread : Unread → ℕ
-code_unread unreads.Malformed = 1
+code_unread (unreads.Malformed rule) = 1
 code_unread unreads.OutOfMemory = 2
+
+-- the part that was refused last, once one was on this stream for this cause
+unfoldable pub refused_last : ℕ → Unread → (before : Option (ℕ × Malformed))
+    → Option (ℕ × Malformed)
+refused_last id (unreads.Malformed rule) before = named_on id rule
+refused_last id unreads.OutOfMemory before = before
+
+-- the end then
+abbrev pub with_unread : EndLog → ℕ → Unread → EndLog
+with_unread end id unread = record end { malformed = refused_last id unread end.malformed }
 
 -- Once the connection was asked to refuse a stream, it is answered whether it has failed.
 unfoldable pub AnswersRefusal : Values → EndLog → Result LocatedPart ConnFault → End → Type 0

@@ -6,12 +6,13 @@ ghost use Rattle.std.specs.Vec.{vec_capacity};
 ghost use Rattle.h2_flow.specs.ConfigValues.{values_of};
 ghost use Rattle.h2_spec_log.specs.declared.role.Role.TheVariants as roles;
 ghost use Rattle.h2_spec_log.specs.Acts.{ResetStream, SendPing, SendGoAway, ChangeSettings, PutOut};
-ghost use Rattle.h2_spec_log.specs.Acts.{Values, Count, Done, Release};
+ghost use Rattle.h2_spec_log.specs.Acts.{Values, Count, Done, Release, Fail};
 ghost use Rattle.h2_spec_log.specs.CallRules.{returns_before_put_out};
 ghost use Rattle.h2_spec_log.specs.Limits.{full_output};
 ghost use Rattle.h2_spec_log.specs.Log.{Log, waiting, reader_next_live};
 ghost use Rattle.h2_spec_log.specs.LogView.{log_view};
 ghost use Rattle.h2_conn.specs.Conn.{ConnRepresents, GivesOut, answer_by};
+ghost use Rattle.h2_conn.specs.Counts.{last_flow};
 ghost use Rattle.h2_message.specs.Values.{message_value};
 ghost use Rattle.h2_ends.specs.Ends.{EndLog};
 ghost use Rattle.h2_ends.specs.EndCalls.{unsent_on};
@@ -23,6 +24,7 @@ ghost use Rattle.h2_ends.specs.Represents.{EndSendsTrailers, EndPumpsSome};
 use crate::end::End;
 use crate::refusal::EndRefusal;
 use h2_conn::{Config, Conn, Refusal};
+use h2_frame::Code;
 use h2_frame::limits::FULL_OUTPUT;
 use h2_message::{Field, Malformed, Message};
 use h2_spec_log::Role;
@@ -155,13 +157,16 @@ impl Client {
     /// Sends a share of what waits on each stream, in turn; answers how many octets of bodies were
     /// sent. It makes one pass over the streams on which something waits, in rising order, from the
     /// one with which it begins to the highest, and then from the lowest. Each gets the least of
-    /// `most` octets (0 counts as 1), what its window and the connection's let through, and what is
-    /// left of its body, whose trailers and end go with its last octet. Where a share is cut short,
-    /// since 65,536 octets wait or the connection's window is used up, the pass ends there, and
-    /// what waits on later streams stays for the next one, which begins with that stream and with
-    /// what is left of its share; otherwise it begins where this one did. So no long body keeps the
-    /// others waiting: between two shares of one stream each other one on which something waited
-    /// gets one. With [`Client::pump`] lower streams go first.
+    /// `most` octets (0 counts as 1, and more than 65,536 as 65,536), what its window and the
+    /// connection's let through, and what is left of its body, whose trailers and end go with its
+    /// last octet, unless the output is full then. Where a share is cut short, since 65,536 octets
+    /// wait or the connection's window is used up, the pass ends there, and what waits on later
+    /// streams stays for the next one, which begins with that stream and with what is left of its
+    /// share; otherwise it begins where this one did. So no long body keeps the others waiting:
+    /// between two shares of one stream, of which one that was cut short and its rest are one, each
+    /// other stream on which something waited gets one. With [`Client::pump`] lower streams go
+    /// first; and where the connection's window is used up, it alone sends trailers on streams
+    /// above one whose body waits.
     ///
     /// # Errors
     ///
@@ -183,6 +188,28 @@ impl Client {
             → result ≡ unsent_on end id }
     {
         self.end.unsent(id)
+    }
+
+    // contract: 8.1.1 (own) A part that is refused breaks a rule, the least of which is named
+    /// Why [`Client::take`] has refused a part of a response last: the stream, and the least rule
+    /// ([`Malformed`], M1 to M12) that the part breaks after what came before it. It is none until
+    /// a part is refused, and stays after the connection has failed. A list that is too large, and
+    /// a fault of a frame, are no such refusals.
+    pub fn last_malformed(&self) -> Option<(u32, Malformed)>
+        ensures { (values : Values) (end : EndLog) → EndRepresents values self.now.end end
+            → result ≡ end.malformed }
+    {
+        self.end.last_malformed()
+    }
+
+    // contract: 6.1 The complete payload of DATA, padding included, counts for windows
+    /// How many octets of the windows the last DATA took, its padding included: after
+    /// [`EndEvent::Body`](crate::EndEvent::Body) what its octets are released with. See [`Conn::last_flow`].
+    pub fn last_flow(&self) -> u32
+        ensures { (values : Values) (log : Log) → ConnRepresents values self.now.end.conn log
+            → result ≡ last_flow log.frames }
+    {
+        self.end.conn.last_flow()
     }
 
     // contract: 6.9 (own) release_all releases what is owed on each active stream
@@ -257,6 +284,18 @@ impl Client {
         self.end.go_away()
     }
 
+    /// Ends the connection with a code of the caller's: see [`Conn::fail`].
+    ///
+    /// # Errors
+    ///
+    /// [`Refusal::Closed`] (C1): the connection has failed before. Nothing has changed.
+    pub fn fail(&mut self, code: Code) -> Result<(), Refusal>
+        ensures { EndAnswers self.old.end (Fail code) (answer_by (λ done. Done) result)
+            self.new.end }
+    {
+        self.end.fail(code)
+    }
+
     /// Changes this end's settings: see [`Conn::change_settings`].
     ///
     /// # Errors
@@ -271,8 +310,9 @@ impl Client {
     }
 
     // contract: calls (own) An end answers of its state, and of little once it has failed
-    /// Whether the output is full: each call that writes a frame is refused
-    /// ([`Refusal::OutputFull`], C7), and `pump` sends nothing, until less than 65,536 octets wait.
+    /// Whether the output is full: each call that writes a frame but `fail` is refused
+    /// ([`Refusal::OutputFull`], C7), and `pump` and `pump_some` send nothing, until less than
+    /// 65,536 octets wait.
     pub fn is_full(&self) -> bool
         ensures { (values : Values) (log : Log) → ConnRepresents values self.now.end.conn log
             → (result ≡ true) ↔ (full_output ≤ waiting log) }

@@ -4,7 +4,7 @@ ghost use Rattle.std.specs.Prelude.{◌≡◌, ◌+◌, ◌≤◌, min, false, v
 ghost use Rattle.std.specs.Prelude.{OnOk};
 ghost use Rattle.std.specs.Vec.{vec_capacity};
 ghost use Rattle.h2_spec_log.specs.Acts.{ResetStream, SendPing, SendGoAway, ChangeSettings, PutOut};
-ghost use Rattle.h2_spec_log.specs.Acts.{Values, Count, Done, Release};
+ghost use Rattle.h2_spec_log.specs.Acts.{Values, Count, Done, Release, Fail};
 ghost use Rattle.h2_spec_log.specs.CallRules.{returns_before_put_out};
 ghost use Rattle.h2_spec_log.specs.Log.{Log, waiting};
 ghost use Rattle.h2_spec_log.specs.LogView.{log_view};
@@ -14,6 +14,7 @@ ghost use Rattle.h2_ends.specs.Represents.{EndAnswers};
 
 use crate::end::End;
 use h2_conn::{Config, Refusal};
+use h2_frame::Code;
 
 impl End {
     // rule: 8.1 (own) The other calls of a client and a server are the connection's
@@ -51,6 +52,14 @@ impl End {
         ensures { EndAnswers self.old SendGoAway (answer_by (λ done. Done) result) self.new }
     {
         self.conn.go_away()
+    }
+
+    // rule: 8.1 (own) The other calls of a client and a server are the connection's
+    /// Ends the connection with a code.
+    pub(crate) fn fail(&mut self, code: Code) -> Result<(), Refusal>
+        ensures { EndAnswers self.old (Fail code) (answer_by (λ done. Done) result) self.new }
+    {
+        self.conn.fail(code)
     }
 
     // rule: 8.1 (own) The other calls of a client and a server are the connection's

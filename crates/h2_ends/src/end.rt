@@ -25,7 +25,8 @@ pub(crate) struct End {
     pub(crate) conn: Conn,
     /// The active streams, by number.
     pub(crate) streams: BTreeMap<u32, Stream>,
-    /// Where a message waits, where octets are owed, and with which stream a pass begins.
+    /// Where a message waits, where octets are owed, with which stream a pass begins, and which
+    /// part of a message was refused last.
     pub(crate) spans: Spans,
 }
 
@@ -49,6 +50,7 @@ impl End {
                 waiting: Span::none(),
                 owing: Span::none(),
                 turn: Turn { id: 0, rest: 0 },
+                malformed: None,
             },
         })
     }

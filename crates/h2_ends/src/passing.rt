@@ -20,7 +20,7 @@ use h2_frame::limits::FULL_OUTPUT;
 /// A pass that is under way.
 #[derive(Debug, Drop)]
 pub(crate) struct Pass {
-    /// How many octets a share has at most, one at least.
+    /// How many octets a share has at most: 1 to 65,536.
     pub(crate) most: usize,
     /// With which stream it began, and how many octets of its share that had left.
     pub(crate) turn: Turn,
@@ -47,8 +47,8 @@ impl Pass {
 
 impl End {
     // rule: 8.1 (own) pump_some gives each stream a share, in turn
-    /// Sends shares of what waits, at most `most` octets of a body a stream, one pass over the
-    /// streams; answers how many octets of bodies went.
+    /// Sends shares of what waits, at most `most` octets of a body a stream, and 65,536, one pass
+    /// over the streams; answers how many octets of bodies went.
     pub(crate) fn pump_some(&mut self, most: usize) -> Result<usize, EndRefusal>
         ensures { EndPumpsSome self.old most result self.new }
     {
@@ -56,7 +56,7 @@ impl End {
             return Err(EndRefusal::Conn(Refusal::Closed));
         }
         let mut pass = Pass {
-            most: most.max(1),
+            most: most.min(FULL_OUTPUT).max(1),
             turn: self.spans.turn,
             count: 0,
             rest: 0,

@@ -8,6 +8,7 @@ ghost use Rattle.h2_ends.specs.Represents.{EndRepresents};
 
 use crate::end::End;
 use crate::outgoing::Outgoing;
+use h2_message::Malformed;
 
 impl End {
     // rule: 8.1 What was sent on a stream is a prefix of its message
@@ -23,5 +24,14 @@ impl End {
             Outgoing::Waiting(waiting) => waiting.body.len().saturating_sub(waiting.sent),
             _ => 0,
         }
+    }
+
+    // rule: 8.1.1 (own) A part that is refused breaks a rule, the least of which is named
+    /// The stream and the rule of the part of a message that was refused last.
+    pub(crate) fn last_malformed(&self) -> Option<(u32, Malformed)>
+        ensures { (values : Values) (end : EndLog) → EndRepresents values self.now end
+            → result ≡ end.malformed }
+    {
+        self.spans.malformed
     }
 }

@@ -3,6 +3,8 @@
 ghost use Rattle.std.specs.Prelude.{ℕ, ◌≤◌, ◌<◌, ◌^◌, ◌↔◌};
 ghost use Rattle.h2_ends.specs.Represents.{InSpan};
 
+use h2_message::Malformed;
+
 /// The numbers from the first to the last one; none where the first is above the last.
 #[derive(Clone, Copy, Debug)]
 pub(crate) struct Span {
@@ -10,7 +12,7 @@ pub(crate) struct Span {
     pub(crate) last: u32,
 }
 
-/// The streams that are to be looked at.
+/// The streams that are to be looked at, and what was refused last.
 #[derive(Clone, Copy, Debug)]
 pub(crate) struct Spans {
     /// All on which a message waits.
@@ -19,6 +21,8 @@ pub(crate) struct Spans {
     pub(crate) owing: Span,
     /// With which the next pass of `pump_some` begins.
     pub(crate) turn: Turn,
+    /// The stream of the part of a message that was refused last, and the rule that it breaks.
+    pub(crate) malformed: Option<(u32, Malformed)>,
 }
 
 /// With which stream a pass begins.

@@ -5,19 +5,20 @@ ghost use Rattle.h2_spec_log.specs.Acts.{Values, Answer, Refuse};
 ghost use Rattle.h2_spec_log.specs.LogCalls.{MayAnswer, with_call};
 ghost use Rattle.h2_message.specs.Reading.{FieldsPart, OctetsPart};
 ghost use Rattle.h2_ends.specs.Ends.{EndLog};
-ghost use Rattle.h2_ends.specs.EndTakes.{end_with_log};
+ghost use Rattle.h2_ends.specs.EndTakes.{end_with_log, named_on};
 ghost use Rattle.h2_ends.specs.Loans.{BodyLiesIn, BodyLiesThere, IsBodyIn, IsBodyHanded};
 ghost use Rattle.h2_ends.specs.Loans.{located_at};
 ghost use Rattle.h2_ends.specs.Represents.{EndAdvances, kept_at};
 ghost use Rattle.h2_ends.specs.Taking.{IsReadOn, MustRefuse, ReadsFields, ReadsData, code_unread};
-ghost use Rattle.h2_ends.specs.Taking.{AnswersRefusal, IsResetBy, LiesHere, EndHands};
+ghost use Rattle.h2_ends.specs.Taking.{AnswersRefusal, IsResetBy, LiesHere, EndHands, with_unread};
+ghost use Rattle.h2_ends.specs.Taking.{refused_last};
 
 use crate::end::End;
 use crate::event::EndEvent;
 use crate::outgoing::{Outgoing, Stream};
 use h2_conn::{ConnFault, Event};
 use h2_frame::Code;
-use h2_message::{Place, Reading};
+use h2_message::{Malformed, Place, Reading};
 use h2_wire::Complete;
 
 /// What one call made of its piece.
@@ -33,8 +34,8 @@ pub(crate) struct EndProgress {
 /// Why a part of a message isn't handed out.
 #[derive(Clone, Copy, Debug)]
 pub(crate) enum Unread {
-    /// No message that breaks no rule begins so.
-    Malformed,
+    /// No message that breaks no rule begins so: the part breaks this one.
+    Malformed(Option<Malformed>),
     /// An allocation was refused.
     OutOfMemory,
 }
@@ -45,8 +46,19 @@ impl Unread {
         ensures { result ≡ code_unread self }
     {
         match self {
-            Unread::Malformed => Code::ProtocolError.number(),
+            Unread::Malformed(_) => Code::ProtocolError.number(),
             Unread::OutOfMemory => Code::InternalError.number(),
+        }
+    }
+
+    // rule: 8.1.1 (own) A part that is refused breaks a rule, the least of which is named
+    /// The part of a message that was refused last, once one was on this stream.
+    fn refused_last(self, id: u32, before: Option<(u32, Malformed)>) -> Option<(u32, Malformed)>
+        ensures { result ≡ refused_last id self before }
+    {
+        match self {
+            Unread::Malformed(rule) => named_on(id, rule),
+            Unread::OutOfMemory => before,
         }
     }
 }
@@ -92,10 +104,10 @@ impl End {
             },
             Event::Data { id, bytes, end, .. } => {
                 self.spans.owing = self.spans.owing.with(id);
-                if self.read_data(id, bytes.body_len(), end) {
-                    return Ok(EndEvent::Body { id, bytes, end });
+                match self.read_data(id, bytes.body_len(), end) {
+                    Ok(()) => Ok(EndEvent::Body { id, bytes, end }),
+                    Err(unread) => self.refuse(id, unread),
                 }
-                self.refuse(id, Unread::Malformed)
             }
             Event::Reset { id, code, ours } => {
                 self.forget_if_over(id);
@@ -124,7 +136,8 @@ impl End {
             return self.read_first(id, end);
         };
         let Some(place) = stream.reading.fields(self.conn.list(), end) else {
-            return Err(Unread::Malformed);
+            let rule = stream.reading.broken_by_fields(self.conn.list(), end);
+            return Err(Unread::Malformed(rule));
         };
         if end {
             self.forget_if_over(id);
@@ -144,7 +157,8 @@ impl End {
     {
         let mut reading = Reading::new(self.first_reads());
         let Some(place) = reading.fields(self.conn.list(), end) else {
-            return Err(Unread::Malformed);
+            let rule = reading.broken_by_fields(self.conn.list(), end);
+            return Err(Unread::Malformed(rule));
         };
         let stream = Stream {
             reading,
@@ -157,8 +171,8 @@ impl End {
     }
 
     // rule: 8.1.1 A malformed message is a stream error PROTOCOL_ERROR
-    /// Reads so many octets of a body, and answers whether they can be read.
-    fn read_data(&mut self, id: u32, count: usize, end: bool) -> bool
+    /// Reads so many octets of a body.
+    fn read_data(&mut self, id: u32, count: usize, end: bool) -> Result<(), Unread>
         ensures conn { self.new.conn ≡ self.old.conn }
         ensures reads { (values : Values) (happened : EndLog) (octets : List ℕ)
             → length octets ≡ count
@@ -166,30 +180,31 @@ impl End {
             → ReadsData values happened id octets end result self.new }
     {
         let Some(stream) = self.streams.get_mut(&id) else {
-            return false;
+            return Err(Unread::Malformed(Some(Malformed::BadOrder)));
         };
         if !stream.reading.data(count, end) {
-            return false;
+            let rule = stream.reading.broken_by_data(count, end);
+            return Err(Unread::Malformed(rule));
         }
         if end {
             self.forget_if_over(id);
         }
-        true
+        Ok(())
     }
 
     // rule: 8.1.1 (own) How the connection takes a refusal is what is answered
     // rule: 8.1 (own) A server without memory for a first block fails with INTERNAL_ERROR
-    /// Refuses a stream whose part of a message isn't handed out: this end resets it; or the
-    /// connection fails.
+    /// Refuses a stream whose part of a message isn't handed out, and keeps for which rule: this
+    /// end resets it; or the connection fails.
     fn refuse(&mut self, id: u32, unread: Unread) -> Result<EndEvent<(), Complete>, ConnFault>
         ensures resets { IsResetBy id (code_unread unread) result }
         ensures answers { (values : Values) (end : EndLog) → MustRefuse values self.old end id
             → (refused : Answer)
             × MayAnswer end.log (Refuse id (code_unread unread)) refused
-            × AnswersRefusal values
-            (end_with_log end (with_call end.log (Refuse id (code_unread unread)) refused)) result
-            self.new }
+            × AnswersRefusal values (end_with_log (with_unread end id unread)
+            (with_call end.log (Refuse id (code_unread unread)) refused)) result self.new }
     {
+        self.spans.malformed = unread.refused_last(id, self.spans.malformed);
         let code = unread.code();
         // C2 where the part itself has closed the stream: then nothing is sent.
         let _refused = self.conn.refuse(id, code);
@@ -202,6 +217,17 @@ impl End {
                 ours: true,
             }),
         }
+    }
+}
+
+// rule: 8.1.1 (own) A part that is refused breaks a rule, the least of which is named
+/// A rule with the stream on which it is broken.
+fn named_on(id: u32, rule: Option<Malformed>) -> Option<(u32, Malformed)>
+    ensures { result ≡ named_on id rule }
+{
+    match rule {
+        Some(rule) => Some((id, rule)),
+        None => None,
     }
 }
 

@@ -1,5 +1,7 @@
 -- A server whose connection is up, and at which no stream is active, has sent each answer whole,
 -- unless its stream was reset.
+use Rattle.h2_message.specs.declared.malformed.Malformed.{Malformed}
+use Rattle.h2_ends.specs.EndTakes.{with_malformed}
 use Rattle.h2_engines.proofs.Names
 use Names.{◌≡◌, ℕ, Bool, true, false, List, [], ◌∷◌, ◌++◌, Option, Some, None, refl, sym, ap, ◌∙◌}
 use Names.{subst, inl, inr, length, drop, both_ways, Contains, Server, Values, Act, Answer}
@@ -193,11 +195,11 @@ module _ (before after : EndLog) {log : Log} {piece : List ℕ} {count : ℕ} {e
         | inr later ↦ reset_stays i more (dropped.reported i code ours later)
       ]
 
-  refused_drops : (id : ℕ) (part : Part × Bool) (said : Answer)
+  refused_drops : (id : ℕ) (part : Part × Bool) (said : Answer) (rule : Option Malformed)
       → part_of_event event ≡ Some (id, part)
-      → after ≡ end_with_handed before (with_call log (Refuse id 1) said)
-      (Passed (ResetEvent id 1 true)) → AreDropped after
-  refused_drops id part said is now =
+      → after ≡ with_malformed (end_with_handed before (with_call log (Refuse id 1) said)
+      (Passed (ResetEvent id 1 true))) id rule → AreDropped after
+  refused_drops id part said rule is now =
       let handed : after.handed ≡ Passed (ResetEvent id 1 true) ∷ before.handed =
       ap (λ (end : EndLog). end.handed) now in
       let more : HandsMore before after = one_more (Passed (ResetEvent id 1 true)) handed in
@@ -283,7 +285,7 @@ take_drops before piece answer after (hands_out count event log takes id part is
     }
 take_drops before piece answer after
     (refuses count event log takes id part is broken refused may goes said now) was up =
-    refused_drops before after takes (was (was_up takes)) id part refused is now
+    refused_drops before after takes (was (was_up takes)) id part refused _ is now
 take_drops before piece answer after
     (refusal_fails count event log takes id part is broken refused may code failed said now) was up
     =

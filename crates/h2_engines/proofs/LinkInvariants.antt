@@ -7,7 +7,7 @@ use Names.{SentMessage, EndRefusal, EndLog, EndAnswer, EndMayTake, end_with_log,
 use Names.{pumps_no_more, pumps_trailers, trailers_refused, releases_one, releases_refused}
 use Names.{new_end_log, Open, SendFields, SendData, owed, with_call, IsResponding, opened}
 use Names.{with_sent, MayAsk, MayRequest, MayReply, MayRespond, MayPump, MayReleaseAll, Release}
-use Names.{pumps_data, data_refused, Releases, releases_no_more}
+use Names.{pumps_data, data_refused, Releases, releases_no_more, Fail}
 use Rattle.h2_ends.specs.EndCalls.{IsUnchanged, IsHeadCall}
 use Rattle.h2_engines.specs.ClientHistories.{IsFetching}
 use Rattle.h2_engines.proofs.TakeMessages.{role_by_call, taken_role}
@@ -16,11 +16,13 @@ use Rattle.h2_ends.specs.declared.refusal.EndRefusal.TheVariants as refusals
 use Rattle.h2_engines.specs.ClientHistories as client
 use Rattle.h2_engines.specs.ServerHistories as server
 
--- A call puts no output out, refuses no stream, and was not left without memory.
+-- A call puts no output out, refuses no stream, does not end the connection, and was not left
+-- without memory.
 abbrev pub IsQuiet : Act → Answer → Type 0
 IsQuiet act OutOfMemory = ⊥
 IsQuiet (PutOut count) answer = ⊥
 IsQuiet (Refuse id code) answer = ⊥
+IsQuiet (Fail code) answer = ⊥
 IsQuiet act answer = Unit {0}
 
 -- A call sends a part of a message or releases octets, and was not left without memory: so it is

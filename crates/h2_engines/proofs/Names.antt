@@ -103,7 +103,7 @@ pub use Rattle.h2_spec_log.proofs.StreamLemmas.{Keeps-call}
 unfoldable pub use Rattle.h2_spec_log.specs.Acts.{IsTypedAct}
 pub use Rattle.h2_spec_log.specs.Acts.{Act, Answer, AreInRange, Count, Done, Happened, Number, Open}
 pub use Rattle.h2_spec_log.specs.Acts.{OutOfMemory, PutOut, Refuse, Refused, Release, ResetStream}
-pub use Rattle.h2_spec_log.specs.Acts.{SendData, SendFields, Turn, Values}
+pub use Rattle.h2_spec_log.specs.Acts.{SendData, SendFields, Turn, Values, Fail}
 unfoldable pub use Rattle.h2_spec_log.specs.CallRules.{conditions, first_of}
 pub use Rattle.h2_spec_log.specs.CallRules.{refusal_of, returns_before_put_out, update_size}
 pub use Rattle.h2_spec_log.specs.Events.{Event, ResetEvent}

@@ -8,7 +8,8 @@ use Rattle.h2_laws_pair.proofs.CarriedOctets.{given_more as gives_more}
 -- The connection is as up as before, whether credit is returned first or not.
 pub put_out_failed : (log : Log) (count given : ℕ)
     → (with_call log (PutOut count) (Count given)).failed ≡ log.failed
-put_out_failed log count given = call_failed _ _ (Count given) (λ id code is. cc) (λ is. cc)
+put_out_failed log count given =
+    call_failed _ _ (Count given) (λ id code is. cc) (λ code is. cc) (λ is. cc)
 
 -- the octets that a call puts out of the output
 abbrev pub put_out_octets : Log → (count given : ℕ) → List ℕ

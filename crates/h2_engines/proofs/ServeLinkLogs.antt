@@ -1,6 +1,6 @@
 -- What calls and octets that were taken leave of the input and the output of a log.
 use Rattle.h2_engines.proofs.Names
-use Names.{◌≡◌, ◌≤◌, ℕ, List, length, refl, sym, ◌∙◌, subst, Act, Answer, Refuse, PutOut}
+use Names.{◌≡◌, ◌≤◌, ℕ, List, length, refl, sym, ◌∙◌, subst, Act, Answer, Refuse, PutOut, Fail}
 use Names.{OutOfMemory, Refused, Log, Keeps-call, given_out, call_given, Result, EndRefusal, EndLog}
 use Names.{MayPump, MayReleaseAll, Traffic, IsLinked, IsSameOfMessages, items_failed, with_call}
 use Names.{◌≢◌, TakeAnswer, MayTake, ends_no_frame, ends_frame, meets_fault, reports_unprocessed}
@@ -93,6 +93,7 @@ unfolding with_call
 call_failed log act (Refused refusal) quiet = refl
 call_failed log act OutOfMemory quiet = absurd quiet
 call_failed log (Refuse id code) answer quiet = absurd quiet
+call_failed log (Fail code) answer quiet = absurd quiet
 call_failed log (PutOut count) answer quiet = absurd quiet
 call_failed log act answer quiet = items_failed log act answer
 

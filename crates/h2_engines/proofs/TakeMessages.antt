@@ -1,5 +1,6 @@
 -- A call of `take` of an end is one of its connection, after which a stream may have been refused:
 -- what it says of its octets, its messages and its calls.
+use Rattle.h2_message.specs.declared.malformed.Malformed.{Malformed}
 use Rattle.h2_engines.proofs.Names
 use Names.{◌≡◌, ℕ, Bool, true, List, ◌∷◌, Option, Some, None, refl, sym, subst, inl, inr, Contains}
 use Names.{log_after_take, EndMayTake, EndLog, Handed, EndAnswer, EndTook, EndFailed, Passed, Code}
@@ -62,13 +63,14 @@ up_after {before} {log} {piece} {count} {event} may = (log_after_take _ _ _ _ ma
 -- The connection has refused a stream.
 refused_says : (before : EndLog) {piece : List ℕ} {count : ℕ} {event : Option Event} {log : Log}
     {answer is : EndAnswer} {after : EndLog} → MayTake before.log piece (Took count event) log
-    → (id code : ℕ) (said : Answer) → answer ≡ is
+    → (id code : ℕ) (said : Answer) (last : Option (ℕ × Malformed)) → answer ≡ is
     → after ≡ record before {
       log = with_call log (Refuse id code) said;
       handed = handed_after is before.handed;
+      malformed = last;
     } → SaysOf before (Took count event) is (with_call log (Refuse id code) said)
     → SaysTaken before piece answer after
-refused_says before {count} {event} {log} takes id code said same now says =
+refused_says before {count} {event} {log} takes id code said last same now says =
     rw same (rw now (record {
       took = Took count event;
       log = log;
@@ -108,14 +110,14 @@ taken_says {before} (hands_out count event log takes id part is readable same no
     (Some event, refl, up_after takes, hands_part id part readable)
 taken_says {before}
     (refuses count event log takes id part is broken refused may up same now) =
-    refused_says before takes id 1 refused same now
+    refused_says before takes id 1 refused _ same now
     (Some event, refl, up, hands_event (ResetEvent id 1 true))
 taken_says {before}
     (refusal_fails count event log takes id part is broken refused may code down same now) =
-    refused_says before takes id 1 refused same now down
+    refused_says before takes id 1 refused _ same now down
 taken_says {before}
     (runs_out_of_memory count id list ends log takes role none readable refused may same now) =
-    refused_says before takes id 2 refused same now
+    refused_says before takes id 2 refused _ same now
     (memory_fails log id refused (up_after takes) may)
 
 -- What holds of the log after octets were taken of the connection, and still does once a stream

@@ -1,4 +1,7 @@
 -- What a call of `take` makes of an end to which octets are delivered.
+use Rattle.h2_joined.proofs.JointHolds.{holds_refused}
+use Rattle.h2_joined.proofs.Names.{Option, ℕ}
+use Rattle.h2_message.specs.declared.malformed.Malformed.{Malformed}
 use Rattle.h2_joined.proofs.Names
 use Names.{◌<◌, ◌^◌, ◌∷◌, ◌++◌, drop, true, refl, arith, Code, InternalError, Values, Answer}
 use Names.{Refuse, Event, FieldsEvent, ResetEvent, Log, MayAnswer, with_call, MayTake, Took}
@@ -177,6 +180,28 @@ module _ (around : Around) (end : EndLog) (piece later : List ℕ) (count : ℕ)
       (part_low_at around.side around.client_values around.server_values one other
       (AllHadMemory around.made) end.log piece count event id part pair may of) few answers
 
+-- Which part was refused last doesn't count for it.
+holds_named : (around : Around) (end : EndLog) (last : Option (ℕ × Malformed))
+    (incoming : List ℕ) → HoldsIn around end incoming
+    → HoldsIn around (record end { malformed = last }) incoming
+holds_named around end last incoming is =
+    record {
+      lost = is.lost;
+      other_lost = is.other_lost;
+      pair = is.pair;
+      calm = λ had. let calm = is.calm had in record {
+        holds = holds_refused around.made around.side end last calm.holds;
+        accepted = accept_same around.side end (record end { malformed = last })
+            around.other.happened refl calm.accepted;
+      };
+    }
+
+falls_named : (around : Around) (code : Code) (end : EndLog) (last : Option (ℕ × Malformed))
+    (incoming : List ℕ) → FallsIn around code end incoming
+    → FallsIn around code (record end { malformed = last }) incoming
+falls_named around code end last incoming is =
+    record { lost = is.lost; other_lost = is.other_lost; pair = is.pair; calm = is.calm }
+
 -- Where the connection has failed with that, what was not used is lost.
 falls_in : (around : Around) (code : Code) (end : EndLog) (log : Log) (unused later lost : List ℕ)
     (other_lost : List ℕ) → IsPairIn around (half_with log (unused ++ later) lost) other_lost ⊥
@@ -243,20 +268,21 @@ module _ (around : Around) (end : EndLog) (piece later : List ℕ) where
       (leads_handed around end piece later count event log id part order is may of readable)
   take_leads answer after order is
       (refuses count event log may id part of stops refused answers_it up answers same) =
-      rw (answers, same) (leads_reset around end (with_call log (Refuse id 1) refused) piece later
+      rw (answers, same) (holds_named around _ _ _ (leads_reset around end (with_call log (Refuse id 1) refused) piece later
       count id is.lost is.other_lost
       (refused_in around end piece later count event log id part 1 refused is may of (omega arith)
       answers_it)
       (λ had. stops (readable_in around end piece later count event log id part order is may of
-      had).0))
+      had).0)))
   take_leads answer after order is
       (refusal_fails count event log may id part of stops refused answers_it code down answers
-      same) = rw (answers, same) (falls_in around code end (with_call log (Refuse id 1) refused)
+      same) = rw (answers, same) (falls_named around code _ _ _
+      (falls_in around code end (with_call log (Refuse id 1) refused)
       (drop count piece) later is.lost is.other_lost
       (refused_in around end piece later count event log id part 1 refused is may of (omega arith)
       answers_it) down
       (λ had other. stops (readable_in around end piece later count event log id part order is may
-      of had).0))
+      of had).0)))
   take_leads answer after order is
       (runs_out_of_memory count id list ends log may role first readable refused answers_it answers
       same) =

@@ -192,6 +192,7 @@ call_of_act : (made : List Made) (side : Side) (act : Act) (answer : Answer) →
 call_of_act made side act answer call =
     record {
       no_refusal = λ id code is. absurd (subst IsControlCall is call);
+      no_end = λ code is had. had.0.not_ended code (ap Calls is);
       reset = λ id code is done. subst (λ (one : Made). Contains
           (call_made side act answer ∷ made) one) (ap (λ (a : Act). call_made side a answer) is
           ∙ ap (λ (said : Answer). call_made side (ResetStream id code) said) done) (first_in _ _);
@@ -204,7 +205,11 @@ call_stays_in act call count is = absurd (subst IsControlCall is call)
 move_of_act : (made : List Made) (side : Side) (count : ℕ) (answer : Answer)
     → IsOfAct made side (PutOut count) answer
 move_of_act made side count answer =
-    record { no_refusal = λ id code is. cc; reset = λ id code is done. absurd (cc) }
+    record {
+      no_refusal = λ id code is. cc;
+      no_end = λ code is had. cc;
+      reset = λ id code is done. absurd (cc);
+    }
 
 module _ (side : Side) (client_values server_values : Values) (made : List Made)
     (one other : JointEnd) where

@@ -3,8 +3,8 @@ use Rattle.h2_joined.proofs.Names.{inl, inr, ◌∷◌, sym, ◌∙◌, Act, Log
 use Rattle.h2_joined.proofs.Names.{subst, Done, View, Side, Made, false, calls, ap, append-nil}
 use Rattle.h2_joined.proofs.Names.{IsTypedAct, OutOfMemory, grows_call, Said, both_ways}
 use Rattle.h2_joined.proofs.Names.{first_or_later, call_gives_nothing, IsUndisturbedStep, Values}
-use Rattle.h2_joined.proofs.Names.{Answer, Refuse, PutOut, EndLog, JointEnd, ResetStream}
-use Rattle.h2_joined.proofs.Names.{tokens_heard, half_of, with_happened, log_view, MayAnswer}
+use Rattle.h2_joined.proofs.Names.{Answer, Refuse, PutOut, EndLog, JointEnd, ResetStream, Code}
+use Rattle.h2_joined.proofs.Names.{tokens_heard, half_of, with_happened, log_view, MayAnswer, Fail}
 use Rattle.h2_joined.proofs.Names.{with_call, WasAsked, with_given, WasResetAt, AreUndisturbed}
 use Rattle.h2_laws_pair.specs.Undisturbed.{LeavesUp}
 use Rattle.h2_spec_log.specs.CallRules.{may_fail_for_memory}
@@ -23,16 +23,19 @@ end_called end act answer accepted = record end {
   accepted = accepted;
 }
 
--- The call does not refuse a stream, and where it resets one, that is an act.
+-- The call does not refuse a stream; where it ends the connection, an act has; and where it resets a
+-- stream, that is an act.
 pub record IsOfAct (made : List Made) (side : Side) (act : Act) (answer : Answer) : Type 0 where
   pub no_refusal : (id code : ℕ) → act ≢ Refuse id code
+  pub no_end : (code : Code) → act ≡ Fail code → AllHadMemory made → ⊥
   pub reset : (id code : ℕ) → act ≡ ResetStream id code → answer ≡ Done
       → WasResetAt made side id code
 
--- The call neither resets nor refuses a stream, nor does it put output out.
+-- The call neither resets nor refuses a stream, nor does it put output out or end the connection.
 abbrev pub IsOrdinary : Act → Type 0
 IsOrdinary (ResetStream id code) = ⊥
 IsOrdinary (Refuse id code) = ⊥
+IsOrdinary (Fail code) = ⊥
 IsOrdinary (PutOut count) = ⊥
 IsOrdinary act = Unit {0}
 
@@ -41,6 +44,7 @@ pub ordinary_of_act : (made : List Made) (side : Side) (act : Act) (answer : Ans
 ordinary_of_act made side act answer ordinary =
     record {
       no_refusal = λ id code is. absurd (subst IsOrdinary is ordinary);
+      no_end = λ code is had. absurd (subst IsOrdinary is ordinary);
       reset = λ id code is done. absurd (subst IsOrdinary is ordinary);
     }
 
@@ -63,9 +67,11 @@ answers_in_memory log act answer other (fails none may is) out =
     both_ways _ (never_fails (log_view log) act other) may
 
 -- Nor does another call make the connection fail.
-leaves_up : (log : Log) (act : Act) → ((id code : ℕ) → act ≢ Refuse id code) → LeavesUp log act
-leaves_up log (Refuse id code) other = absurd (other id code refl)
-leaves_up log act other = tt
+leaves_up : (log : Log) (act : Act) → ((id code : ℕ) → act ≢ Refuse id code)
+    → ((code : Code) → act ≢ Fail code) → LeavesUp log act
+leaves_up log (Refuse id code) other goes_on = absurd (other id code refl)
+leaves_up log (Fail code) other goes_on = absurd (goes_on code refl)
+leaves_up log act other goes_on = tt
 
 -- A call puts nothing on the pipe, unless it puts output out.
 nothing_given : (other one : JointEnd) (act : Act) (answer : Answer)
@@ -124,14 +130,23 @@ module _ (side : Side) (client_values server_values : Values) (made : List Made)
       let other_half = half_of other stays.other_lost in
       let log = one.happened.log in
       let memory = answers_in_memory log act answer of_act.no_refusal may in
-      let up = leaves_up log act of_act.no_refusal in
       record {
         lost = stays.lost;
         other_lost = stays.other_lost;
         pair = goes_on_at side client_values server_values half other_half _ _ (AllHadMemory made)
             (AllHadMemory made) stays.pair
             (then_step (no_step half other_half) (calls act answer typed may))
-            (λ had. (had, (tt, (memory, up))));
+            (λ had. (
+              had,
+              (
+                tt,
+                (
+                  memory,
+                  leaves_up log act of_act.no_refusal
+                      (λ code is. of_act.no_end code is had),
+                ),
+              ),
+            ));
         calm = λ had. let calm = stays.calm had in record {
           holds = end_kept made side one.happened act answer accepted calm.holds of_act;
           other_holds = calm.other_holds;

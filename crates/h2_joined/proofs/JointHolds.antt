@@ -5,17 +5,20 @@ use Names.{InternalError, AllByRecursion, next_unprocessed, IsSoundSaid, Respons
 use Names.{Contains, asks_head, WasAsked, said_for, parts_on, KeepsOrder, JointEnd, WasResetAt}
 use Names.{Values, Event, EndLog, Passed, Side, Made, half_of, Client, Server, Said}
 use Names.{tokens_heard, IsNoEmptyPart, part_of_event, tokens_handed, Contains-append_right, IsLog}
-use Names.{[], ◌∷◌, other_side}
-use Rattle.std.specs.Prelude.{◌≡◌, ◌≢◌, ℕ, false, List, Some, None}
+use Names.{[], ◌∷◌, other_side, Code, Fail}
+use Rattle.h2_joined.specs.Joints.{Calls}
+use Rattle.std.specs.Prelude.{◌≡◌, ◌≢◌, ℕ, false, List, Option, Some, None}
+use Rattle.h2_message.specs.declared.malformed.Malformed.{Malformed}
 use Rattle.h2_joined.specs.declared.act.Acted.TheVariants.{Failed}
 use Rattle.h2_message.specs.declared.reading.Reads.TheVariants.{Requests}
 use Rattle.h2_joined.proofs.BegunOut.{SendsBegun}
 use Rattle.h2_joined.proofs.HoldsSides.{IsPairAt, log_at, role_at, values_at}
 use Rattle.h2_joined.proofs.HoldsSteps.{where_at}
 
--- No connection has failed in the act since memory was refused.
+-- No connection has failed in the act since memory was refused, nor was one ended by its caller.
 pub record ActHadMemory (made : Made) : Type 0 where
   pub connection : made.acted ≢ Failed InternalError
+  pub not_ended : (code : Code) → made.doing ≢ Calls (Fail code)
 
 abbrev pub AllHadMemory : List Made → Type 0
 AllHadMemory made = AllByRecursion ActHadMemory made
@@ -47,6 +50,19 @@ end_holds_more act made side end holds =
 pub holds_turned : (made : List Made) (side : Side) (end : EndLog) (turn : Turn)
     → EndHolds made side end → EndHolds made side (record end { turn = turn })
 holds_turned made side end turn holds =
+    record {
+      heard = holds.heard;
+      says = holds.says;
+      passed = holds.passed;
+      reported = holds.reported;
+      asked = holds.asked;
+    }
+
+-- It holds whatever part was refused last.
+pub holds_refused : (made : List Made) (side : Side) (end : EndLog)
+    (last : Option (ℕ × Malformed)) → EndHolds made side end
+    → EndHolds made side (record end { malformed = last })
+holds_refused made side end last holds =
     record {
       heard = holds.heard;
       says = holds.says;

@@ -1,15 +1,23 @@
 -- A connection that has failed stays failed. So where memory was not refused where it counts, it
 -- was not in any act.
+use Rattle.h2_joined.specs.Joints.{NoneWasEnded, Calls}
+use Rattle.h2_laws_end.proofs.Failures.{same_output}
+use Rattle.h2_wire.proofs.ReadingLemmas.{none_some}
+use Rattle.h2_spec_log.specs.LogView.{log_view}
+use Rattle.h2_spec_log.specs.CallRules.{conditions, first_of, may_lack_memory}
+use Rattle.h2_spec_log.specs.CallRules.{may_fail_for_memory}
+use Rattle.h2_spec_log.specs.LogCalls as calling
 use Rattle.h2_joined.proofs.Names
 use Names.{suc, take, drop, Result, Ok, Err, refl, ap, subst, ◌∙◌, Code, InternalError, Values, Act}
 use Names.{Answer, Number, Count, Done, OutOfMemory, Refused, SendFields, Refuse, PutOut, Log}
 use Names.{MayAnswer, with_call, log_after_take, Took, FieldsEvent, Said, Malformed}
 use Names.{EndRefusal, EndLog, EndAnswer, EndFailed, EndMayTake, hands_nothing, hands_out}
 use Names.{refusal_fails, runs_out_of_memory, memory_fails, Side, Acted, Doing, JointEnd, Made}
-use Names.{Delivery, Fails, IsDelivered, MayDo, IsControlCall, IsJoint, IsNextAct, MemorySufficed}
+use Names.{Delivery, Fails, IsDelivered, MayDo, IsJoint, IsNextAct, MemorySufficed}
 use Names.{acted_by, acted_as, MayAsk, MayReply, MaySendBody, MaySendTrailers, IsTypedAct, Option}
 use Names.{Bool, true, Field, ◌≡◌, ◌≢◌, ℕ, List, Some, Failed, fails}
-use Names.{passes, refuses, Client, Server}
+use Names.{passes, refuses, Client, Server, Fail, None, sym, false}
+use Names.{both_ways}
 use Rattle.h2_message.specs.declared.reading.Reads.TheVariants.{Requests}
 use Rattle.h2_spec_log.specs.Acts.{SendData}
 use Rattle.h2_laws_pair.specs.Tokens.{at_once}
@@ -24,11 +32,12 @@ use Rattle.h2_joined.proofs.JointChains.{holds_by_refused_body, holds_by_refused
 use Rattle.h2_joined.specs.declared.act.Acted.TheVariants as acted
 use Rattle.h2_joined.specs.Joints as joints
 
--- No call but the refusal of a stream makes the connection fail.
+-- No call but the refusal of a stream, and the one that asks for it, makes the connection fail.
 call_stays : (log : Log) (act : Act) (answer : Answer) → ((id code : ℕ) → act ≢ Refuse id code)
-    → MayAnswer log act answer → (with_call log act answer).failed ≡ log.failed
-call_stays log act answer other may =
-    call_failed log act answer other (answers_in_memory log act answer other may)
+    → ((code : Code) → act ≢ Fail code) → MayAnswer log act answer
+    → (with_call log act answer).failed ≡ log.failed
+call_stays log act answer other goes_on may =
+    call_failed log act answer other goes_on (answers_in_memory log act answer other may)
 
 -- An end has failed with this code.
 abbrev HasFailed : Code → EndLog → Type 0
@@ -36,7 +45,8 @@ HasFailed code end = end.log.failed ≡ Some code
 
 failed_kept : (code : Code) → KeptByCalls (HasFailed code)
 failed_kept code end act answer failed ordinary typed may next =
-    call_stays end.log act answer (λ id c is. absurd (subst IsOrdinary is ordinary)) may ∙ failed
+    call_stays end.log act answer (λ id c is. absurd (subst IsOrdinary is ordinary))
+    (λ c is. absurd (subst IsOrdinary is ordinary)) may ∙ failed
 
 ask_keeps : (code : Code) (broken : Option Malformed) (end after : EndLog) (said : Said)
     (result : Result ℕ EndRefusal) → MayAsk broken end said result after → HasFailed code end
@@ -44,7 +54,7 @@ ask_keeps : (code : Code) (broken : Option Malformed) (end after : EndLog) (said
 unfolding MayAsk
 ask_keeps code broken end after said (Ok id) (unbroken, fits, may, same) failed =
     ap (λ (e : EndLog). e.log.failed) same
-    ∙ (call_stays end.log (opened_with said) (Number id) (λ i c is. cc) may ∙ failed)
+    ∙ (call_stays end.log (opened_with said) (Number id) (λ i c is. cc) (λ c is. cc) may ∙ failed)
 ask_keeps code broken end after said (Err refusal) may failed =
     holds_by_refused_ask (HasFailed code) (failed_kept code) broken end after said refusal may
     failed
@@ -55,7 +65,7 @@ reply_keeps : (code : Code) (broken : Option Malformed) (end after : EndLog) (id
 unfolding MayReply
 reply_keeps code broken end after id said (Ok done) (asked, none, well, fits, may, same) failed =
     ap (λ (e : EndLog). e.log.failed) same
-    ∙ (call_stays end.log (answered_with id said) Done (λ i c is. cc) may ∙ failed)
+    ∙ (call_stays end.log (answered_with id said) Done (λ i c is. cc) (λ c is. cc) may ∙ failed)
 reply_keeps code broken end after id said (Err refusal) may failed =
     holds_by_refused_reply (HasFailed code) (failed_kept code) broken end after id said refusal may
     failed
@@ -67,7 +77,8 @@ unfolding MaySendBody
 body_keeps code end after id octets ends (Ok count) typed (said, number, is, fits, may, same)
     failed =
     ap (λ (e : EndLog). e.log.failed) same
-    ∙ (call_stays end.log (SendData id octets ends) (Count count) (λ i c is. cc) may ∙ failed)
+    ∙ (call_stays end.log (SendData id octets ends) (Count count) (λ i c is. cc) (λ c is. cc) may
+    ∙ failed)
 body_keeps code end after id octets ends (Err refusal) typed may failed =
     holds_by_refused_body (HasFailed code) (failed_kept code) end after id octets ends refusal typed
     may failed
@@ -78,10 +89,17 @@ trailers_keep : (code : Code) (end after : EndLog) (id : ℕ) (list : List Field
 unfolding MaySendTrailers
 trailers_keep code end after id list (Ok done) typed (said, number, is, fits, may, same) failed =
     ap (λ (e : EndLog). e.log.failed) same
-    ∙ (call_stays end.log (SendFields id list true) Done (λ i c is. cc) may ∙ failed)
+    ∙ (call_stays end.log (SendFields id list true) Done (λ i c is. cc) (λ c is. cc) may ∙ failed)
 trailers_keep code end after id list (Err refusal) typed may failed =
     holds_by_refused_trailers (HasFailed code) (failed_kept code) end after id list refusal typed
     may failed
+
+-- A call of a connection that has failed leaves it failed with the same code.
+call_keeps_code : (log : Log) (act : Act) (answer : Answer) (code : Code)
+    → MayAnswer log act answer → log.failed ≡ Some code
+    → (with_call log act answer).failed ≡ Some code
+call_keeps_code log act answer code may failed =
+    (same_output log code act answer failed may).failed ∙ failed
 
 -- Where an act is done with an end that has failed, it stays failed,
 act_keeps : (one other new_one new_other : JointEnd) (doing : Doing) (answer : Acted) (code : Code)
@@ -109,10 +127,10 @@ act_keeps one other _ _ _ _ code (joints.pumps_some most result after may) faile
 act_keeps one other _ _ _ _ code (joints.releases_all result after may) failed =
     holds_by_release (HasFailed code) (failed_kept code) one.happened after result may failed
 act_keeps one other _ _ _ _ code (joints.calls act answer call typed may) failed =
-    call_stays one.happened.log act answer (λ id c is. absurd (subst IsControlCall is call)) may
-    ∙ failed
+    call_keeps_code one.happened.log act answer code may failed
 act_keeps one other _ _ _ _ code (joints.moves count answer typed may) failed =
-    call_stays one.happened.log (PutOut count) answer (λ id c is. cc) may ∙ failed
+    call_stays one.happened.log (PutOut count) answer (λ id c is. cc) (λ c is. cc) may
+    ∙ failed
 act_keeps one other _ _ _ _ code (joints.delivers count after up delivered) failed =
     absurd (cc)
 act_keeps one other _ _ _ _ code (joints.delivery_fails count fault after up delivered)
@@ -264,19 +282,23 @@ act_fails one other _ _ _ _ code (joints.no_copy_of_trailers id list) is = absur
 had_memory_in : (side : Side) (one other new_one new_other : JointEnd) (doing : Doing)
     (answer : Acted) → MayDo one other doing answer new_one new_other
     → new_one.happened.log.failed ≢ Some InternalError
+    → ((code : Code) → doing ≢ Calls (Fail code))
     → ActHadMemory (record { side = side; doing = doing; acted = answer })
-had_memory_in side one other new_one new_other doing answer may went_on =
+had_memory_in side one other new_one new_other doing answer may went_on none =
     record {
       connection = λ is. went_on
           (act_fails one other new_one new_other doing answer InternalError may is);
+      not_ended = none;
     }
 
 -- So was it before an act, and in the act.
 had_before : (client server new_client new_server : JointEnd) (act : Made)
     → IsNextAct client server act new_client new_server
-    → MemorySufficed new_client new_server → ActHadMemory act × MemorySufficed client server
-had_before client server new_client new_server _ (joints.at_client doing answer may) had = (
-  had_memory_in Client client server new_client new_server doing answer may had.client_went_on,
+    → MemorySufficed new_client new_server → ((code : Code) → act.doing ≢ Calls (Fail code))
+    → ActHadMemory act × MemorySufficed client server
+had_before client server new_client new_server _ (joints.at_client doing answer may) had none = (
+  had_memory_in Client client server new_client new_server doing answer may had.client_went_on
+      none,
   record {
     client_went_on = λ failed. had.client_went_on (act_keeps client server new_client new_server
         doing answer InternalError may failed);
@@ -285,8 +307,9 @@ had_before client server new_client new_server _ (joints.at_client doing answer 
         (other_stays client server new_client new_server doing answer may) ∙ failed);
   },
 )
-had_before client server new_client new_server _ (joints.at_server doing answer may) had = (
-  had_memory_in Server server client new_server new_client doing answer may had.server_went_on,
+had_before client server new_client new_server _ (joints.at_server doing answer may) had none = (
+  had_memory_in Server server client new_server new_client doing answer may had.server_went_on
+      none,
   record {
     client_went_on = λ failed. had.client_went_on
         (ap (λ (e : EndLog). e.log.failed)
@@ -299,9 +322,78 @@ had_before client server new_client new_server _ (joints.at_server doing answer 
 -- So memory was not refused in any act.
 pub had_memory : (client_values server_values : Values) (made : List Made)
     (client server : JointEnd) → IsJoint client_values server_values made client server
-    → MemorySufficed client server → AllHadMemory made
-had_memory client_values server_values _ _ _ (joints.begins client_range server_range) had = tt
+    → MemorySufficed client server → NoneWasEnded made → AllHadMemory made
+had_memory client_values server_values _ _ _ (joints.begins client_range server_range) had none = tt
 had_memory client_values server_values _ new_client new_server
-    (joints.continues {history = made} {client = client} {server = server} is act next) had =
-    let before = had_before client server new_client new_server act next had in
-    (before.0, had_memory client_values server_values made client server is before.1)
+    (joints.continues {history = made} {client = client} {server = server} is act next) had none =
+    let before = had_before client server new_client new_server act next had none.0 in
+    (before.0, had_memory client_values server_values made client server is before.1 none.1)
+
+-- A connection that is up is ended by such a call,
+ended_by : (log : Log) (code : Code) (answer : Answer) → log.failed ≡ None
+    → MayAnswer log (Fail code) answer → (with_call log (Fail code) answer).failed ≡ None → ⊥
+unfolding with_call conditions first_of may_lack_memory may_fail_for_memory
+ended_by log code answer was_up (calling.accepts none is) up =
+    let down : (with_call log (Fail code) answer).failed ≡ Some code = rw is refl in
+    none_some code (sym up ∙ down)
+ended_by log code answer was_up (calling.refuses refusal some is) up =
+    let none_failed : (log_view log).failed ≡ None = was_up in absurd (cc)
+ended_by log code answer was_up (calling.lacks none may is) up = absurd (both_ways false refl may)
+ended_by log code answer was_up (calling.fails none may is) up = absurd (both_ways false refl may)
+
+-- and one that is not stays so:
+ended_down : (log : Log) (code : Code) (answer : Answer) → MayAnswer log (Fail code) answer
+    → (with_call log (Fail code) answer).failed ≡ None → ⊥
+unfolding with_call
+ended_down log code answer may up = elim log.failed as (λ (before : Option Code).
+    log.failed ≡ before → ⊥) [
+      | Some other ↦ λ failed.
+          none_some other (sym up ∙ call_keeps_code log (Fail code) answer other may failed)
+      | None ↦ λ was_up. ended_by log code answer was_up may up
+    ] refl
+
+-- so where both connections are up, none was ended.
+was_up_before : (one other new_one new_other : JointEnd) (doing : Doing) (answer : Acted)
+    → MayDo one other doing answer new_one new_other → new_one.happened.log.failed ≡ None
+    → one.happened.log.failed ≡ None
+was_up_before one other new_one new_other doing answer may up =
+    elim one.happened.log.failed as (λ (before : Option Code).
+    one.happened.log.failed ≡ before → before ≡ None) [
+      | None ↦ λ is. refl
+      | Some code ↦ λ failed. absurd (none_some code (sym up
+          ∙ act_keeps one other new_one new_other doing answer code may failed))
+    ] refl
+
+not_ended_in : (one other new_one new_other : JointEnd) (doing : Doing) (answer : Acted)
+    → MayDo one other doing answer new_one new_other → new_one.happened.log.failed ≡ None
+    → (code : Code) → doing ≢ Calls (Fail code)
+not_ended_in one other _ _ _ _ (joints.calls act answer call typed may) up code is =
+    let ends : act ≡ Fail code = cc in
+    ended_down one.happened.log code answer
+    (subst (λ (a : Act). MayAnswer one.happened.log a answer) ends may)
+    (subst (λ (a : Act). (with_call one.happened.log a answer).failed ≡ None) ends up)
+not_ended_in one other _ _ _ _ may up code is = cc
+
+pub none_was_ended : (client_values server_values : Values) (made : List Made)
+    (client server : JointEnd) → IsJoint client_values server_values made client server
+    → client.happened.log.failed ≡ None → server.happened.log.failed ≡ None → NoneWasEnded made
+none_was_ended client_values server_values _ _ _ (joints.begins client_range server_range) up
+    other_up = tt
+none_was_ended client_values server_values _ new_client new_server
+    (joints.continues {history = made} {client = client} {server = server} is _
+    (joints.at_client doing answer may)) up other_up = (
+      not_ended_in client server new_client new_server doing answer may up,
+      none_was_ended client_values server_values made client server is
+          (was_up_before client server new_client new_server doing answer may up)
+          (ap (λ (e : EndLog). e.log.failed)
+          (sym (other_stays client server new_client new_server doing answer may)) ∙ other_up),
+    )
+none_was_ended client_values server_values _ new_client new_server
+    (joints.continues {history = made} {client = client} {server = server} is _
+    (joints.at_server doing answer may)) up other_up = (
+      not_ended_in server client new_server new_client doing answer may other_up,
+      none_was_ended client_values server_values made client server is
+          (ap (λ (e : EndLog). e.log.failed)
+          (sym (other_stays server client new_server new_client doing answer may)) ∙ up)
+          (was_up_before server client new_server new_client doing answer may other_up),
+    )

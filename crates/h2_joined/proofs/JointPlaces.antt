@@ -1,5 +1,6 @@
 -- Whatever acts were made, what was handed out at each of two joined ends is what its place says,
 -- and what the server has accepted has a final head.
+use Rattle.h2_message.specs.declared.malformed.Malformed.{Malformed}
 use Rattle.h2_joined.proofs.Names
 use Names.{◌⊎◌, Refuse, PutOut, EndLog, Handed, Passed, Acted, Doing, Whole, opened, Failed, passes}
 use Names.{inl, inr, ◌∷◌, Err, sym, ap, ◌∙◌, Log, ◌≡◌, List, Some, None, ◌==◌, true, ◌++◌, refl}
@@ -72,6 +73,12 @@ places_with_log role end log same keeps =
 
 places_turned : (role : Role) → KeptByTurn (KeepsPlaces role)
 places_turned role end turn keeps =
+    record { role_is = keeps.role_is; placed = keeps.placed; final = keeps.final }
+
+-- whatever part was refused last,
+places_named : (role : Role) (end : EndLog) (last : Option (ℕ × Malformed)) → KeepsPlaces role end
+    → KeepsPlaces role (record end { malformed = last })
+places_named role end last keeps =
     record { role_is = keeps.role_is; placed = keeps.placed; final = keeps.final }
 
 -- and where something is.
@@ -148,17 +155,17 @@ module _ (role : Role) (end after : EndLog) (piece : List ℕ) (answer : EndAnsw
       (take_role end.log log piece (Took count (Some event)) may)
       (part_placed role end id part keeps.role_is readable) keeps)
   take_places (refuses count event log may id part of stops refused answers_it up answers same)
-      keeps = subst (KeepsPlaces role) (sym same)
+      keeps = subst (KeepsPlaces role) (sym same) (places_named role _ _
       (places_with role end (with_call log (Refuse id 1) refused) (Passed (ResetEvent id 1 true))
       ((grows_call log (Refuse id 1) refused).role
       ∙ take_role end.log log piece (Took count (Some event)) may)
-      (passed_placed (is_server role) end.handed (ResetEvent id 1 true)) keeps)
+      (passed_placed (is_server role) end.handed (ResetEvent id 1 true)) keeps))
   take_places
       (refusal_fails count event log may id part of stops refused answers_it code down answers same)
-      keeps = subst (KeepsPlaces role) (sym same)
+      keeps = subst (KeepsPlaces role) (sym same) (places_named role _ _
       (places_with_log role end (with_call log (Refuse id 1) refused)
       ((grows_call log (Refuse id 1) refused).role
-      ∙ take_role end.log log piece (Took count (Some event)) may) keeps)
+      ∙ take_role end.log log piece (Took count (Some event)) may) keeps))
   take_places
       (runs_out_of_memory count id list ends log may server first readable refused answers_it
       answers same) keeps = subst (KeepsPlaces role) (sym same)

@@ -1,4 +1,5 @@
 -- What a call of an end makes of what it has accepted and of what it has handed out.
+use Rattle.h2_message.specs.declared.malformed.Malformed.{Malformed}
 use Rattle.h2_joined.proofs.Names
 use Names.{◌∷◌, Option, Result, Ok, Err, inl, inr, refl, sym, ap, ◌∙◌, Refusal, Log, Said, Act}
 use Names.{Field, Malformed}
@@ -287,10 +288,10 @@ pub record SaysTaken (before : EndLog) (answer : EndAnswer) (after : EndLog) : T
 
 -- By its answer, and what has happened then.
 taken_as : (before : EndLog) (answer is : EndAnswer) (log : Log) (handed : List Handed)
-    (after : EndLog) → answer ≡ is
-    → after ≡ record before { log = log; handed = handed } → handed ≡ handed_after is before.handed
-    → SaysTaken before answer after
-taken_as before answer is log handed after same now says =
+    (last : Option (ℕ × Malformed)) (after : EndLog) → answer ≡ is
+    → after ≡ record before { log = log; handed = handed; malformed = last }
+    → handed ≡ handed_after is before.handed → SaysTaken before answer after
+taken_as before answer is log handed last after same now says =
     record {
       accepted = ap (λ (end : EndLog). end.accepted) now;
       handed = ap (λ (end : EndLog). end.handed) now ∙ says
@@ -299,16 +300,16 @@ taken_as before answer is log handed after same now says =
 
 module _ (before : EndLog) (piece : List ℕ) (answer : EndAnswer) (after : EndLog) where
   pub taken_says : EndMayTake before piece answer after → SaysTaken before answer after
-  taken_says (fails code log takes same now) = taken_as before answer _ log _ after same now refl
+  taken_says (fails code log takes same now) = taken_as before answer _ log _ _ after same now refl
   taken_says (hands_nothing count log takes same now) =
-      taken_as before answer _ log _ after same now refl
+      taken_as before answer _ log _ _ after same now refl
   taken_says (passes count event log takes none same now) =
-      taken_as before answer _ log _ after same now refl
+      taken_as before answer _ log _ _ after same now refl
   taken_says (hands_out count event log takes id part is readable same now) =
-      taken_as before answer _ log _ after same now refl
+      taken_as before answer _ log _ _ after same now refl
   taken_says (refuses count event log takes id part is broken refused may up same now) =
-      taken_as before answer _ _ _ after same now refl
+      taken_as before answer _ _ _ _ after same now refl
   taken_says (refusal_fails count event log takes id part is broken
-      refused may code down same now) = taken_as before answer _ _ _ after same now refl
+      refused may code down same now) = taken_as before answer _ _ _ _ after same now refl
   taken_says (runs_out_of_memory count id list ends log takes role none
-      readable refused may same now) = taken_as before answer _ _ _ after same now refl
+      readable refused may same now) = taken_as before answer _ _ _ _ after same now refl

@@ -1,7 +1,7 @@
 -- What was sent and handed out at two joined ends keeps the order, whatever acts are made.
 use Rattle.h2_joined.proofs.Names
 use Names.{Result, Ok, Err, sym, subst, Role, Values, Act, ResetStream, SendPing, SendGoAway}
-use Names.{ChangeSettings, PutOut, Done, IsLog, opened_is_new, SentMessage, Option, Malformed}
+use Names.{Fail, ChangeSettings, PutOut, Done, IsLog, opened_is_new, SentMessage, Option, Malformed}
 use Names.{EndRefusal, EndLog, EndTook, EndFailed, KeepsOrder, no_part_next, Acted, Doing, JointEnd}
 use Names.{Delivery, IsDelivered, MayDo, IsControlCall, MayAsk, MayReply, ℕ, List, Answer, Said}
 use Names.{◌≡◌, ◌≢◌, ◌==◌, ◌++◌, [], inl, inr, ap, ◌∙◌, refl, Bool, true, false, take, length}
@@ -199,6 +199,7 @@ no_part_of_act (Release id count) call = tt
 no_part_of_act (ResetStream id code) call = tt
 no_part_of_act (SendPing octets) call = tt
 no_part_of_act SendGoAway call = tt
+no_part_of_act (Fail code) call = tt
 no_part_of_act (ChangeSettings values) call = tt
 no_part_of_act act call = absurd call
 

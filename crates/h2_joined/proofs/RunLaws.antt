@@ -1,4 +1,5 @@
 -- The laws of two joined ends.
+use Rattle.h2_joined.specs.Joints.{NoneWasEnded}
 use Rattle.h2_joined.proofs.Names.{[], ◌∷◌, ◌++◌, subst, Values, IsPrefixOfTokens, ends_to_server}
 use Rattle.h2_joined.proofs.Names.{ends_to_client, tokens_handed, tokens_said, JointEnd, Made}
 use Rattle.h2_joined.proofs.Names.{IsJoint, continues, MemorySufficed, half_of, AreQuiet}
@@ -11,7 +12,7 @@ use Rattle.h2_laws_pair.proofs.CarriedOctets.{carried}
 use Rattle.h2_joined.specs.Runs.{ActsLeadTo, leads_nowhere, leads_on}
 use Rattle.h2_joined.proofs.JointActs.{joint_holds}
 use Rattle.h2_joined.proofs.JointLaws.{server_has_all, client_has_all, faultless_end}
-use Rattle.h2_joined.proofs.JointMemory.{had_memory}
+use Rattle.h2_joined.proofs.JointMemory.{none_was_ended, had_memory}
 use Rattle.h2_joined.proofs.JointOrder.{hands_at}
 use Rattle.h2_joined.proofs.JointHolds.{log_of, turned, HoldsAt, JointHolds}
 use Rattle.h2_joined.specs.declared.act.Side.TheVariants as sides
@@ -43,15 +44,15 @@ module _ (client_values server_values : Values) (made : List Made) (client serve
   prefix_at_client i = hands_at sides.Client client_values server_values made client server i
       at_client
 
-  pub client_no_fault : MemorySufficed client server
+  pub client_no_fault : MemorySufficed client server → NoneWasEnded made
       → ReportsNoFault made client.happened sides.Server
-  client_no_fault had = faultless_end sides.Client client_values server_values made client server
-      at_client (had_memory client_values server_values made client server joint had)
+  client_no_fault had none = faultless_end sides.Client client_values server_values made client server
+      at_client (had_memory client_values server_values made client server joint had none)
 
-  pub server_no_fault : MemorySufficed client server
+  pub server_no_fault : MemorySufficed client server → NoneWasEnded made
       → ReportsNoFault made server.happened sides.Client
-  server_no_fault had = faultless_end sides.Server client_values server_values made server client
-      at_server (had_memory client_values server_values made client server joint had)
+  server_no_fault had none = faultless_end sides.Server client_values server_values made server client
+      at_server (had_memory client_values server_values made client server joint had none)
 
   -- No DATA of either end passes its windows.
   client_keeps : KeepsWindows client.happened.log
@@ -82,13 +83,15 @@ module _ (client_values server_values : Values) (made : List Made) (client serve
       → tokens_handed server.happened i ≡ tokens_said client.happened i
   whole_at_server i quiet = server_has_all client_values server_values made client server i
       at_client (had_memory client_values server_values made client server joint
-      (quiet_had_memory client server quiet)) quiet
+      (quiet_had_memory client server quiet) (none_was_ended client_values server_values made client
+      server joint quiet.quiet_client.up quiet.quiet_server.up)) quiet
 
   pub whole_at_client : (i : ℕ) → AreQuiet client server → (WasResetIn made client i → ⊥)
       → tokens_handed client.happened i ≡ tokens_said server.happened i
   whole_at_client i quiet = client_has_all client_values server_values made client server i
       at_client (had_memory client_values server_values made client server joint
-      (quiet_had_memory client server quiet)) quiet
+      (quiet_had_memory client server quiet) (none_was_ended client_values server_values made client
+      server joint quiet.quiet_client.up quiet.quiet_server.up)) quiet
 
 -- Both did so after each act.
 pub keep_at : (client_values server_values : Values) (made : List Made) (client server : JointEnd)

@@ -2,6 +2,7 @@
 -- then (RFC 9113, section 3).
 use Rattle.std.specs.Prelude.{◌≡◌, ◌≢◌, ◌⊎◌, ◌<◌, ◌-◌, ◌^◌, ℕ, suc, Bool, true, false, List, []}
 use Rattle.std.specs.Prelude.{◌∷◌, ◌++◌, length, take, drop, Option, Some, None, Result, Ok, Err}
+use Rattle.std.specs.List.{AllByRecursion}
 use Rattle.hpack.specs.Written.{AreOctets}
 use Rattle.h2_frame.specs.declared.code.Code.{Code}
 use Rattle.h2_frame.specs.declared.code.Code.TheVariants.{InternalError}
@@ -9,7 +10,7 @@ use Rattle.h2_spec_log.specs.declared.role.Role.{Role}
 use Rattle.h2_spec_log.specs.declared.role.Role.TheVariants.{Client, Server}
 use Rattle.h2_spec_log.specs.Acts.{Values, AreInRange, Act, Answer, IsTypedAct, Number, Count, Done}
 use Rattle.h2_spec_log.specs.Acts.{OutOfMemory, Refused, ResetStream, SendPing, SendGoAway}
-use Rattle.h2_spec_log.specs.Acts.{ChangeSettings, PutOut, SendFields, SendData, Release}
+use Rattle.h2_spec_log.specs.Acts.{ChangeSettings, PutOut, SendFields, SendData, Release, Fail}
 use Rattle.h2_spec_log.specs.LogCalls.{MayAnswer, with_call}
 use Rattle.h2_message.specs.Messages.{SentMessage}
 use Rattle.h2_laws_pair.specs.Pairs.{Half, given_since}
@@ -42,7 +43,8 @@ pub data Doing : Type 0 where
   Pumps : Doing
   PumpsSome : (most : ℕ) → Doing
   ReleasesAll : Doing
-  -- a call of the connection: of `release`, `reset`, `ping`, `go_away` or `change_settings`
+  -- a call of the connection: of `release`, `reset`, `ping`, `go_away`, `fail` or
+  -- `change_settings`
   Calls : (act : Act) → Doing
   -- octets of its output are put on the pipe to the other end
   Moves : (count : ℕ) → Doing
@@ -93,12 +95,13 @@ acted_as Done = acted.Done
 acted_as OutOfMemory = acted.Done
 acted_as (Refused refusal) = acted.Refused (Conn refusal)
 
--- The call is one of `release`, `reset`, `ping`, `go_away` and `change_settings`.
+-- The call is one of `release`, `reset`, `ping`, `go_away`, `fail` and `change_settings`.
 abbrev pub IsControlCall : Act → Type 0
 IsControlCall (Release id count) = Unit {0}
 IsControlCall (ResetStream id code) = Unit {0}
 IsControlCall (SendPing octets) = Unit {0}
 IsControlCall SendGoAway = Unit {0}
+IsControlCall (Fail code) = Unit {0}
 IsControlCall (ChangeSettings values) = Unit {0}
 IsControlCall act = ⊥
 
@@ -262,6 +265,11 @@ pub data IsJoint (client_values server_values : Values) : (history : List Made)
 pub record MemorySufficed (client server : JointEnd) : Type 0 where
   pub client_went_on : client.happened.log.failed ≢ Some InternalError
   pub server_went_on : server.happened.log.failed ≢ Some InternalError
+
+-- No end was ended by its caller: no `fail` was made.
+-- rule: joined (own) What one end has handed out is a prefix of what the other accepted
+abbrev pub NoneWasEnded : List Made → Type 0
+NoneWasEnded history = AllByRecursion (λ made. (code : Code) → made.doing ≢ Calls (Fail code)) history
 
 -- an end as half of a pair; `lost`: octets that were delivered once it had failed, and not used
 abbrev pub half_of : JointEnd → (lost : List ℕ) → Half

@@ -53,6 +53,7 @@ side_of (acts.Release side id count) = side
 side_of (acts.Reset side id code) = side
 side_of (acts.Ping side octets) = side
 side_of (acts.GoAway side) = side
+side_of (acts.Fail side code) = side
 side_of (acts.ChangeSettings side config) = side
 
 -- rule: joined (own) An act is the call of its name at its end
@@ -72,6 +73,7 @@ doing_of (acts.Release side id count) = Calls (log.Release id count)
 doing_of (acts.Reset side id code) = Calls (log.ResetStream id code)
 doing_of (acts.Ping side octets) = Calls (log.SendPing octets)
 doing_of (acts.GoAway side) = Calls log.SendGoAway
+doing_of (acts.Fail side code) = Calls (log.Fail code)
 doing_of (acts.ChangeSettings side config) = Calls (log.ChangeSettings (values_of config))
 
 -- what was done with an end, with its result

@@ -17,6 +17,7 @@ use Rattle.h2_joined.specs.declared.act.JointAct.{JointAct}
 use Rattle.h2_joined.specs.declared.kept.Kept.{Kept}
 use Rattle.h2_joined.specs.declared.joined.Joined.{Joined}
 use Rattle.h2_joined.specs.Joints.{Doing, JointEnd, Made, IsNextAct, MemorySufficed}
+use Rattle.h2_joined.specs.Joints.{NoneWasEnded}
 use Rattle.h2_joined.specs.Headline.{AreQuiet, WasResetIn, ReportsNoFault}
 use Rattle.h2_joined.specs.Kept.{Shown, accepted_shown, side_of, doing_of, JoinedRepresents}
 use Rattle.h2_joined.specs.Stored.{events_kept}
@@ -73,16 +74,16 @@ KeepWindowsThroughout made client server =
     × KeepsWindows then_client.happened.log × KeepsWindows then_server.happened.log
 
 -- The headline. What each end has handed out on every stream is a prefix of what the other has
--- accepted for it. Where memory was not refused to a connection, neither end reports a fault. No
--- DATA of either has passed its windows, after whichever act. Once both are quiet, it is all of it,
--- on every stream that was not reset.
+-- accepted for it. Where memory was not refused to a connection and neither was ended by its
+-- caller, neither end reports a fault. No DATA of either has passed its windows, after whichever
+-- act. Once both are quiet, it is all of it, on every stream that was not reset.
 -- rule: joined (own) What one end has handed out is a prefix of what the other accepted
 pub record HasHeadline (joined : Joined) (made : List Made) (client server : JointEnd) : Type 0
   where
     pub in_order : AreInOrder joined
-    pub client_without_fault : MemorySufficed client server
+    pub client_without_fault : MemorySufficed client server → NoneWasEnded made
         → ReportsNoFault made client.happened sides.Server
-    pub server_without_fault : MemorySufficed client server
+    pub server_without_fault : MemorySufficed client server → NoneWasEnded made
         → ReportsNoFault made server.happened sides.Client
     pub keep_windows : KeepWindowsThroughout made client server
     pub whole : AreQuiet client server → AreWhole joined made client

@@ -109,6 +109,13 @@ pub enum JointAct {
     },
     /// An end sends GOAWAY: [`Client::go_away`](h2_ends::Client::go_away).
     GoAway(Side),
+    /// An end ends the connection: [`Client::fail`](h2_ends::Client::fail).
+    Fail {
+        /// The end.
+        side: Side,
+        /// The code of its GOAWAY.
+        code: Code,
+    },
     /// An end changes its settings:
     /// [`Client::change_settings`](h2_ends::Client::change_settings).
     ChangeSettings {
@@ -127,7 +134,7 @@ pub enum Acted {
     /// How many octets a Pump, a PumpSome or a SendBody has sent of bodies, a Move has put on the
     /// pipe, or a Deliver has delivered.
     Count(usize),
-    /// A Respond, BeginResponse, SendTrailers, ReleaseAll, Release, Reset, Ping, GoAway or
+    /// A Respond, BeginResponse, SendTrailers, ReleaseAll, Release, Reset, Ping, GoAway, Fail or
     /// ChangeSettings was done.
     Done,
     /// The end has refused it: any act but a Deliver.

@@ -3,7 +3,7 @@
 ghost use Rattle.std.specs.Prelude.{◌≡◌};
 ghost use Rattle.h2_flow.specs.ConfigValues.{values_of};
 ghost use Rattle.h2_spec_log.specs.Acts.{ResetStream, SendPing, SendGoAway, ChangeSettings, Done};
-ghost use Rattle.h2_spec_log.specs.Acts.{Release};
+ghost use Rattle.h2_spec_log.specs.Acts.{Fail, Release};
 ghost use Rattle.h2_conn.specs.Conn.{answer_by};
 ghost use Rattle.h2_message.specs.Values.{message_value};
 ghost use Rattle.h2_joined.specs.declared.act.Side.TheVariants.{Client, Server};
@@ -15,7 +15,7 @@ ghost use Rattle.h2_joined.specs.Kept.{MakesAct, made};
 use crate::act::{Acted, Side};
 use crate::joined::Joined;
 use crate::kept::{Accepted, copy_twice};
-use h2_ends::{Config, EndRefusal, Message, Refusal};
+use h2_ends::{Code, Config, EndRefusal, Message, Refusal};
 
 impl Joined {
     // rule: joined (own) An act is the call of its name at its end
@@ -137,6 +137,16 @@ impl Joined {
         done(match side {
             Side::Client => self.client.go_away(),
             Side::Server => self.server.go_away(),
+        })
+    }
+
+    /// An end ends the connection with a code of its caller's.
+    pub(crate) fn fail(&mut self, side: Side, code: Code) -> Acted
+        ensures { MakesAct self.old (made side (Calls (Fail code)) result) self.new }
+    {
+        done(match side {
+            Side::Client => self.client.fail(code),
+            Side::Server => self.server.fail(code),
         })
     }
 

@@ -92,6 +92,7 @@ impl Joined {
             JointAct::Reset { side, id, code } => self.reset(*side, *id, *code),
             JointAct::Ping { side, octets } => self.ping(*side, *octets),
             JointAct::GoAway(side) => self.go_away(*side),
+            JointAct::Fail { side, code } => self.fail(*side, *code),
             JointAct::ChangeSettings { side, config } => self.change_settings(*side, *config),
         }
     }

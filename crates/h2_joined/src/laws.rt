@@ -13,18 +13,20 @@ ghost use Rattle.h2_ends.specs.Ends.{said_for};
 ghost use Rattle.h2_ends.specs.MessageTokens.{parts_heard, parts_said, IsPrefixOfParts};
 ghost use Rattle.h2_joined.specs.declared.act.Side.TheVariants.{Client, Server};
 ghost use Rattle.h2_joined.specs.Joints.{JointEnd, Made, IsJoint, MemorySufficed, half_of};
+ghost use Rattle.h2_joined.specs.Joints.{NoneWasEnded};
 ghost use Rattle.h2_joined.specs.Headline.{AreQuiet, WasResetIn, ReportsNoFault, HoldsTheRest};
 
 // contract: joined (own) What one end has handed out is a prefix of what the other accepted
 /// Two joined ends with their pipes are a pair that comes about, and so all laws of pairs hold of
-/// them: of their octets, header tables and windows. Where memory was not refused, it is
-/// undisturbed.
+/// them: of their octets, header tables and windows. Where memory was not refused and no Fail was
+/// made, it is undisturbed.
 pub fn joined_ends_are_a_pair()
     ensures { (client_values server_values : Values) (made : List Made)
         (client server : JointEnd) → IsJoint client_values server_values made client server
         → (client_lost : List ℕ) × (server_lost : List ℕ)
         × (pair : IsPair client_values server_values (half_of client client_lost)
-        (half_of server server_lost)) × (MemorySufficed client server → IsUndisturbed pair) }
+        (half_of server server_lost)) × (MemorySufficed client server → NoneWasEnded made
+        → IsUndisturbed pair) }
 {}
 
 /// What an end has handed out on a stream is a prefix of what the other has accepted for it, part
@@ -43,15 +45,18 @@ pub fn handed_out_is_a_prefix()
         (parts_said (said_for i server.happened.accepted)) }
 {}
 
-/// Where memory was not refused, neither end reports a fault: its connection has not failed, it has
-/// refused no message, and whatever stream it says the peer has reset, a Reset there has reset.
+/// Where memory was not refused and no Fail was made, neither end reports a fault: its connection
+/// has not failed, it has refused no message, and whatever stream it says the peer has reset, a
+/// Reset there has reset.
 pub fn no_fault_is_reported()
     ensures at_client { (client_values server_values : Values) (made : List Made)
         (client server : JointEnd) → IsJoint client_values server_values made client server
-        → MemorySufficed client server → ReportsNoFault made client.happened Server }
+        → MemorySufficed client server → NoneWasEnded made
+        → ReportsNoFault made client.happened Server }
     ensures at_server { (client_values server_values : Values) (made : List Made)
         (client server : JointEnd) → IsJoint client_values server_values made client server
-        → MemorySufficed client server → ReportsNoFault made server.happened Client }
+        → MemorySufficed client server → NoneWasEnded made
+        → ReportsNoFault made server.happened Client }
 {}
 
 /// Once both are quiet, what an end has accepted for a stream was handed out whole at the other,

@@ -16,9 +16,10 @@ use std::alloc::{AllocError, Global};
 // contract: joined (own) What one end has handed out is a prefix of what the other accepted
 /// The headline of this library. What each of two joined ends has handed out on every stream is a
 /// prefix of what the other has accepted for it, whatever acts were made. Where memory was not
-/// refused to a connection, neither end reports a fault. After whichever act, no DATA of either has
-/// passed its windows, as `h2_laws_end::no_data_passes_windows` says of one end. Once both are
-/// quiet, all that was accepted was handed out, on every stream that was not reset.
+/// refused to a connection, and no [`JointAct::Fail`] was made, neither end reports a fault. After
+/// whichever act, no DATA of either has passed its windows, as
+/// `h2_laws_end::no_data_passes_windows` says of one end. Once both are quiet, all that was
+/// accepted was handed out, on every stream that was not reset.
 ///
 /// For any other peer, [`Conn::take`](h2_ends::Conn::take),
 /// [`Client::take`](h2_ends::Client::take) and [`Server::take`](h2_ends::Server::take) say in their

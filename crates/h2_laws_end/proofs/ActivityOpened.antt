@@ -93,7 +93,7 @@ active_by_open role values log fields end id is may =
     let unwritten = unused_unwritten role values log id is new.2 in
     let grows = grows_call log act (Number id) in
     let writes = call_writes log act (Number id) (open_rules log fields end id may)
-    (λ other code wrong. cc) in
+    (λ other code wrong. cc) (λ code wrong. cc) in
     let kept = none_both (resets id) writes.credit (block id end _ ∷ log.sent)
     (none_resets log.role id writes.credit (harmless_credit log.role id writes.credit
     writes.is_credit)) (or_from _ _ (block_resets id id end _) unwritten.unreset) in

@@ -1,7 +1,7 @@
 -- What each step puts before what was read, written and reported, and what it says of it.
 use Rattle.h2_laws_end.proofs.Names
 use Names.{◌≡◌, ◌≤◌, ℕ, ◌+◌, List, [], ◌∷◌, ◌++◌, Option, Some, None, refl, sym, ap, ◌∙◌, inl, inr}
-use Names.{arith, append_assoc, subst, Code, InternalError, code_number, Frame, GoAway}
+use Names.{arith, append_assoc, subst, Code, InternalError, code_number, Frame, GoAway, Fail, ◌≢◌}
 use Names.{WindowUpdate, Item, alone, Refusal, Event, UnprocessedEvent, Act, Answer, Refuse, Done}
 use Names.{OutOfMemory, Refused, In, Log, next_unprocessed, log_view, Verdict, ConnectionFault}
 use Names.{StreamFault, NoEvent, Reported, Decoded, FrameStep, fails_with, begins_block, completes}
@@ -204,14 +204,16 @@ pub data AfterCall (log : Log) (act : Act) (answer : Answer) (after : Log) : Typ
       → Adds log after [] (credit ++ items_of (log_view log) act answer) []
       → AfterCall log act answer after
 
--- A call that is accepted, whose stream isn't one that makes the connection fail.
+-- A call that is accepted and doesn't end the connection, and whose stream isn't one that makes it
+-- fail.
 accepted_after : (log : Log) (act : Act)
     → refusal_of (log_view log) act ≡ None
     → ((id code : ℕ) → act ≡ Refuse id code → refuse_fault (log_view log) code ≡ None)
+    → ((code : Code) → act ≢ Fail code)
     → AfterCall log act (answer_of (log_view log) act)
     (with_call log act (answer_of (log_view log) act))
-accepted_after log act none up =
-    let writes = call_writes log act (answer_of (log_view log) act) refl up in
+accepted_after log act none up goes_on =
+    let writes = call_writes log act (answer_of (log_view log) act) refl up goes_on in
     let grows = grows_call log act (answer_of (log_view log) act) in
     was_accepted writes.credit writes.is_credit none refl (record {
       role = grows.role;
@@ -229,7 +231,7 @@ unfolding with_call refused_with with_sent
 refused_after log id code None none is =
     accepted_after log (Refuse id code) none (λ other number same.
     let equal : code ≡ number = cc in
-    subst (λ (n : ℕ). refuse_fault (log_view log) n ≡ None) equal is)
+    subst (λ (n : ℕ). refuse_fault (log_view log) n ≡ None) equal is) (λ other same. cc)
 refused_after log id code (Some fault) none is = rw is
     (was_broken fault (record { role = refl; received = refl; sent = refl; reported = refl }) refl)
 
@@ -237,8 +239,11 @@ refused_after log id code (Some fault) none is = rw is
 answered_after : (log : Log) (act : Act) → refusal_of (log_view log) act ≡ None
     → AfterCall log act (answer_of (log_view log) act)
     (with_call log act (answer_of (log_view log) act))
+unfolding with_call with_sent
 answered_after log (Refuse id code) none = refused_after _ _ _ _ none refl
-answered_after log act none = accepted_after log act none (λ id code wrong. cc)
+answered_after log (Fail code) none =
+    was_broken code (record { role = refl; received = refl; sent = refl; reported = refl }) refl
+answered_after log act none = accepted_after log act none (λ id code wrong. cc) (λ code wrong. cc)
 
 -- A call that is refused.
 refusal_after : (log : Log) (act : Act) (refusal : Refusal)

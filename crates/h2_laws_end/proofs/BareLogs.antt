@@ -9,7 +9,7 @@ use Names.{frame_step, replies_to, verdict_of, events_of, read, with_failure, to
 use Names.{refuse_fault, called, last_processed, waiting, output, unreleased, next_number}
 use Names.{active_count, max_streams, next_unprocessed, overflows, opened_by, with_sent}
 use Names.{with_reported, with_unreturned, with_verdict, with_item, with_step, with_frame}
-use Names.{with_items, refused_with, before_put_out, with_call}
+use Names.{with_items, refused_with, before_put_out, with_call, Fail}
 use Rattle.h2_spec_log.specs.ItemEffects.{discarded_flow}
 use Rattle.h2_spec_log.specs.LogSteps.{owed_at_close}
 use Rattle.h2_spec_log.specs.CallRules.{stream_of_act, returns_before_put_out, returns_credit}
@@ -243,6 +243,9 @@ module _ (log other : Log) where
   call_same (Refuse id code) answer same = refused_same log other (Refuse id code) answer _ same
       ∙ ap (λ (fault : Option Code). bare (refused_with other (Refuse id code) answer fault))
       (ap (λ (view : View). refuse_fault view code) (view_same log other same))
+  call_same (Fail code) answer same =
+      failure_same _ _ code _ _ (last_same log other same)
+      (called_same log other (Fail code) answer same)
   call_same (PutOut count) (Count given) same = put_out_same (PutOut count) (Count given) given same
   call_same act answer same = items_same log other act answer same
 

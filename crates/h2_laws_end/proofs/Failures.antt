@@ -10,7 +10,7 @@ use Names.{fails, IsLog, begins, took_some, took_one, met_fault, ran_out_of_memo
 use Names.{called_one, put_out_cases, none_holds, holds_unreturned, stream_of, Memory}
 use Names.{encoding_of_items, last_processed, opened_by, conditions, used, with_sent, with_reported}
 use Names.{with_verdict, with_step, with_frame, with_items, refused_with, with_call, opened}
-use Names.{SamePart, stays_written, HoldsOfWrites, holds_sent}
+use Names.{SamePart, stays_written, HoldsOfWrites, holds_sent, Fail}
 use Rattle.std.proofs.Common.{is_some}
 use Rattle.h2_spec_log.specs.Items.{encoding_of_item}
 use Rattle.h2_spec_log.specs.CallRules.{has_failed, may_fail_for_memory}
@@ -151,6 +151,9 @@ call_ends log act OutOfMemory up code is =
     (inl refl) code is
 call_ends log (Refuse id number) answer up code is =
     refused_ends log (Refuse id number) answer (refuse_fault (log_view log) number) up code is
+call_ends log (Fail own) answer up code is =
+    fails_ends own (last_processed log) (called log (Fail own) answer) (at_most _) (inl refl) code
+    is
 call_ends log (PutOut count) (Count given) up code is =
     still_up log.failed _ code up
     (holds_ready FailedAs failed_as (called log (PutOut count) (Count given))) is

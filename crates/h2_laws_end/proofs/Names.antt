@@ -70,7 +70,7 @@ pub use Rattle.h2_laws_log.proofs.LogHistory.{any_either, History, history_of, n
 pub use Rattle.h2_laws_log.proofs.LogHistory.{reported_append}
 pub use Rattle.h2_laws_log.proofs.LogInduction.{fails_instead, IsLogInvariant, IsPendingInvariant}
 pub use Rattle.h2_laws_log.proofs.LogInduction.{kept_by_logs, no_memory, pending_by_logs, puts_out}
-pub use Rattle.h2_laws_log.proofs.LogInduction.{refused, Replies, WritesNone}
+pub use Rattle.h2_laws_log.proofs.LogInduction.{refused, Replies, WritesNone, ends_connection}
 pub use Rattle.h2_laws_log.proofs.LogInvariant.{active_before, Good}
 pub use Rattle.h2_laws_log.proofs.LogViewLemmas.{closed_by_us_is, count_by_sums, last_is}
 pub use Rattle.h2_laws_log.proofs.LogViewLemmas.{owed_there, stream_is_active}
@@ -90,7 +90,7 @@ pub use Rattle.h2_spec_log.specs.Acts.{Act, Answer, Answered, AreInRange, Called
 pub use Rattle.h2_spec_log.specs.Acts.{Count, Done, Happened, In, Number, Open, Out, OutOfMemory}
 pub use Rattle.h2_spec_log.specs.Acts.{PutOut, Refuse, Refused, Release, ResetStream, SendData}
 pub use Rattle.h2_spec_log.specs.Acts.{SendFields, SendGoAway, SendPing, TakeAnswered, TakeCalled}
-pub use Rattle.h2_spec_log.specs.Acts.{Turn, Values}
+pub use Rattle.h2_spec_log.specs.Acts.{Turn, Values, Fail}
 pub use Rattle.h2_spec_log.specs.Allowed.{AllowedHistory}
 pub use Rattle.h2_spec_log.specs.CallRules.{answer_of, refusal_of}
 pub use Rattle.h2_spec_log.specs.Events.{DataEvent, Event, FieldsEvent, UnprocessedEvent}

@@ -92,7 +92,8 @@ opened_used log fields end id client is odd =
     let act = Open fields end in
     let grows = grows_call log act (Number id) in
     let writes = call_writes log act (Number id)
-    (number_from log.role id (next_number log) client is) (λ other code wrong. cc) in
+    (number_from log.role id (next_number log) client is) (λ other code wrong. cc)
+    (λ code wrong. cc) in
     opening_uses (with_call log act (Number id)).role id
     (with_call log act (Number id)).received (with_call log act (Number id)).sent
     (grows.role ∙ client) odd (rw (writes.sent) (block_there id end _ writes.credit log.sent))

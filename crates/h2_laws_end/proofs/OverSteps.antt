@@ -6,7 +6,7 @@ use Names.{list_any, Code, InternalError, code_number, WindowUpdate, wire_fault_
 use Names.{Role, Event, Act, Answer, Refuse, PutOut, Count, OutOfMemory, Refused, Log, log_view}
 use Names.{Verdict, Decoded, verdict_by_rules, items_of, with_unreturned, with_failure, took_none}
 use Names.{called, credit_cases, put_out_cases, TakeAnswer, MayTake, has_failed}
-use Names.{reports_unprocessed, ends_no_frame, ends_frame, meets_fault, runs_out_of_memory}
+use Names.{reports_unprocessed, ends_no_frame, ends_frame, meets_fault, runs_out_of_memory, Fail}
 use Names.{IsCredit, none_both, GoAway, UnprocessedEvent, next_unprocessed, is_block_on, with_sent}
 use Names.{with_items, refused_with, before_put_out, with_call, goaway_no_block, replies_no_block}
 use Rattle.h2_laws_end.proofs.ReadVerdicts.{Says, says_of, says_one}
@@ -94,6 +94,8 @@ module _ (i : ℕ) (P : Role → List Item → List Item → List Event → Type
       failure_keeps InternalError _ (called log act OutOfMemory) is
   call_keeps log (Refuse id code) answer none is = refused_keeps log (Refuse id code) answer _ none
       is
+  call_keeps log (Fail code) answer none is =
+      failure_keeps code _ (called log (Fail code) answer) is
   call_keeps log (PutOut count) (Count given) none is =
       ready_keeps (called log (PutOut count) (Count given)) is
   call_keeps log act answer none is = items_keep log act answer none is

@@ -1,7 +1,7 @@
 -- What an end has written can be sent: calls, and so every log.
 use Rattle.h2_laws_end.proofs.Names
 use Names.{◌≡◌, AllByRecursion, stream_is_active, pending_by_logs, comes_as_before, greatest_number}
-use Names.{ℕ, [], inr, Act, Log}
+use Names.{ℕ, [], inr, Act, Log, Fail}
 use Names.{suc, ◌^◌, ◌≤◌, ◌<◌, true, List, ◌∷◌, None, refl, inl, Item, Role, Open, ◌||◌, used, Good}
 use Names.{◌==◌, ResetStream, most_between, active_parts, unreleased_is, processed_by, refuse_fault}
 use Names.{nat_lt, Client, Server, Values, Release, block_of, owed_on, max_list, items_of, next_odd}
@@ -216,6 +216,7 @@ accepted_sendable role log SendGoAway represents typed none up are = (
       (last_low log are) (omega arith),
   tt,
 )
+accepted_sendable role log (Fail code) represents typed none up are = tt
 accepted_sendable role log (PutOut count) represents typed none up are = tt
 accepted_sendable role log (ChangeSettings values) represents typed none up are = (
   change_sendable (max_payload_sent log) log.role _ values (most_between log.received) typed,

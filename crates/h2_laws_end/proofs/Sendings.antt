@@ -6,7 +6,8 @@ use Names.{Role, Refusal, Values, Act, Answer, Open, SendFields, SendData, Relea
 use Names.{Count, Done, OutOfMemory, Refused, Log, log_view, Verdict, ConnectionFault, StreamFault}
 use Names.{NoEvent, Reported, Decoded, answer_of, data_items, read, called, IsLog, IsLogInvariant}
 use Names.{kept_by_logs, block_of, replies_to, opening_pairs, items_of, with_sent, opened}
-use Names.{WritesNone, refused, no_memory, fails_instead, puts_out, changes_encoder}
+use Names.{WritesNone, refused, no_memory, fails_instead, puts_out, changes_encoder, Fail}
+use Names.{ends_connection}
 use Rattle.hpack.specs.Lists.{EncoderState}
 use Rattle.hpack.specs.Choice.{after_block}
 use Rattle.h2_spec_log.specs.CallRules.{encoder_after_call}
@@ -157,6 +158,7 @@ silent_call log _ _ (no_memory act) is =
     let same = failed_lists act log.calls log.encoder in
     quiet_called log act OutOfMemory same.0 same.1 is
 silent_call log _ _ (fails_instead id code) is = quiet_called log (Refuse id code) Done refl refl is
+silent_call log _ _ (ends_connection code) is = quiet_called log (Fail code) Done refl refl is
 silent_call log _ _ (puts_out count given) is =
     quiet_called log (PutOut count) (Count given) refl refl is
 

@@ -10,6 +10,7 @@ use Names.{StreamFault, NoEvent, Reported, answer_of, refusal_of, read, called, 
 use Names.{written_is_allowed, total_none, IsLogInvariant, kept_by_logs, total-append, data_on}
 use Names.{data_of, total, given_on, given_on_connection, replies_to, items_of, with_sent, opened}
 use Names.{WritesNone, refused, no_memory, fails_instead, puts_out, count_by_sums, chosen_low}
+use Names.{ends_connection, Fail}
 use Rattle.h2_spec_log.specs.Settings.{one_settings}
 use Rattle.h2_spec_log.specs.CallRules.{data_count}
 use Rattle.h2_spec_log.specs.Allowed.{Origin, IsOpening}
@@ -114,6 +115,7 @@ unfolding octets_by_calls
 none_writes i _ _ calls (refused act refusal) = refused_writes i act refusal calls
 none_writes i _ _ calls (no_memory act) = out_of_memory_writes i act calls
 none_writes i _ _ calls (fails_instead id code) = refl
+none_writes i _ _ calls (ends_connection code) = refl
 none_writes i _ _ calls (puts_out count given) = refl
 
 -- What a log has written of a stream's DATA is what its calls have written.
@@ -260,6 +262,7 @@ call_newest log (SendData id octets end) none is =
     let fits = count_fits _ _ _ _ _ (total data_of log.sent) goes (sym by_sums) in
     (fits.1, fits.2)) is
 call_newest log (Release id count) none is = quiet_newest log.received _ _ refl
+call_newest log (Fail code) none is = is
 call_newest log (PutOut count) none is = is
 call_newest log act none is = quiet_newest log.received log.sent _ refl
 

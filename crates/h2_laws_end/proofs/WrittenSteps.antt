@@ -6,7 +6,7 @@ use Names.{PutOut, Count, Done, Log, max_payload_sent, max_payload_sent_by, log_
 use Names.{ConnectionFault, Decoded, replies_to, verdict_of, answer_of, refuse_fault, read}
 use Names.{with_unreturned, called, credit_cases, put_out_cases, IsCredit, encoding_of_items}
 use Names.{items_of, with_sent, with_reported, with_item, with_credit_returned, with_verdict}
-use Names.{with_items, refused_with, with_call}
+use Names.{with_items, refused_with, with_call, Fail, ◌≢◌}
 use Rattle.h2_laws_log.proofs.TurnsOfLogs.{written_after}
 use Rattle.h2_laws_end.specs.Written.{Writes}
 
@@ -156,21 +156,24 @@ put_out_writes log count given =
 -- A call with the answer of the rules.
 answered_writes : (log : Log) (act : Act)
     → ((id code : ℕ) → act ≡ Refuse id code → refuse_fault (log_view log) code ≡ None)
+    → ((code : Code) → act ≢ Fail code)
     → Writes log (with_call log act (answer_of (log_view log) act)) (items_of (log_view log) act
     (answer_of (log_view log) act))
 unfolding with_call items_of refused_with
-answered_writes log (Refuse id code) up = rw (up id code refl) (call_items _ _ Done)
-answered_writes log (PutOut count) up = put_out_writes log count _
-answered_writes log act up = call_items log act _
+answered_writes log (Refuse id code) up goes_on = rw (up id code refl) (call_items _ _ Done)
+answered_writes log (Fail code) up goes_on = absurd (goes_on code refl)
+answered_writes log (PutOut count) up goes_on = put_out_writes log count _
+answered_writes log act up goes_on = call_items log act _
 
 -- A call that is accepted writes what it owes, and credit.
 pub call_writes : (log : Log) (act : Act) (answer : Answer)
     → answer ≡ answer_of (log_view log) act
     → ((id code : ℕ) → act ≡ Refuse id code → refuse_fault (log_view log) code ≡ None)
+    → ((code : Code) → act ≢ Fail code)
     → Writes log (with_call log act answer) (items_of (log_view log) act answer)
-call_writes log act answer is up =
+call_writes log act answer is up goes_on =
     subst (λ (a : Answer). Writes log (with_call log act a) (items_of (log_view log) act a))
-    (sym is) (answered_writes log act up)
+    (sym is) (answered_writes log act up goes_on)
 
 -- Events write nothing.
 reported_writes : (before log : Log) (events : List Event) (items : List Item)

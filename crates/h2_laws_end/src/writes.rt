@@ -1,13 +1,13 @@
 //! What an end writes.
 
 ghost use Rattle.std.specs.Prelude.{◌≡◌, ℕ, ◌+◌, ◌<◌, Bool, true, false, List, ◌++◌, Option, Some};
-ghost use Rattle.std.specs.Prelude.{None, pos, ◌+ℤ◌, int_lt};
+ghost use Rattle.std.specs.Prelude.{None, pos, ◌+ℤ◌, int_lt, ◌≢◌};
 ghost use Rattle.std.specs.List.{AllByRecursion, list_any};
 ghost use Rattle.h2_frame.specs.declared.code.Code.{Code};
 ghost use Rattle.h2_spec_log.specs.declared.role.Role.{Role};
 ghost use Rattle.h2_block.specs.Grouping.{Item};
 ghost use Rattle.h2_spec_log.specs.Items.{data_on, ends, increment_on, total};
-ghost use Rattle.h2_spec_log.specs.Acts.{Values, Act, Answer, SendData, Refuse, Count};
+ghost use Rattle.h2_spec_log.specs.Acts.{Values, Act, Answer, SendData, Refuse, Count, Fail};
 ghost use Rattle.h2_spec_log.specs.Settings.{own_value, value_read};
 ghost use Rattle.h2_spec_log.specs.Windows.{first_window, connection_send_window};
 ghost use Rattle.h2_spec_log.specs.Limits.{max_frame_size_sent};
@@ -77,13 +77,14 @@ pub fn receive_window_is_kept()
 {}
 
 // contract: 4.3 No other frame is sent between the frames of a field block
-/// What each step writes: of a call that is accepted, what it owes; of an item that is no fault of
-/// the connection, what is replied to it; and credit. Nothing comes in between, so that field
-/// blocks are unbroken (section 4.3).
+/// What each step writes: of a call that is accepted, and does not make the connection fail, what
+/// it owes; of an item that is no fault of the connection, what is replied to it; and credit.
+/// Nothing comes in between, so that field blocks are unbroken (section 4.3).
 pub fn each_step_writes_what_it_owes()
     ensures call { (log : Log) (act : Act) (answer : Answer)
         → answer ≡ answer_of (log_view log) act
         → ((id code : ℕ) → act ≡ Refuse id code → refuse_fault (log_view log) code ≡ None)
+        → ((code : Code) → act ≢ Fail code)
         → Writes log (with_call log act answer) (items_of (log_view log) act answer) }
     ensures item { (log : Log) (decoded : Option Decoded) (item : Item)
         → ((code : Code) → verdict_of (log_view log) decoded item ≡ ConnectionFault code → ⊥)

@@ -3,7 +3,7 @@
 use Rattle.std.proofs.Common.{map as each}
 use Rattle.h2_laws_log.proofs.Names
 use Names.{Code, InternalError, Frame, Item, Begun, encoding_of_items, Event, Act, Answer, Refuse}
-use Names.{PutOut, Number, Count, Done, OutOfMemory, Refused, In, Out, Happened, Log}
+use Names.{Fail, PutOut, Number, Count, Done, OutOfMemory, Refused, In, Out, Happened, Log}
 use Names.{max_payload_sent, log_view, Verdict, ConnectionFault, StreamFault, NoEvent, Reported}
 use Names.{Decoded, FrameStep, fails_with, begins_block, completes, frame_step, replies_to}
 use Names.{events_of, items_of, read, used, limits_from, with_sent, with_reported, with_unreturned}
@@ -126,6 +126,7 @@ module _ (R : Log → Log → Type 0) (holds : HoldsOfFailures R) where
   holds_other_call log (Refuse id code) (Number n) other = holds_refused log _ _ _
   holds_other_call log (Refuse id code) (Count n) other = holds_refused log _ _ _
   holds_other_call log (Refuse id code) Done other = holds_refused log _ _ _
+  holds_other_call log (Fail code) answer other = holds_failure code _ _
   holds_other_call log (PutOut count) (Count n) other = absurd (other count refl)
   holds_other_call log act answer other = holds_items R holds.writes log act answer
 
@@ -150,6 +151,7 @@ module _ (R : Log → Log → Type 0) (holds : HoldsOfCalls R) where
   holds_call log (Refuse id code) (Number n) = holds_refused R holds.failures log _ _ _
   holds_call log (Refuse id code) (Count n) = holds_refused R holds.failures log _ _ _
   holds_call log (Refuse id code) Done = holds_refused R holds.failures log _ _ _
+  holds_call log (Fail code) answer = holds_failure R holds.failures code _ _
   holds_call log (PutOut count) (Count given) =
       holds_put_out (called log (PutOut count) (Count given)) given
   holds_call log act answer = holds_items R holds.failures.writes log act answer

@@ -4,8 +4,8 @@ use Rattle.h2_laws_log.proofs.Names
 use Names.{is_some, both_ways, and_parts, ltb-true, ltb-false, not-true, Code, InternalError}
 use Names.{EnhanceYourCalm, Reset, Settings, Ping, GoAway, Item, alone, Role, Refusal, total}
 use Names.{increment_on, one_answer, value_read, settings_count, one_ack, reported_total, Values}
-use Names.{AreInRange, Act, Answer, Release, ResetStream, Refuse, SendPing, SendGoAway, PutOut}
-use Names.{ChangeSettings, Count, Done, OutOfMemory, Refused, Log, active, released, acked}
+use Names.{AreInRange, Act, Answer, Release, ResetStream, Refuse, SendPing, SendGoAway, Fail}
+use Names.{PutOut, ChangeSettings, Count, Done, OutOfMemory, Refused, Log, active, released, acked}
 use Names.{last_processed, log_view, conditions, refusal_of, items_of, stream_of_act, changed_pairs}
 use Names.{with_sent, with_reported, called, with_items, refused_with, with_call, AllowedHistory}
 use Names.{writes, active_by_items, none_since, ◌≡◌, ◌≢◌, ℕ, zero, suc, zero-add, ◌==◌, ◌%◌, nat_lt}
@@ -20,7 +20,8 @@ use Rattle.h2_laws_log.proofs.LogInvariant.{Good, Represents, NumbersFit, Moves}
 use Rattle.h2_laws_log.proofs.LogViewLemmas.{when_some, stream_is_active}
 use Rattle.h2_laws_log.proofs.ReaderStates.{active_parts, active_unnamed}
 use Rattle.h2_laws_log.proofs.ReplyInvariant.{active_resets}
-use Rattle.h2_laws_log.proofs.LogInduction.{WritesNone, refused, no_memory, fails_instead, puts_out}
+use Rattle.h2_laws_log.proofs.LogInduction.{WritesNone, refused, no_memory, fails_instead}
+use Rattle.h2_laws_log.proofs.LogInduction.{ends_connection, puts_out}
 
 -- An active stream is active by what was read and written.
 pub active_is_active : (log : Log) (i : ℕ) → active log i ≡ true
@@ -140,6 +141,17 @@ unfolding with_call conditions released
 refuse_represents role log id code answer represents fit none done = rw done
     (refuse_by role log id code (refuse_fault (log_view log) code) represents fit none refl)
 
+-- The invariant holds after a call that ends the connection.
+pub end_represents : (role : Role) (log : Log) (code : Code) (answer : Answer)
+    → Represents role (history_of log) → (log.failed ≡ None → NumbersFit (history_of log))
+    → refusal_of (log_view log) (Fail code) ≡ None → answer ≡ Done
+    → Represents role (history_of (with_call log (Fail code) answer))
+unfolding with_call conditions released
+end_represents role log code answer represents fit none done =
+    let up = none_since log.failed (first_none _ _ _ none).0 in
+    rw done (fails_represents role code (last_processed log) (called log (Fail code) Done)
+    (recalled_represents _ (history_of log) _ (λ j. refl) represents) up (last_low log (fit up)))
+
 -- The invariant holds after a connection that fails in a call, which was refused an allocation and
 -- can't be refused.
 pub failed_represents : (role : Role) (log : Log) (act : Act)
@@ -244,4 +256,5 @@ unfolding released
 released_none i _ _ calls (refused act refusal) = released_refused i act refusal calls
 released_none i _ _ calls (no_memory act) = released_out_of_memory i act calls
 released_none i _ _ calls (fails_instead id code) = refl
+released_none i _ _ calls (ends_connection code) = refl
 released_none i _ _ calls (puts_out count given) = refl

@@ -3,7 +3,7 @@ use Rattle.h2_laws_log.proofs.Names
 use Names.{list_any, both_ways, InternalError, Role, total, increment_on, one_answer, is_goaway}
 use Names.{settings_count, one_ack, UnprocessedEvent, flow_on, reported_total, one_acked, one_pong}
 use Names.{Values, AreInRange, Act, Answer, IsTypedAct, Open, SendFields, SendData, Release}
-use Names.{ResetStream, Refuse, SendPing, SendGoAway, PutOut, ChangeSettings, Log, released}
+use Names.{ResetStream, Refuse, SendPing, SendGoAway, Fail, PutOut, ChangeSettings, Log, released}
 use Names.{last_processed, least_goaway, next_unprocessed, with_sent, with_reported, owed_at_close}
 use Names.{took_none, used, opened, with_call, MayAnswer, accepts, refuses, lacks, fails}
 use Names.{refusal_of, answer_of, log_view, IsLog, AllowedHistory, starts, sum_below, ◌≡◌, ◌≢◌, ℕ}
@@ -12,7 +12,8 @@ use Names.{refl, sym, arith, wire_fault_code, begins, took_some, took_one, met_f
 use Names.{ran_out_of_memory, reported_one, called_one}
 use Rattle.h2_laws_log.proofs.FitItems.{completed_fit, stream_low}
 use Rattle.h2_laws_log.proofs.InvariantCalls.{refused_represents, reset_represents}
-use Rattle.h2_laws_log.proofs.InvariantCalls.{refuse_represents, failed_represents, ping_represents}
+use Rattle.h2_laws_log.proofs.InvariantCalls.{refuse_represents, end_represents}
+use Rattle.h2_laws_log.proofs.InvariantCalls.{failed_represents, ping_represents}
 use Rattle.h2_laws_log.proofs.InvariantCalls.{leave_represents, change_represents}
 use Rattle.h2_laws_log.proofs.InvariantCalls.{put_out_represents}
 use Rattle.h2_laws_log.proofs.InvariantReads.{frame_represents}
@@ -81,6 +82,8 @@ accepted_represents role log (SendPing octets) answer represents fit typed none 
     (ping_represents role log octets represents none)
 accepted_represents role log SendGoAway answer represents fit typed none is = rw is
     (leave_represents role log represents fit none)
+accepted_represents role log (Fail code) answer represents fit typed none is =
+    end_represents role log code answer represents fit none is
 accepted_represents role log (PutOut count) answer represents fit typed none is = rw is
     (put_out_represents role log count _ represents)
 accepted_represents role log (ChangeSettings values) answer represents fit typed none is = rw is

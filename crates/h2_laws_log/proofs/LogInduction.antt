@@ -5,8 +5,9 @@ use Rattle.std.proofs.Common.{map as each, is_some}
 use Rattle.h2_spec_log.specs.Histories.{TakesOctets, IsDecodedFor}
 use Rattle.h2_laws_log.proofs.Names.{and_parts, Code, InternalError, Frame, Item, Begun, Role}
 use Rattle.h2_laws_log.proofs.Names.{Refusal, Event, UnprocessedEvent, Values, AreInRange, Act}
-use Rattle.h2_laws_log.proofs.Names.{Answer, IsTypedAct, Refuse, PutOut, Count, Done, OutOfMemory}
-use Rattle.h2_laws_log.proofs.Names.{Refused, In, Happened, Log, last_processed, output, waiting}
+use Rattle.h2_laws_log.proofs.Names.{Answer, IsTypedAct, Refuse, Fail, PutOut, Count, Done}
+use Rattle.h2_laws_log.proofs.Names.{OutOfMemory, Refused, In, Happened, Log, last_processed}
+use Rattle.h2_laws_log.proofs.Names.{output, waiting}
 use Rattle.h2_laws_log.proofs.Names.{next_unprocessed, log_view, full_output, Verdict}
 use Rattle.h2_laws_log.proofs.Names.{ConnectionFault, StreamFault, NoEvent, Reported, Decoded}
 use Rattle.h2_laws_log.proofs.Names.{FrameStep, fails_with, begins_block, completes, frame_step}
@@ -95,16 +96,17 @@ pub record IsKeptByCredit (P : Log → Type 0) : Type 0 where
   -- all that is unreturned is returned, by WINDOW_UPDATE of the connection
   pub returned : (log : Log) → ReturnsCredit log → P log → P (with_credit_returned log)
 
--- A call with this answer writes no items of its own: it is refused; memory runs out in it, or it
--- refuses a stream, and the connection fails; or it puts output out.
+-- A call with this answer writes no items of its own: it is refused; memory runs out in it, it
+-- refuses a stream, or it asks for it, and the connection fails; or it puts output out.
 pub data WritesNone : Act → Answer → Type 0 where
   refused : (act : Act) (refusal : Refusal) → WritesNone act (Refused refusal)
   no_memory : (act : Act) → WritesNone act OutOfMemory
   fails_instead : (id code : ℕ) → WritesNone (Refuse id code) Done
+  ends_connection : (code : Code) → WritesNone (Fail code) Done
   puts_out : (count given : ℕ) → WritesNone (PutOut count) (Count given)
 
--- The connection fails with this code in a call with this answer: memory runs out in the call, or
--- the stream that it refuses makes a fault of the connection.
+-- The connection fails with this code in a call with this answer: memory runs out in the call, the
+-- stream that it refuses makes a fault of the connection, or the call asks for it.
 pub data FailsWith (log : Log) : Act → Answer → Code → Type 0 where
   out_of_memory : (act : Act) (answer : Answer) → answer ≡ OutOfMemory
       → FailsWith log act answer InternalError
@@ -112,6 +114,8 @@ pub data FailsWith (log : Log) : Act → Answer → Code → Type 0 where
       → refusal_of (log_view log) (Refuse id code) ≡ None
       → refuse_fault (log_view log) code ≡ Some fault
       → FailsWith log (Refuse id code) answer fault
+  caller_fails : (code : Code) (answer : Answer) → answer ≡ Done
+      → refusal_of (log_view log) (Fail code) ≡ None → FailsWith log (Fail code) answer code
 
 -- What P needs to hold after this call with this answer, where it holds before. The log need not be
 -- known to come about.
@@ -300,6 +304,9 @@ module _ (P : Log → Type 0) (log : Log) where
   unfolding with_call
   accepted_kept (Refuse id code) kept same none is =
       refused_kept id code (refuse_fault (log_view log) code) kept same none refl is
+  accepted_kept (Fail code) kept same none is =
+      kept.failed Done code (caller_fails code _ same none)
+      (kept.called Done (ends_connection code) is)
   accepted_kept (PutOut count) kept same none is = put_out_kept count _ kept is
   accepted_kept act kept same none is = items_kept act kept none (λ id code wrong. cc) is
 

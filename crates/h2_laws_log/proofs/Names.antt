@@ -71,7 +71,7 @@ pub use Rattle.h2_block.specs.Grouping.{Item, alone, block, Begun, next_fault}
 pub use Rattle.h2_spec_log.specs.Acts.{Act, Values, Answer, AreInRange, Done, Release, Count, Open}
 pub use Rattle.h2_spec_log.specs.Acts.{OutOfMemory, PutOut, Refuse, SendData, SendGoAway, Happened}
 pub use Rattle.h2_spec_log.specs.Acts.{Number, Refused, SendFields, ChangeSettings, In, ResetStream}
-pub use Rattle.h2_spec_log.specs.Acts.{SendPing, Turn, Out, shown}
+pub use Rattle.h2_spec_log.specs.Acts.{SendPing, Turn, Out, shown, Fail}
 pub use Rattle.h2_spec_log.specs.Allowed.{AllowedHistory, writes, HasAcknowledged, MayContinue}
 pub use Rattle.h2_spec_log.specs.Allowed.{Allowed, IsReader, starts, MayOpen, MayReset}
 pub use Rattle.h2_spec_log.specs.Allowed.{active_by_items, reads, MayUpdateWindow}

@@ -7,7 +7,7 @@ use Names.{IsTypedAct, Open, Refuse, Done, OutOfMemory, Refused, Log, active, la
 use Names.{released, code_number, with_failure, called, with_call, with_items, MayAnswer}
 use Names.{refuse_fault, items_of, stream_of_act, encoder_after_call, refusal_of, conditions, IsLog}
 use Names.{called_one, queue_output, fail, after_refuse, after_call, reset_stream, Represents}
-use Names.{Refusal, stream_is_active, and_other, none_holds}
+use Names.{Refusal, stream_is_active, and_other, none_holds, Fail}
 use Rattle.h2_laws_log.proofs.InvariantCalls.{released_refused, no_fault, released_out_of_memory}
 use Rattle.h2_spec_log.specs.LogCalls.{refused_with}
 use Rattle.h2_laws_machine.proofs.CallReset.{reset_up}
@@ -91,6 +91,16 @@ unfolding with_call
 out_of_memory_represents values e log act represents typed may up =
     fails_represent _ _ _ _ OutOfMemory InternalError (λ i. released_out_of_memory i act log.calls)
     represents up (called_one represents.came act OutOfMemory typed may)
+
+-- An end that ends the connection by a call represents its log.
+pub end_represents : (values : Values) (e : End) (log : Log) (code : Code)
+    → Represents values e log → IsTypedAct (Fail code) → MayAnswer log (Fail code) Done
+    → e.failed ≡ None
+    → Represents values (after_call e (Fail code)) (with_call log (Fail code) Done)
+unfolding after_call with_call released
+end_represents values e log code represents typed may up =
+    fails_represent values e log (Fail code) Done code (λ i. refl) represents up
+    (called_one represents.came (Fail code) Done typed may)
 
 -- Refusing a stream makes the connection fail where the log's does.
 fault_same : (values : Values) (e : End) (log : Log) (code : ℕ) → Represents values e log

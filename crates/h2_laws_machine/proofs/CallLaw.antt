@@ -7,14 +7,14 @@ use Names.{ResetStream, Refuse, SendPing, SendGoAway, PutOut, ChangeSettings, Nu
 use Names.{Refused, is_server, settings_count, Log, acked, active, last_processed, next_number}
 use Names.{conditions, refusal_of, answer_of, may_fail_for_memory, MayAnswer, accepts, refuses}
 use Names.{lacks, fails, with_call, End, after_call, Represents, Role, Client, Server, Refusal}
-use Names.{end_after, log_represents, none_since, stream_is_active, Memory, none_holds}
+use Names.{end_after, log_represents, none_since, stream_is_active, Memory, none_holds, Fail}
 use Rattle.h2_laws_log.proofs.AllowedHistories.{wrote_settings}
 use Rattle.h2_laws_log.proofs.InvariantSends.{client_since}
 use Rattle.h2_laws_log.proofs.CallConditions.{first_none}
 use Rattle.h2_laws_log.proofs.LogViewLemmas.{open_out}
 use Rattle.h2_laws_log.proofs.StreamNumbers.{next_odd}
 use Rattle.h2_laws_machine.proofs.CallFailing.{refused_represents, out_of_memory_represents}
-use Rattle.h2_laws_machine.proofs.CallFailing.{refuse_represents}
+use Rattle.h2_laws_machine.proofs.CallFailing.{refuse_represents, end_represents}
 use Rattle.h2_laws_machine.proofs.CallOpen.{IsClear, open_up}
 use Rattle.h2_laws_machine.proofs.CallRefusals.{refusal_same}
 use Rattle.h2_laws_machine.proofs.CallRelease.{release_up}
@@ -61,40 +61,46 @@ opened_up values e log fields end represents client sound up =
     open_up e log fields end client odd above (sound.clear client (log_view log).next_number above)
     up
 
--- After a call that is accepted, and that neither puts out output nor refuses a stream, an end that
--- is up represents its log.
+-- a call that neither refuses a stream nor ends the connection
+abbrev LeavesConnection : Act → Type 0
+LeavesConnection (Refuse id code) = ⊥
+LeavesConnection (Fail code) = ⊥
+LeavesConnection act = Unit {0}
+
+-- After such a call that is accepted, and doesn't put out output, an end that is up represents its
+-- log.
 call_up : (values : Values) (e : End) (log : Log) (act : Act) → Represents values e log
     → refusal_of (log_view log) act ≡ None → IsSound log → ((count : ℕ) → act ≡ PutOut count → ⊥)
-    → ((id code : ℕ) → act ≡ Refuse id code → ⊥) → Up e log
+    → LeavesConnection act → Up e log
     → Up (after_call e act) (with_call log act (answer_of (log_view log) act))
 unfolding conditions
-call_up values e log (Open fields end) represents none sound no_put no_refuse up =
+call_up values e log (Open fields end) represents none sound no_put leaves up =
     let holds = none_holds _ none in
     let server = or_parts (is_server log.role) _ holds.1.1.0 in
     opened_up values e log fields end represents (client_since log.role server.0) sound up
-call_up values e log (SendFields id fields end) represents none sound no_put no_refuse up =
+call_up values e log (SendFields id fields end) represents none sound no_put leaves up =
     let holds = none_holds _ none in
     let active = stream_is_active log id holds.1.0 in
     fields_up e log id fields end active (open_out log id active holds.1.1.0) up
-call_up values e log (SendData id octets end) represents none sound no_put no_refuse up =
+call_up values e log (SendData id octets end) represents none sound no_put leaves up =
     let holds = none_holds _ none in
     let active = stream_is_active log id holds.1.0 in
     data_up e log id octets end active (open_out log id active holds.1.1.0) up
-call_up values e log (Release id count) represents none sound no_put no_refuse up =
+call_up values e log (Release id count) represents none sound no_put leaves up =
     let holds = none_holds _ none in
     release_up e log id count (stream_is_active log id holds.1.0) up
-call_up values e log (ResetStream id code) represents none sound no_put no_refuse up =
+call_up values e log (ResetStream id code) represents none sound no_put leaves up =
     let holds = none_holds _ none in
     reset_call_up e log id code (stream_is_active log id holds.1.0) up
-call_up values e log (Refuse id code) represents none sound no_put no_refuse up =
-    absurd (no_refuse id code refl)
-call_up values e log (SendPing octets) represents none sound no_put no_refuse up =
+call_up values e log (Refuse id code) represents none sound no_put leaves up = absurd leaves
+call_up values e log (Fail code) represents none sound no_put leaves up = absurd leaves
+call_up values e log (SendPing octets) represents none sound no_put leaves up =
     ping_up e log octets sound.pongs up
-call_up values e log SendGoAway represents none sound no_put no_refuse up =
+call_up values e log SendGoAway represents none sound no_put leaves up =
     goaway_up e log sound.processed up
-call_up values e log (PutOut count) represents none sound no_put no_refuse up =
+call_up values e log (PutOut count) represents none sound no_put leaves up =
     absurd (no_put count refl)
-call_up values e log (ChangeSettings others) represents none sound no_put no_refuse up =
+call_up values e log (ChangeSettings others) represents none sound no_put leaves up =
     let written = (log_represents e.role values log represents.came).with_sent in
     settings_up e log others sound.acks (wrote_settings log.role log.received log.sent written) up
 
@@ -107,13 +113,13 @@ plain_law : (values : Values) (e : End) (log : Log) (act : Act) → Represents v
     → IsTypedAct act
     → MayAnswer log act (answer_by log act) → refusal_of (log_view log) act ≡ None
     → (log.failed ≡ None → IsSound log)
-    → ((count : ℕ) → act ≡ PutOut count → ⊥) → ((id code : ℕ) → act ≡ Refuse id code → ⊥)
+    → ((count : ℕ) → act ≡ PutOut count → ⊥) → LeavesConnection act
     → Represents values (after_call e act) (with_call log act (answer_by log act))
-plain_law values e log act represents typed may none sound no_put no_refuse =
+plain_law values e log act represents typed may none sound no_put leaves =
     let log_up = up_since _ _ no_put none in
     let up = up_of _ _ _ represents (represents.failed ∙ log_up) in
     represents_after _ _ _ _ _ represents typed may (refusal_same _ _ _ _ represents ∙ none)
-    (call_up _ _ _ _ represents none (sound log_up) no_put no_refuse up)
+    (call_up _ _ _ _ represents none (sound log_up) no_put leaves up)
 
 -- After each call that is accepted it does.
 accepted_law : (values : Values) (e : End) (log : Log) (act : Act) → Represents values e log
@@ -127,10 +133,13 @@ accepted_law values e log (Refuse id code) represents typed may none sound =
     let log_up = up_since log (Refuse id code) (λ count same. cc) none in
     refuse_represents values e log id code represents typed may
     (refusal_same values e log (Refuse id code) represents ∙ none) none (represents.failed ∙ log_up)
+accepted_law values e log (Fail code) represents typed may none sound =
+    end_represents values e log code represents typed may
+    (represents.failed ∙ up_since log (Fail code) (λ count same. cc) none)
 accepted_law values e log (PutOut count) represents typed may none sound = put_out_represents values
     e log count represents typed may
 accepted_law values e log act represents typed may none sound =
-    plain_law _ _ _ act represents typed may none sound (λ count same. cc) (λ id code same. cc)
+    plain_law _ _ _ act represents typed may none sound (λ count same. cc) tt
 
 module _ (values : Values) (e : End) (log : Log) (act : Act) where
   -- After a call that is refused it does.

@@ -1,6 +1,6 @@
 -- What each small change of an end keeps, each call keeps.
 use Rattle.h2_laws_machine.proofs.Names
-use Names.{◌≡◌, ℕ, ◌+◌, ◌-◌, ◌<◌, ◌≤◌, not, ◌∷◌, pos, Code, Item, Act, Open, Done, End}
+use Names.{◌≡◌, ℕ, ◌+◌, ◌-◌, ◌<◌, ◌≤◌, not, ◌∷◌, pos, Code, Item, Act, Open, Done, End, Fail}
 use Names.{◌==◌, IsTypedAct, data_items, conditions, refusal_of, max_output, max_resets, StreamView}
 use Names.{nat_lt, encoder_after_call, returns_before_put_out, ConnectionWindows, after_fields_sent}
 use Names.{◌&&◌, SendData, SendPing, items_of, max_list, is_server, stream_in, stream_at, and_other}
@@ -171,6 +171,8 @@ module _ {Typed Seen : Type 0} {P : ℕ → End → Type 0} {Q : End → Type 0}
       steady.kept _ (steady.goaway_sent _
       (written e (alone (GoAway e.streams.last_processed 0 []) ∷ []) none.1.1.0
       (λ good. omega (arith, size-goaway)) (up_since e none.0 h)))
+  made e (Fail code) none typed h =
+      steady.failed e code e.streams.last_processed (up_since e none.0 h)
   made e (PutOut count) none typed h = steady.put_out (before_put_out_at e) count (ready e h)
   made e (ChangeSettings values) none typed h =
       let view = end_view e in

@@ -84,6 +84,7 @@ pub use Rattle.h2_spec_log.proofs.StreamLemmas.{Keeps-frame}
 pub use Rattle.h2_spec_log.specs.Acts.{Act, Count, Done, Number, Open, PutOut, Refuse, Values}
 pub use Rattle.h2_spec_log.specs.Acts.{Answer, AreInRange, ChangeSettings, OutOfMemory, ResetStream}
 pub use Rattle.h2_spec_log.specs.Acts.{Refused, Release, SendData, SendFields, SendGoAway, SendPing}
+pub use Rattle.h2_spec_log.specs.Acts.{Fail}
 pub use Rattle.h2_spec_log.specs.Allowed.{Allowed, AllowedHistory, reads, starts, writes}
 pub use Rattle.h2_spec_log.specs.CallRules.{answer_of, at_least_none, data_count, refusal_of}
 pub use Rattle.h2_spec_log.specs.CallRules.{returns_before_put_out, returns_credit}

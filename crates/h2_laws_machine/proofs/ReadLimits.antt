@@ -2,7 +2,7 @@
 -- call but a change of own settings moves it.
 use Rattle.h2_laws_machine.proofs.Names
 use Names.{◌≡◌, ◌≤◌, ◌==◌, ◌&&◌, Bool, List, ◌-ℤ◌, Some, None, refl, Item, Code, Role, Open, acked}
-use Names.{ℕ, suc, ◌+◌, ◌-◌, not, max, pos, sym, ap, ◌∙◌, Act, Log, End}
+use Names.{ℕ, suc, ◌+◌, ◌-◌, not, max, pos, sym, ap, ◌∙◌, Act, Log, End, Fail}
 use Names.{length, ChangeSettings, returns_credit, most_max_frame, settings_count, ValuesAreInRange}
 use Names.{Option, arith, ltb-true, Values, SendData, Refuse, SendPing, PutOut, end_view, stream_at}
 use Names.{is_some, returns_before_put_out, after_fields_sent, before_put_out_at, close_unprocessed}
@@ -118,6 +118,7 @@ own_of_call e (ResetStream id code) others = own_of_credit _ _
 own_of_call e (Refuse id code) others = own_of_refuse e id code (refuse_fault (end_view e) code)
 own_of_call e (SendPing octets) others = refl
 own_of_call e SendGoAway others = refl
+own_of_call e (Fail code) others = refl
 own_of_call e (PutOut count) others =
     cond_both (returns_before_put_out (end_view e)) _ _ (Has e.own) (λ returns. refl)
     (λ keeps. refl)

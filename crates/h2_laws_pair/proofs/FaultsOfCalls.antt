@@ -1,9 +1,10 @@
 -- A call that leaves an end up keeps it without faults: each reset that it writes was asked for.
 use Rattle.h2_laws_log.proofs.LogInduction.{kept_by_call, FailsWith, out_of_memory, refusal_fails}
+use Rattle.h2_laws_log.proofs.LogInduction.{caller_fails}
 use Rattle.h2_laws_pair.proofs.Names
 use Names.{◌≢◌, inl, inr, List, ◌∷◌, sym, ◌∙◌, AllByRecursion, Code, none_some, Act, Answer}
 use Names.{SendData, Release, ResetStream, Refuse, PutOut, Done, OutOfMemory, Log, log_view, View}
-use Names.{ended_in, answer_of, items_of, called, with_call, MayAnswer, LeavesUp}
+use Names.{ended_in, answer_of, items_of, called, with_call, MayAnswer, LeavesUp, Fail}
 use Rattle.h2_laws_pair.proofs.DataItems.{data_all, updates_all}
 use Rattle.h2_laws_pair.proofs.Lists.{all_mapped, first_in}
 use Rattle.h2_laws_pair.proofs.FaultsInvariant.{IsAsked, asked_later, LogIsClean, clean_sent}
@@ -19,6 +20,7 @@ items_asked view (Release id count) calls =
     updates_all (IsAsked ((Release id count, Done) ∷ calls)) _ _ (ended_in (view.stream id)) tt tt
 items_asked view (ResetStream id code) calls = (inl (first_in _ calls), tt)
 items_asked view (Refuse id code) calls = (inr (first_in _ calls), tt)
+items_asked view (Fail code) calls = tt
 items_asked view (PutOut count) calls = tt
 items_asked view act calls = (tt, tt)
 
@@ -38,6 +40,7 @@ no_failure : (log : Log) (act : Act) (answer : Answer) (code : Code)
 no_failure log _ _ _ (out_of_memory act answer is) memory up = memory is
 no_failure log _ _ _ (refusal_fails id code answer fault done none is) memory up =
     none_some fault (sym (up none) ∙ is)
+no_failure log _ _ _ (caller_fails code answer done none) memory up = up none
 
 -- A call that doesn't run out of memory and leaves the end up.
 pub call_clean : (log : Log) (act : Act) (answer : Answer) → MayAnswer log act answer

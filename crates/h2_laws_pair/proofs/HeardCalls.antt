@@ -2,7 +2,7 @@
 use Rattle.h2_laws_pair.proofs.Names.{◌≡◌, List, [], ◌∷◌, ◌++◌, refl, Field, Act, Answer, Open}
 use Rattle.h2_laws_pair.proofs.Names.{SendFields, Number, Done, Log, WritesNone, refused, no_memory}
 use Rattle.h2_laws_pair.proofs.Names.{fails_instead, puts_out, lists_accepted, MachineStep}
-use Rattle.h2_laws_pair.proofs.Names.{log_after}
+use Rattle.h2_laws_pair.proofs.Names.{log_after, ends_connection}
 use Rattle.h2_laws_pair.proofs.StepsOfLogs.{IsNoCall, step_holds}
 use Rattle.h2_laws_log.proofs.PartsStay.{SameCalls, calls_read}
 pub use Rattle.h2_laws_log.proofs.PartsStay.{call_calls, sent_calls}
@@ -30,4 +30,5 @@ silent_lists _ _ calls (refused act refusal) = refl
 silent_lists _ _ calls (no_memory (Open fields end)) = refl
 silent_lists _ _ calls (no_memory act) = refl
 silent_lists _ _ calls (fails_instead id code) = refl
+silent_lists _ _ calls (ends_connection code) = refl
 silent_lists _ _ calls (puts_out count given) = refl

@@ -13,7 +13,7 @@ use Names.{Done, Log, max_payload_sent_by, log_view, Verdict, NoEvent, replies_t
 use Names.{answer_of, data_items, data_frames, read, with_sent, opened, called, IsLog}
 use Names.{IsLogInvariant, kept_by_logs, WritesNone, refused, no_memory, fails_instead, puts_out}
 use Names.{lists_accepted, Token, OctetToken, end_tokens, tokens_of_call, tokens_sent}
-use Names.{tokens_written}
+use Names.{tokens_written, ends_connection}
 use Rattle.h2_laws_pair.proofs.HeardCalls.{silent_lists}
 
 -- Items and calls carry the same on the stream.
@@ -209,6 +209,7 @@ silent_tokens i _ _ (refused act refusal) = refl
 silent_tokens i _ _ (no_memory (Open fields end)) = refl
 silent_tokens i _ _ (no_memory act) = refl
 silent_tokens i _ _ (fails_instead id code) = refl
+silent_tokens i _ _ (ends_connection code) = refl
 silent_tokens i _ _ (puts_out count given) = refl
 
 -- What a log sends carries what it was given.

@@ -75,7 +75,7 @@ pub use Rattle.h2_spec_log.proofs.examples.Words.{request_block, server_settings
 pub use Rattle.h2_spec_log.proofs.examples.Words.{table_with_authority}
 pub use Rattle.h2_spec_log.specs.Acts.{Values, Act, Answer, Open, PutOut, SendFields, Done}
 pub use Rattle.h2_spec_log.specs.Acts.{SendData, Release, ChangeSettings, Count, Number}
-pub use Rattle.h2_spec_log.specs.Acts.{OutOfMemory, Refuse, ResetStream, Refused, SendGoAway}
+pub use Rattle.h2_spec_log.specs.Acts.{OutOfMemory, Refuse, ResetStream, Refused, SendGoAway, Fail}
 pub use Rattle.h2_spec_log.specs.Allowed.{AllowedHistory, reads, starts, writes, Allowed}
 pub use Rattle.h2_spec_log.specs.CallRules.{answer_of, opening_pairs, refusal_of, data_count}
 pub use Rattle.h2_spec_log.specs.Events.{Event, AckedEvent, FieldsEvent, UnprocessedEvent}
@@ -107,7 +107,7 @@ pub use Rattle.h2_laws_log.proofs.LogGrowth.{grows_with_unreturned}
 pub use Rattle.h2_laws_log.proofs.LogHistory.{any_either, settings_append}
 pub use Rattle.h2_laws_log.proofs.LogInduction.{IsLogInvariant, kept_by_logs, MayReport, WritesNone}
 pub use Rattle.h2_laws_log.proofs.LogInduction.{fails_instead, no_memory, of_item, of_unprocessed}
-pub use Rattle.h2_laws_log.proofs.LogInduction.{puts_out, refused}
+pub use Rattle.h2_laws_log.proofs.LogInduction.{puts_out, refused, ends_connection}
 pub use Rattle.h2_laws_log.proofs.PayloadsOfLogs.{written_by_payloads}
 pub use Rattle.h2_laws_log.proofs.ReaderStates.{active_parts, active_from, lasts_from}
 pub use Rattle.h2_laws_log.proofs.WindowsOfTwoEnds.{total-append}

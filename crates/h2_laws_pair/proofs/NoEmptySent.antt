@@ -4,7 +4,7 @@ use Rattle.h2_spec_log.specs.View.{StreamView}
 use Rattle.h2_laws_log.proofs.SentByLogs.{IsSentInvariant, sent_by_logs}
 use Rattle.h2_laws_end.proofs.DataItems.{all_of_both}
 use Rattle.h2_laws_pair.proofs.Names
-use Names.{◌≡◌, ◌≢◌, ◌⊎◌, ℕ, zero, suc, ◌<◌, ◌≤◌, ◌==◌, nat_le, ◌&&◌, not, Bool, true, false}
+use Names.{◌≡◌, ◌≢◌, ◌⊎◌, ℕ, zero, suc, ◌<◌, ◌≤◌, ◌==◌, nat_le, ◌&&◌, not, Bool, true, false, Fail}
 use Names.{if◌then◌else◌, List, [], ◌∷◌, ◌++◌, length, take, drop, Option, Some, None, refl, sym}
 use Names.{ap, ◌∙◌, arith, length-drop, inl, inr, AllByRecursion, leb-false, and_parts, and_from}
 use Names.{eqb-true, eq-eqb, length-take, Data, Settings, Ping, Item, alone, Role, Values, Act}
@@ -104,6 +104,7 @@ items_carry log (SendData id octets end) =
     body_carries (max_payload_sent log) id octets end _ (some_payload log.received)
     (count_within (log_view log) ((log_view log).stream id) (length octets))
 items_carry log (Release id count) = updates_all CarriesNoEmptyData _ _ _ tt tt
+items_carry log (Fail code) = tt
 items_carry log (PutOut count) = tt
 items_carry log act = (tt, tt)
 

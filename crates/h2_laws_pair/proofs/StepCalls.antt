@@ -1,8 +1,8 @@
--- What calls give out: nothing, unless output is put out. Only the refusal of a stream, and memory
--- that runs out, make the connection fail.
+-- What calls give out: nothing, unless output is put out. Only the refusal of a stream, a call for
+-- it, and memory that runs out make the connection fail.
 use Rattle.h2_laws_pair.proofs.Names.{◌≡◌, ◌≢◌, ℕ, List, [], take, drop, refl, arith, length-take}
 use Rattle.h2_laws_pair.proofs.Names.{Act, Answer, PutOut, Refuse, Count, OutOfMemory, Refused, Log}
-use Rattle.h2_laws_pair.proofs.Names.{with_call, MayAnswer, given_since}
+use Rattle.h2_laws_pair.proofs.Names.{with_call, MayAnswer, given_since, Fail, Code}
 use Rattle.h2_laws_log.proofs.GrowthBySteps.{HoldsOfFailures, holds_other_call, HoldsOfWrites}
 use Rattle.h2_laws_log.proofs.GrowthBySteps.{holds_ready, holds_items}
 use Rattle.std.proofs.lemmas.List.{drop_all}
@@ -45,13 +45,17 @@ failed_as : HoldsOfWrites FailedAs
 failed_as =
     stays_written (λ log. log.failed) (λ log sent written payloads turns. refl) (λ log count. refl)
 
--- No other call than the refusal of a stream makes the connection fail, as long as memory suffices.
+-- No call but the refusal of a stream, and the one that asks for it, makes the connection fail, as
+-- long as memory suffices.
 pub call_failed : (log : Log) (act : Act) (answer : Answer)
-    → ((id code : ℕ) → act ≢ Refuse id code) → answer ≢ OutOfMemory
+    → ((id code : ℕ) → act ≢ Refuse id code) → ((code : Code) → act ≢ Fail code)
+    → answer ≢ OutOfMemory
     → (with_call log act answer).failed ≡ log.failed
 unfolding with_call
-call_failed log act (Refused refusal) other memory = refl
-call_failed log act OutOfMemory other memory = absurd (memory refl)
-call_failed log (Refuse id code) answer other memory = absurd (other id code refl)
-call_failed log (PutOut count) (Count given) other memory = holds_ready FailedAs failed_as _
-call_failed log act answer other memory = holds_items FailedAs failed_as log act answer
+call_failed log act (Refused refusal) other goes_on memory = refl
+call_failed log act OutOfMemory other goes_on memory = absurd (memory refl)
+call_failed log (Refuse id code) answer other goes_on memory = absurd (other id code refl)
+call_failed log (Fail code) answer other goes_on memory = absurd (goes_on code refl)
+call_failed log (PutOut count) (Count given) other goes_on memory =
+    holds_ready FailedAs failed_as _
+call_failed log act answer other goes_on memory = holds_items FailedAs failed_as log act answer

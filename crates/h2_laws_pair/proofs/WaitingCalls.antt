@@ -12,7 +12,7 @@ use Names.{◌≡◌, ℕ, ◌≤◌, false, length, refl, arith, ltb-false, lis
 use Names.{Act, Open, SendFields, SendData, Release, ResetStream, Refuse, PutOut, ChangeSettings}
 use Names.{full_output, max_list, Log, last_processed, waiting, max_payload_sent, log_view}
 use Names.{ended_in, conditions, answer_of, items_of, data_count, with_sent, called, Bool, List, []}
-use Names.{◌∷◌, nat_lt, Field, block, SendGoAway}
+use Names.{◌∷◌, nat_lt, Field, block, SendGoAway, Fail}
 use Rattle.h2_laws_pair.proofs.WaitingReplies.{is_reply}
 use Rattle.h2_laws_pair.proofs.WaitingSteps.{Fits, fits_same, fits_reply, fits_small, has_space}
 
@@ -75,6 +75,7 @@ fits_accepted before log (SendPing octets) typed none fits =
 fits_accepted before log SendGoAway typed none fits =
     fits_items before log SendGoAway none.1.1.0
     (omega (arith, size-goaway (max_payload_sent log) (last_processed log) 0)) fits
+fits_accepted before log (Fail code) typed none fits = fits_same _ _ _ refl refl refl refl fits
 fits_accepted before log (PutOut count) typed none fits = fits_same _ _ _ refl refl refl refl fits
 fits_accepted before log (ChangeSettings values) typed none fits =
     fits_items before log (ChangeSettings values) none.1.0 (omega (arith, size-change)) fits

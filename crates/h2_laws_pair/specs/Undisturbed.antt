@@ -2,7 +2,8 @@
 -- neither end of such a pair reports (RFC 9113, section 5.4).
 use Rattle.std.specs.Prelude.{◌≡◌, ◌≢◌, ◌⊎◌, ℕ, true, false, List, None}
 use Rattle.std.specs.List.{Contains}
-use Rattle.h2_spec_log.specs.Acts.{Values, Act, Answer, ResetStream, Refuse, Done, OutOfMemory}
+use Rattle.h2_spec_log.specs.Acts.{Values, Act, Answer, ResetStream, Refuse, Fail, Done}
+use Rattle.h2_spec_log.specs.Acts.{OutOfMemory}
 use Rattle.h2_spec_log.specs.Events.{ResetEvent}
 use Rattle.h2_spec_log.specs.Log.{Log}
 use Rattle.h2_spec_log.specs.LogView.{log_view}
@@ -11,10 +12,12 @@ use Rattle.h2_laws_machine.specs.Machines.{MachineStep, runs_out_of_memory}
 use Rattle.h2_laws_pair.specs.Pairs.{Half, HalfStep, calls, takes, loses, IsPair, begins}
 use Rattle.h2_laws_pair.specs.Pairs.{client_steps, server_steps}
 
--- Where the layer above refuses a stream, the stream is reset, and the connection does not fail.
+-- Where the layer above refuses a stream, the stream is reset, and the connection does not fail;
+-- nor does that layer end it.
 abbrev pub LeavesUp : Log → Act → Type 0
 LeavesUp log (Refuse id code) =
     refusal_of (log_view log) (Refuse id code) ≡ None → refuse_fault (log_view log) code ≡ None
+LeavesUp log (Fail code) = refusal_of (log_view log) (Fail code) ≡ None → ⊥
 LeavesUp log act = Unit {0}
 
 -- The connection does not fail in the step because it is out of memory, nor by the layer above. A

@@ -8,6 +8,7 @@ mod decoding;
 mod encoding;
 mod input;
 mod serving;
+mod streaming;
 
 use counts::Counts;
 use std::alloc::Global;
@@ -117,4 +118,12 @@ pub extern "C" fn measure_client(alloc: Global, octets: &[u8], counts: &mut Coun
         }
         _ => 1,
     }
+}
+
+/// Serves a file of `length` octets, which is made as it is read, with the file server of
+/// `h2_uses` to a client in memory. The units are the bodies that have come whole, and the octets
+/// those of them.
+#[unsafe(no_mangle)]
+pub extern "C" fn measure_stream(alloc: Global, length: u64, counts: &mut Counts) -> i32 {
+    streaming::stream_octets(alloc, length, counts)
 }

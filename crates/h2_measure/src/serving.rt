@@ -95,7 +95,7 @@ fn new_conn(alloc: Global) -> Result<Box<Conn>, Stop> {
 }
 
 /// Shows the driver when to look.
-fn mark(alloc: Global) -> Result<(), AllocError> {
+pub(crate) fn mark(alloc: Global) -> Result<(), AllocError> {
     let _mark: Vec<u8> = Vec::with_capacity(alloc, MARK)?;
     Ok(())
 }

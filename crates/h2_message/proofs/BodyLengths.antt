@@ -6,7 +6,7 @@ use Rattle.h2_message.proofs.Names.{BadLength, first_broken, trailer_rules, brea
 use Rattle.h2_message.proofs.Names.{broken_by_trailers}
 
 -- The first rule that is broken of two lists: of the first one, or else of the other.
-broken_of_both : (rules others : List (Bool × Malformed))
+pub broken_of_both : (rules others : List (Bool × Malformed))
     → first_broken (rules ++ others) ≡ option_or (first_broken rules) (first_broken others)
 unfolding first_broken
 broken_of_both [] others = refl

@@ -11,6 +11,7 @@ mod PhaseEnds
 mod ReadingHeads
 mod ReadingParts
 mod ReadingFollows
+mod BrokenParts
 pub mod LawSent
 pub mod examples
 mod BodyLengths

@@ -8,6 +8,7 @@ use Names.{compared_length, phase_in_body, phase_after_final, phase_after_head, 
 use Rattle.h2_message.proofs.ReadingRules.{none_hold, some_not_none, interim_status, final_status}
 use Rattle.hpack.proofs.Tests.{none_since as none_not_some}
 use Rattle.h2_message.proofs.PhaseWhole.{after_final, after_interim}
+use Rattle.h2_message.specs.Broken.{is_status_interim}
 use Rattle.h2_message.specs.declared.reading.Place.TheVariants as places
 
 module _ (list : List Field) where
@@ -53,10 +54,6 @@ status_is_final true interim is none = cc
 status_is_final false true is none = cc
 status_is_final false false is none = cc
 
--- Whether the status is that of an interim response.
-abbrev pub is_status_interim : List Field → Bool
-is_status_interim list = not (has_bad_status list || not (is_interim list))
-
 -- An interim status breaks the rules of a final head, and another one those of an interim head.
 final_broken : (list : List Field) → is_status_interim list ≡ true
     → is_some (first_broken (response_head_rules list)) ≡ true
@@ -66,7 +63,7 @@ final_broken list interim =
     let other = final_status list none in cc
     )
 
-interim_broken : (list : List Field) → is_status_interim list ≡ false
+pub interim_broken : (list : List Field) → is_status_interim list ≡ false
     → is_some (first_broken (interim_rules list)) ≡ true
 interim_broken list final =
     some_not_none (first_broken (interim_rules list)) (

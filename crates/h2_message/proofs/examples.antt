@@ -8,3 +8,4 @@ pub mod Responses
 pub mod Lengths
 pub mod Readings
 pub mod Readable
+pub mod Refused

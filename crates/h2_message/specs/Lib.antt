@@ -1,3 +1,4 @@
+pub mod Broken
 pub mod Classes
 pub mod Fields
 pub mod Lengths

@@ -22,7 +22,7 @@ mod verdict;
 
 pub use checks::{check_request, check_response};
 pub use hpack::{Field, FieldList, FieldRef, Octets};
-pub use laws::sent_messages_are_well_read;
+pub use laws::{refused_parts_break_a_rule, sent_messages_are_well_read};
 pub use malformed::Malformed;
 pub use message::{Message, asks_head, list_asks_head};
 pub use octets::names_user;

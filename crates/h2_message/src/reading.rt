@@ -1,20 +1,26 @@
 //! A message that is read part by part.
 
-ghost use Rattle.std.specs.Prelude.{◌≡◌, ◌≢◌, ℕ, Bool, List, [], length, false, IsNone, IfSome};
+ghost use Rattle.std.specs.Prelude.{◌≡◌, ◌≢◌, ◌&&◌, ℕ, Bool, List, [], ◌∷◌, length, false, IsNone};
+ghost use Rattle.std.specs.Prelude.{IfSome};
 ghost use Rattle.hpack.specs.declared.types.field.Field.{Field};
 ghost use Rattle.h2_message.specs.declared.reading.Reads.TheVariants.{Requests, Responses};
 ghost use Rattle.h2_message.specs.declared.reading.Phase.TheVariants.{AtHead};
 ghost use Rattle.h2_message.specs.declared.kind.Kind.TheVariants.{Response};
 ghost use Rattle.h2_message.specs.Fields.{has_bad_length};
-ghost use Rattle.h2_message.specs.Messages.{asks_head};
+ghost use Rattle.h2_message.specs.Messages.{asks_head, first_broken};
 ghost use Rattle.h2_message.specs.Scans.{IsScan};
-ghost use Rattle.h2_message.specs.Reading.{Part, compared_length};
+ghost use Rattle.h2_message.specs.Reading.{Part, FieldsPart, OctetsPart, compared_length};
+ghost use Rattle.h2_message.specs.Broken.{broken_after, rules_of_head};
 ghost use Rattle.h2_message.specs.Phases.{phase_in_body, phase_after_head, phase_if_taken};
 ghost use Rattle.h2_message.specs.Phases.{place_at_head};
 ghost use Rattle.h2_message.specs.Phases.{Follows, FollowsFields, FollowsData, ends_message};
+ghost use Rattle.h2_message.specs.Phases.{is_short};
 
 use crate::kind::Kind;
+use crate::malformed::Malformed;
+use crate::parts::BodyLength;
 use crate::scan::{Scan, scan_list};
+use crate::verdict::first_broken;
 use hpack::FieldList;
 
 /// What an end reads on a stream: the messages of its peer.
@@ -104,7 +110,8 @@ impl Reading {
     // contract: 8.1.1 No length is compared in an answer to HEAD, in 204 and in 304
     // contract: 8.6 Status 101 breaks M9, sent or read: HTTP/2 has no upgrade
     /// Takes a field block, and answers which part of the message it is; or refuses it, since no
-    /// message that breaks no rule begins so. Then nothing has changed.
+    /// message that breaks no rule begins so. Then nothing has changed, and
+    /// [`Reading::broken_by_fields`] says which rule the block breaks.
     pub fn fields(&mut self, list: &FieldList, end: bool) -> Option<Place>
         ensures { (reads : Reads) (parts : List (Part × Bool)) → Follows reads parts self.old
             → FollowsFields reads parts list.now end result self.old self.new }
@@ -173,7 +180,8 @@ impl Reading {
     // rule: 8.1.1 DATA that is read is as long as content-length says, or breaks M11
     // contract: 8.1.1 No length is compared in an answer to HEAD, in 204 and in 304
     /// Takes so many octets of a DATA frame, and answers whether it does; or refuses them, since no
-    /// message that breaks no rule begins so. Then nothing has changed.
+    /// message that breaks no rule begins so. Then nothing has changed, and
+    /// [`Reading::broken_by_data`] says which rule they break.
     pub fn data(&mut self, count: usize, end: bool) -> bool
         ensures { (reads : Reads) (parts : List (Part × Bool)) (octets : List ℕ)
             → length octets ≡ count → Follows reads parts self.old
@@ -192,6 +200,78 @@ impl Reading {
         };
         self.phase = phase;
         true
+    }
+
+    // contract: 8.1.1 (own) A part that is refused breaks a rule, the least of which is named
+    // rule: 8.1.1 (own) A part that is refused breaks a rule, the least of which is named
+    /// The least rule that a field block breaks after what was read, for which [`Reading::fields`]
+    /// refuses it; none where it is taken.
+    pub fn broken_by_fields(&self, list: &FieldList, end: bool) -> Option<Malformed>
+        ensures { (reads : Reads) (parts : List (Part × Bool)) → Follows reads parts self.now
+            → result ≡ broken_after reads parts (FieldsPart list.now, end) }
+    {
+        match self.phase {
+            Phase::AtHead => self.broken_by_head(list, end),
+            Phase::InBody { left } => {
+                let trailers = scan_list(Kind::Request, list);
+                let short = left.unwrap_or(0) > 0;
+                match trailers.broken_by_trailers() {
+                    Some(rule) => Some(rule),
+                    None => first_broken(&[
+                        (short, Malformed::BadLength),
+                        (!end, Malformed::BadOrder),
+                    ]),
+                }
+            }
+            Phase::AtEnd => Some(Malformed::BadOrder),
+        }
+    }
+
+    // rule: 8.1.1 (own) A part that is refused breaks a rule, the least of which is named
+    /// The least rule that a head breaks where one comes next.
+    fn broken_by_head(&self, list: &FieldList, end: bool) -> Option<Malformed>
+        ensures { result ≡ first_broken (rules_of_head self.now.reads list.now end) }
+    {
+        match self.reads {
+            Reads::Requests => {
+                let head = scan_list(Kind::Request, list);
+                match head.broken_by_request_head() {
+                    Some(rule) => Some(rule),
+                    None => broken_by_end(head.length, end),
+                }
+            }
+            Reads::Responses { to_head } => {
+                let head = scan_list(Kind::Response, list);
+                if head.has_interim_status() {
+                    return match head.broken_by_interim() {
+                        Some(rule) => Some(rule),
+                        None => first_broken(&[(end, Malformed::BadOrder)]),
+                    };
+                }
+                match head.broken_by_response_head() {
+                    Some(rule) => Some(rule),
+                    None => broken_by_end(compared_length(&head, to_head), end),
+                }
+            }
+        }
+    }
+
+    // contract: 8.1.1 (own) A part that is refused breaks a rule, the least of which is named
+    // rule: 8.1.1 (own) A part that is refused breaks a rule, the least of which is named
+    /// The rule that so many octets of a DATA frame break after what was read, for which
+    /// [`Reading::data`] refuses them: M11, or M12 outside a body; none where they are taken.
+    pub fn broken_by_data(&self, count: usize, end: bool) -> Option<Malformed>
+        ensures { (reads : Reads) (parts : List (Part × Bool)) (octets : List ℕ)
+            → length octets ≡ count → Follows reads parts self.now
+            → result ≡ broken_after reads parts (OctetsPart octets, end) }
+    {
+        let Phase::InBody { left } = self.phase else {
+            return Some(Malformed::BadOrder);
+        };
+        match (BodyLength { left }).check(count, end) {
+            Ok(()) => None,
+            Err(rule) => Some(rule),
+        }
     }
 
     // contract: HTTP 9.3.2 A request asks with HEAD where the method of its head is HEAD
@@ -228,6 +308,14 @@ fn in_body(left: Option<u64>, end: bool) -> Option<Phase>
         return None;
     }
     Some(Phase::AtEnd)
+}
+
+// rule: 8.1.1 (own) A part that is refused breaks a rule, the least of which is named
+/// M11 where a head ends a message of whose body octets are to come.
+fn broken_by_end(left: Option<u64>, end: bool) -> Option<Malformed>
+    ensures { result ≡ first_broken ((end && is_short left, Malformed.BadLength) ∷ []) }
+{
+    first_broken(&[(end && left.unwrap_or(0) > 0, Malformed::BadLength)])
 }
 
 // rule: 8.1.1 No length is compared in an answer to HEAD, in 204 and in 304

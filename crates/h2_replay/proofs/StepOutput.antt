@@ -7,7 +7,7 @@ use Rattle.h2_spec_log.specs.LogCalls.{called}
 use Rattle.std.proofs.Common.{add-zero}
 use Rattle.std.proofs.lemmas.List.{map-append}
 use Rattle.h2_spec_log.specs.Items.{encoding_of_items}
-use Rattle.h2_spec_log.specs.Acts.{Refuse, Turn}
+use Rattle.h2_spec_log.specs.Acts.{Refuse, Fail, Turn}
 use Rattle.h2_spec_log.specs.Log.{max_payload_sent}
 use Rattle.h2_spec_log.specs.LogSteps.{with_failure}
 use Rattle.h2_laws_log.proofs.GrowthBySteps.{HoldsOfFailures, holds_unreturned, holds_failure}
@@ -169,6 +169,8 @@ writes_call log (Refuse id code) (Number number) =
     gives_none log (Refuse id code) (Number number) refl (holds_refused _ adds_output log _ _ _)
 writes_call log (Refuse id code) Done =
     gives_none log (Refuse id code) Done refl (holds_refused _ adds_output log _ _ _)
+writes_call log (Fail code) answer =
+    gives_none log (Fail code) answer refl (writes_failure _ _ _)
 writes_call log (PutOut count) (Count given) = gives_some log count given
 writes_call log act answer =
     gives_none log act answer refl (holds_items _ adds_output.writes log act answer)

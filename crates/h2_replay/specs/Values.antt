@@ -26,6 +26,7 @@ act_value (acts.Reset id code) = Make (logs.ResetStream id code)
 act_value (acts.Refuse id code) = Make (logs.Refuse id code)
 act_value (acts.Ping octets) = Make (logs.SendPing octets)
 act_value acts.GoAway = Make logs.SendGoAway
+act_value (acts.Fail code) = Make (logs.Fail code)
 act_value (acts.PutOut count) = Make (logs.PutOut count)
 act_value (acts.ChangeSettings config) = Make (logs.ChangeSettings (values_of config))
 

@@ -1,6 +1,7 @@
 //! Acts: calls of an end, and octets that it takes.
 
 use h2_conn::Config;
+use h2_frame::Code;
 use hpack::Field;
 
 /// A call with its arguments, or octets that have come.
@@ -59,6 +60,8 @@ pub enum Act {
     Ping([u8; 8]),
     /// [`Conn::go_away`](h2_conn::Conn::go_away).
     GoAway,
+    /// [`Conn::fail`](h2_conn::Conn::fail).
+    Fail(Code),
     /// [`Conn::put_out`](h2_conn::Conn::put_out), of at most this number of octets.
     PutOut(usize),
     /// [`Conn::change_settings`](h2_conn::Conn::change_settings).

@@ -29,6 +29,7 @@ pub(crate) fn make_call(conn: &mut Conn, act: &Act, out: &mut Vec<u8>) -> Answer
         Act::Refuse { id, code } => done(conn.refuse(*id, *code)),
         Act::Ping(octets) => pinged(conn, *octets),
         Act::GoAway => done(conn.go_away()),
+        Act::Fail(code) => done(conn.fail(*code)),
         Act::PutOut(count) => counted(conn.put_out(*count, out)),
         Act::ChangeSettings(config) => done(conn.change_settings(*config)),
     }

@@ -39,7 +39,7 @@ pub use Rattle.h2_frame.specs.declared.code.Code.TheVariants.{InternalError, NoE
 pub use Rattle.h2_frame.specs.declared.code.Code.TheVariants.{StreamClosed, FrameSizeError}
 pub use Rattle.h2_spec_log.specs.Acts.{Act, ChangeSettings, Count, Done, Number, Open, OutOfMemory}
 pub use Rattle.h2_spec_log.specs.Acts.{PutOut, Refuse, Refused, Release, ResetStream, SendData}
-pub use Rattle.h2_spec_log.specs.Acts.{SendFields, SendGoAway, SendPing, Values, Answer}
+pub use Rattle.h2_spec_log.specs.Acts.{SendFields, SendGoAway, SendPing, Values, Answer, Fail}
 pub use Rattle.h2_spec_log.specs.Events.{DataEvent, Event, FieldsEvent, ResetEvent, AckedEvent}
 pub use Rattle.h2_spec_log.specs.Events.{GoAwayEvent, UnprocessedEvent}
 pub use Rattle.h2_spec_log.specs.Histories.{IsLog, begins, called_one, took_one, IsDecodedFor}

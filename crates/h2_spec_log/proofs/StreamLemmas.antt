@@ -8,13 +8,13 @@ use Rattle.h2_spec_log.specs.LogSteps.{read, with_credit_returned, with_failure}
 use Rattle.h2_spec_log.specs.Limits.{full_output}
 use Rattle.h2_spec_log.proofs.Names
 use Names.{nat_lt, ◌&&◌, Bool, Option, sym, ◌∙◌, arith, InternalError, Frame, Item, Role, Client}
-use Names.{Server, Event, Values, Act, Refuse, PutOut, Count, OutOfMemory, Refused, Log, waiting}
+use Names.{Server, Event, Values, Act, Refuse, Fail, PutOut, Count, OutOfMemory, Refused, Log}
 use Names.{ConnectionFault, log_view, Decoded, replies_to, fails_with, completes, frame_step}
 use Names.{begins, IsLog, called_one, took_none, items_of, inl, inr, Code, preface}
 use Names.{expected_preface, Frames, Answer, is_server, last_processed, Verdict, begins_block}
 use Names.{took_one, met_fault, ran_out_of_memory, reported_one, with_sent, with_reported}
 use Names.{with_unreturned, with_verdict, used, with_step, with_frame, called, with_items}
-use Names.{refused_with, before_put_out, with_call, opened}
+use Names.{refused_with, before_put_out, with_call, opened, waiting, Some}
 
 -- The second log has the stream of the first, and is up only where that is.
 pub record Keeps (old new : Log) : Type 0 where
@@ -171,11 +171,12 @@ Keeps-given log act answer count =
 
 -- all calls
 pub Keeps-call : (log : Log) (act : Act) (answer : Answer) → Keeps log (with_call log act answer)
-unfolding with_call
+unfolding with_call refused_with
 Keeps-call log act (Refused refusal) = Keeps-called log act _
 Keeps-call log act OutOfMemory = Keeps-trans log (called log act OutOfMemory) _
     (Keeps-called _ _ _) (Keeps-with_failure _ _ _)
 Keeps-call log (Refuse id code) answer = Keeps-refused log _ _ _
+Keeps-call log (Fail code) answer = Keeps-refused log (Fail code) answer (Some code)
 Keeps-call log (PutOut count) (Count given) = Keeps-given log _ _ _
 Keeps-call log act answer = Keeps-items log act answer
 

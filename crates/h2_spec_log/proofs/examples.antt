@@ -17,6 +17,7 @@ pub mod Refusals
 pub mod Readers
 pub mod Memory
 pub mod Limits
+pub mod CountedFrames
 pub mod ManyStreams
 pub mod LongBodies
 pub mod AnyBody

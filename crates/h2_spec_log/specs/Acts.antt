@@ -49,6 +49,8 @@ pub data Act : Type 0 where
   SendPing : (octets : List ℕ) → Act
   -- says that no further streams are taken
   SendGoAway : Act
+  -- ends the connection with a code of the caller's
+  Fail : (code : Code) → Act
   -- takes octets of the output away
   PutOut : (count : ℕ) → Act
   -- changes this end's settings
@@ -77,6 +79,7 @@ IsTypedAct (ResetStream id code) = (id < 2 ^ 32) × (code < 2 ^ 32)
 IsTypedAct (Refuse id code) = (id < 2 ^ 32) × (code < 2 ^ 32)
 IsTypedAct (SendPing octets) = (length octets ≡ 8) × AllByRecursion IsOctet octets
 IsTypedAct SendGoAway = Unit {0}
+IsTypedAct (Fail code) = Unit {0}
 IsTypedAct (PutOut count) = count < 2 ^ 64
 IsTypedAct (ChangeSettings values) = AreInRange values
 

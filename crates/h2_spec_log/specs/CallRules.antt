@@ -18,7 +18,7 @@ use Rattle.h2_spec_log.specs.declared.refusal.Refusal.TheVariants.{GoingAway, Ou
 use Rattle.h2_spec_log.specs.declared.refusal.Refusal.TheVariants.{TooManyResets, ListTooLarge}
 use Rattle.h2_spec_log.specs.declared.refusal.Refusal.TheVariants.{NotOwed, SettingsWait}
 use Rattle.h2_spec_log.specs.Acts.{Values, Act, Answer, Open, SendFields, SendData, Release}
-use Rattle.h2_spec_log.specs.Acts.{ResetStream, Refuse, SendPing, SendGoAway, PutOut}
+use Rattle.h2_spec_log.specs.Acts.{ResetStream, Refuse, SendPing, SendGoAway, Fail, PutOut}
 use Rattle.h2_spec_log.specs.Acts.{ChangeSettings, Number, Count, Done}
 use Rattle.h2_spec_log.specs.Settings.{is_server}
 use Rattle.h2_spec_log.specs.States.{greatest_number}
@@ -123,6 +123,7 @@ conditions view (SendPing octets) =
     if_closed view ∷ if_full view ∷ (is_some view.ping, PingWaits) ∷ []
 conditions view SendGoAway =
     if_closed view ∷ (view.goaway_sent, GoingAway) ∷ if_full view ∷ []
+conditions view (Fail code) = if_closed view ∷ []
 conditions view (PutOut count) = []
 conditions view (ChangeSettings values) =
     if_closed view ∷ if_full view ∷ (view.settings_wait, SettingsWait) ∷ []
@@ -183,6 +184,7 @@ answer_of view (ResetStream id code) = Done
 answer_of view (Refuse id code) = Done
 answer_of view (SendPing octets) = Done
 answer_of view SendGoAway = Done
+answer_of view (Fail code) = Done
 answer_of view (PutOut count) = Count (min count (view.waiting +
     (if returns_before_put_out view then update_size else 0)))
 answer_of view (ChangeSettings values) = Done
@@ -274,6 +276,7 @@ stream_of_act (ResetStream id code) = id
 stream_of_act (Refuse id code) = id
 stream_of_act (SendPing octets) = 0
 stream_of_act SendGoAway = 0
+stream_of_act (Fail code) = 0
 stream_of_act (PutOut count) = 0
 stream_of_act (ChangeSettings values) = 0
 
@@ -284,10 +287,11 @@ encoder_after_call encoder (SendFields id fields end) Done = after_block encoder
 encoder_after_call encoder act answer = encoder
 
 -- Whether a call that no condition refuses may be refused since an allocation is: refusing a stream
--- isn't, nor is a call that sends nothing of a body, or that puts nothing out.
+-- isn't, nor ending the connection, nor a call that sends nothing of a body, or puts nothing out.
 -- rule: calls (own) A call that sends nothing takes no memory
 unfoldable pub may_lack_memory : View → Act → Bool
 may_lack_memory view (Refuse id code) = false
+may_lack_memory view (Fail code) = false
 may_lack_memory view (SendData id octets end) = not (sends_no_data view id octets end)
 may_lack_memory view (PutOut count) =
     returns_before_put_out view || nat_lt 0 (min count view.waiting)

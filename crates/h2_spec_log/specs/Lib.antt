@@ -4,6 +4,7 @@ pub mod Settings
 pub mod States
 pub mod Windows
 pub mod Limits
+pub mod Counted
 pub mod View
 pub mod Verdicts
 pub mod ItemRules

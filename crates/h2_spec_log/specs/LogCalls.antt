@@ -8,7 +8,7 @@ use Rattle.h2_frame.specs.Frames.{Settings}
 use Rattle.h2_wire.specs.Streams.{expected_preface}
 use Rattle.h2_block.specs.Grouping.{alone}
 use Rattle.h2_spec_log.specs.Items.{encoding_of_items}
-use Rattle.h2_spec_log.specs.Acts.{shown, Values, Act, Answer, Out, Refuse, PutOut, Count}
+use Rattle.h2_spec_log.specs.Acts.{shown, Values, Act, Answer, Out, Refuse, Fail, PutOut, Count}
 use Rattle.h2_spec_log.specs.Acts.{OutOfMemory, Refused, Called, Answered}
 use Rattle.h2_spec_log.specs.Settings.{is_server}
 use Rattle.h2_spec_log.specs.Log.{Log, last_processed, max_payload_sent_by}
@@ -50,12 +50,15 @@ before_put_out log = if returns_before_put_out (log_view log) then with_credit_r
 
 -- the log after a call with its answer
 -- rule: calls (own) A call does what it says, or is refused for its first condition
+-- rule: calls (own) The layer above ends the connection with a code of its own
 unfoldable pub with_call : Log → Act → Answer → Log
 with_call log act (Refused refusal) = called log act (Refused refusal)
 with_call log act OutOfMemory = with_failure InternalError (last_processed log)
     (called log act OutOfMemory)
 with_call log (Refuse id code) answer = refused_with log (Refuse id code) answer (refuse_fault
     (log_view log) code)
+with_call log (Fail code) answer = with_failure code (last_processed log)
+    (called log (Fail code) answer)
 with_call log (PutOut count) (Count given) = record (before_put_out (called log (PutOut count)
     (Count given))) { given = log.given + given }
 with_call log act answer = with_items log act answer

@@ -16,7 +16,7 @@ use Rattle.h2_spec_log.specs.declared.role.Role.TheVariants.{Client, Server}
 use Rattle.h2_spec_log.specs.Items.{stream_of_item, encoding_of_items}
 use Rattle.h2_spec_log.specs.Acts.{Values, Act, Answer, Open, SendFields, SendData, Release}
 use Rattle.h2_spec_log.specs.Acts.{ResetStream, Refuse, SendPing, SendGoAway, PutOut}
-use Rattle.h2_spec_log.specs.Acts.{ChangeSettings}
+use Rattle.h2_spec_log.specs.Acts.{ChangeSettings, Fail}
 use Rattle.h2_spec_log.specs.Settings.{is_server, value_after}
 use Rattle.h2_spec_log.specs.Windows.{first_window}
 use Rattle.h2_spec_log.specs.View.{StreamView, ended_in}
@@ -441,6 +441,7 @@ after_call e SendGoAway =
     record (queue_call e SendGoAway (answer_of (end_view e) SendGoAway)) {
       goaway = record e.goaway { sent = Some e.streams.last_processed };
     }
+after_call e (Fail code) = fail code e.streams.last_processed e
 after_call e (PutOut count) =
     record (before_put_out_at e) {
       output = record (before_put_out_at e).output {

@@ -5,7 +5,7 @@ use h2_case::messages::read_message;
 use h2_case::octets::read_part;
 use h2_case::text::Text;
 use h2_case::words::Words;
-use h2_case_conn::acts::{config_of, read_ping};
+use h2_case_conn::acts::{config_of, read_code, read_ping};
 use h2_case_conn::answers::{add_name, add_value};
 use h2_joined::{Acted, Config, JointAct, Side};
 use std::alloc::Global;
@@ -110,6 +110,10 @@ fn read_call(alloc: Global, name: &str, words: &mut Words<'_>) -> Option<JointAc
             octets: read_ping(alloc, words),
         },
         "go_away" => JointAct::GoAway(read_side(words)),
+        "fail" => JointAct::Fail {
+            side: read_side(words),
+            code: read_code(words),
+        },
         "change" => JointAct::ChangeSettings {
             side: read_side(words),
             config: read_config(words),

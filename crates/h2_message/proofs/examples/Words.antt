@@ -19,6 +19,7 @@ use Names.{final_parts, ended, message_parts, IsDeclared, AreSoundTrailers, AreS
 use Names.{is_short, phase_in_body, phase_after_final, phase_after_head, phase_after_data}
 use Names.{phase_after, phase_after_all, asks_head_first, ends_message, place_at_head, place_in}
 use Names.{length_to_send, breaks_length, length_after, broken_by_trailers}
+use Rattle.h2_message.specs.Broken.{rules_of_head, rules_of_part, broken_in}
 
 -- opens all that computes
 unfoldable pub computing : Unit {0}
@@ -35,7 +36,8 @@ unfolding is_bad_in_name is_bad_after_first is_bad_name is_bad_in_value is_blank
     compared_length trailers_parts final_parts ended message_parts IsDeclared AreSoundTrailers
     AreSoundInterims is_short phase_in_body phase_after_final phase_after_head phase_after_data
     phase_after phase_after_all asks_head_first ends_message place_at_head place_in
-    length_to_send breaks_length length_after broken_by_trailers
+    length_to_send breaks_length length_after broken_by_trailers rules_of_head rules_of_part
+    broken_in
 computing = tt
 
 -- a field of two texts

@@ -1,6 +1,9 @@
 -- GOAWAY of either end.
+use Rattle.h2_spec_log.specs.declared.refusal.Refusal.TheVariants as refusals
 use Rattle.h2_spec_log.proofs.Names
-use Names.{None, [], codes, false, map, refl, true, ◌++◌, ◌∷◌, ◌≡◌, empty_table, Data, GoAway}
+use Names.{None, Some, [], codes, false, map, refl, replicate, true, ◌++◌, ◌∷◌, ◌≡◌, empty_table}
+use Names.{Data, EnhanceYourCalm, Fail, GoAway, NoError, ProtocolError, PutOut, Refuse}
+use Names.{may_fail_for_memory, may_lack_memory}
 use Names.{Count, Done, Number, Open, Refused, SendData, SendGoAway, FieldsEvent, Log}
 use Names.{next_unprocessed, state, with_call, took_none, log_view, Active, Closed, ClosedByUs}
 use Names.{Idle, takes, takes_block, GoAwayEvent, UnprocessedEvent, lesser_number, GoingAway}
@@ -132,3 +135,31 @@ server_sends_goaway :
     ++ increment_frame 0 4) None)
 unfolding computing
 server_sends_goaway = (refl, refl, refl, refl)
+
+-- a server that ends the connection with ENHANCE_YOUR_CALM
+abbrev pub ended_server : Log
+ended_server = with_call active_server (Fail EnhanceYourCalm) Done
+
+-- Its GOAWAY has the code of the call and names the last stream that was processed. Every call is
+-- refused from then on but output.
+-- rule (best): calls (own) The layer above ends the connection with a code of its own
+server_ends_the_connection :
+    (outcome ended_server ≡ come_to active_octets (FieldsEvent 1 short_request false ∷ [])
+    (active_output ++ goaway_frame 1 11) (Some EnhanceYourCalm))
+    × (answers (log_view ended_server) (Fail NoError ∷ SendGoAway ∷ SendData 1 abcd true
+    ∷ Refuse 1 2 ∷ PutOut 10 ∷ [])
+    ≡ replicate 4 (Refused refusals.Closed) ++ Count 10 ∷ [])
+unfolding computing
+server_ends_the_connection = (refl, refl)
+
+-- Only a failed connection refuses it: no GOAWAY that was sent, nor full output, nor memory.
+-- rule: calls (own) The layer above ends the connection with a code of its own
+nothing_else_refuses_the_end :
+    (answered (record asking_view { goaway_sent = true; waiting = 262144 }) (Fail NoError) ≡ Done)
+    × (may_lack_memory asking_view (Fail NoError) ≡ false)
+    × (may_fail_for_memory asking_view (Fail NoError) ≡ false)
+    × (outcome (with_call leaving_server (Fail ProtocolError) Done)
+    ≡ come_to active_octets (FieldsEvent 1 short_request false ∷ []) (active_output
+    ++ goaway_frame 1 0 ++ goaway_frame 1 1) (Some ProtocolError))
+unfolding computing
+nothing_else_refuses_the_end = (refl, refl, refl, refl)

@@ -125,6 +125,7 @@ fn side_of(act: &JointAct) -> Side {
         | JointAct::Reset { side, .. }
         | JointAct::Ping { side, .. }
         | JointAct::GoAway(side)
+        | JointAct::Fail { side, .. }
         | JointAct::ChangeSettings { side, .. } => *side,
     }
 }

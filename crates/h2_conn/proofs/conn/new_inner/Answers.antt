@@ -23,4 +23,4 @@ returns-clause-ok c =
     (c.eq.ensures ∙ is_a_server c.args.role) c.new-cutter.ensures.represents)
     c.new-cutter.ensures.greatest
     (subst (λ (limit : ℕ). CutterLimited cutter limit limited) c.payload_limit.ensures
-    c.set_limit.ensures)
+    c.set_limit.ensures) c.new-2.ensures

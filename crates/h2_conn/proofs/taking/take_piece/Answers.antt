@@ -2,12 +2,13 @@
 use Rattle.h2_conn.proofs.Names.{◌≡◌, ◌∙◌, sym, ap, subst, ℕ, List, take, Option, Some, IfSome, Err}
 use Rattle.h2_conn.proofs.Names.{refl, take-length, Frame, Complete, CutterState, CutterLimited}
 use Rattle.h2_conn.proofs.Names.{data_of_frame, wire_fault_code, end_of, payload_limit_of, fail}
-use Rattle.h2_conn.proofs.Names.{limit_in_range, err_from_is_err_and}
+use Rattle.h2_conn.proofs.Names.{limit_in_range, ◌≢◌, InternalError}
 use Rattle.h2_frame.specs.Frames.{frame_of}
 use Rattle.h2_conn.proofs.SetLimits.{body_limited}
 use Rattle.h2_conn.proofs.TakeFrames.{HasBody, located, lies_there, frame_happens}
 use Rattle.h2_conn.proofs.TakeParts.{no_frame_taken, takes_octets, frame_taken, frame_stops}
-use Rattle.h2_conn.proofs.TakeParts.{cut_stopped}
+use Rattle.h2_conn.proofs.TakeParts.{cut_stopped, is_internal, not_internal}
+use Rattle.std.proofs.lemmas.Bool.{not-true, not-false}
 use Rattle.h2_conn.proofs.TakeMemory.{cutter_lacks}
 use Rattle.h2_conn.proofs.TakeSound.{frame_sound}
 use Rattle.h2_conn.proofs.taking.take_piece.Goals.{in-Some-event, in-None}
@@ -36,8 +37,8 @@ returns-in_default-clause-takes c = λ octets body values log p.
 
 pub returns-clause-sound : goal.returns-clause-sound
 returns-clause-sound c = λ up.
-    frame_sound _ _ _ _ c.in_ok-event.event c.requires.sound c.requires.up
-    c.frame.ensures.good c.in_ok-event.ensures
+    frame_sound _ _ _ _ c.in-Ok-take_frame.event c.requires.sound c.requires.up
+    c.frame-frame.ensures.good c.in-Ok-take_frame.ensures
 
 -- The frame's body still lies there.
 has_body : (cutter limited : CutterState) (limit : ℕ) (piece : List ℕ) (complete : Complete)
@@ -51,14 +52,14 @@ pub returns-clause-lies : goal.returns-clause-lies
 returns-clause-lies c =
     let piece = c.args.piece.now in
     let complete = c.in-Some.complete in
-    let has = has_body _ _ _ piece complete _ c.set_limit.ensures c.frame.ensures.body in
-    let is : c.match-event.happened ≡ located complete c.in_ok-event.event =
+    let has = has_body _ _ _ piece complete _ c.set_limit.ensures c.frame-frame.ensures.body in
+    let is : c.match-event.happened ≡ located complete c.in-Ok-take_frame.event =
     elim c.match-event.branch [
       | in-Some-event w ↦ rw (w.happened-is, w.in-Some-event.is, w.with_parts.ensures) refl
       | in-None w ↦ rw (w.happened-is, w.in-None.is) refl
     ] in
     rw is (lies_there c.set_limit.new.self piece complete c.in-Ok.advance.used _ _
-    (frame_of c.frame.result) _ c.in_ok-event.event has c.in_ok-event.ensures)
+    (frame_of c.frame-frame.result) _ c.in-Ok-take_frame.event has c.in-Ok-take_frame.ensures)
 
 pub returns-clause-takes : goal.returns-clause-takes
 returns-clause-takes c = λ octets body values log p.
@@ -71,38 +72,56 @@ returns-clause-takes c = λ octets body values log p.
     let set : CutterLimited cut (payload_limit_of e.own) limited =
     subst (λ (limit : ℕ). CutterLimited cut limit limited) c.payload_limit.ensures
     c.set_limit.ensures in
-    let sound = frame_sound _ e _ _ c.in_ok-event.event c.requires.sound c.requires.up
-    c.frame.ensures.good c.in_ok-event.ensures in
-    let has = has_body cut limited _ piece complete _ set c.frame.ensures.body in
-    let is : c.match-event.happened ≡ located complete c.in_ok-event.event =
+    let sound = frame_sound _ e _ _ c.in-Ok-take_frame.event c.requires.sound c.requires.up
+    c.frame-frame.ensures.good c.in-Ok-take_frame.ensures in
+    let has = has_body cut limited _ piece complete _ set c.frame-frame.ensures.body in
+    let is : c.match-event.happened ≡ located complete c.in-Ok-take_frame.event =
     elim c.match-event.branch [
       | in-Some-event w ↦ rw (w.happened-is, w.in-Some-event.is, w.with_parts.ensures) refl
       | in-None w ↦ rw (w.happened-is, w.in-None.is) refl
     ] in
     let happens = frame_happens limited piece octets complete c.in-Ok.advance.used _ e
-    (frame_of c.frame.result) _ c.in_ok-event.event has (rw is at body)
-    c.in_ok-event.ensures in
+    (frame_of c.frame-frame.result) _ c.in-Ok-take_frame.event has (rw is at body)
+    c.in-Ok-take_frame.ensures in
     rw is (frame_taken values _ cut limited _ e log piece c.in-Ok.advance.used
-    (frame_of c.frame.result) _ octets (located complete c.in_ok-event.event) p
+    (frame_of c.frame-frame.result) _ octets (located complete c.in-Ok-take_frame.event) p
     (takes_octets values _ log p.machine c.requires.up c.requires.reported) c.requires.up
     (record {
-      continues = ends.continues (frame_of c.frame.result) c.frame.ensures.value;
+      continues = ends.continues (frame_of c.frame-frame.result) c.frame-frame.ensures.value;
       within = ends.within;
       none = ends.none_unparsed;
-    }) happens set (limit_in_range e sound.ranges))
+    }) happens set (limit_in_range e sound.ranges) c.with-counted.ensures)
 
-pub returns-in_err-event-clause-takes : goal.returns-in_err-event-clause-takes
-returns-in_err-event-clause-takes c = λ octets body values log p.
+-- A frame at fault is counted, and one for which memory was refused is not.
+pub returns-then-ne-clause-takes : goal.returns-then-ne-clause-takes
+returns-then-ne-clause-takes c = λ octets body values log p.
     let ends = rw c.in-Some.is at c.in-Ok.ensures.advances in
-    let fault = err_from_is_err_and c.from_residual.result c.from_residual.ensures.1 in
-    rw (fault.1, fault.2) (frame_stops values _ _ _ _ log c.args.piece.now c.in-Ok.advance.used
-    (frame_of c.frame.result) c.in_err-event.field-0.0 p
+    let other : c.in-Err-take_frame.code ≢ InternalError =
+    not_internal _ (not-true _ (sym c.ne.ensures ∙ c.if-ne.true)) in
+    frame_stops values _ _ _ _ log c.args.piece.now c.in-Ok.advance.used
+    (frame_of c.frame-frame.result) c.in-Err-take_frame.code p
     (takes_octets values _ log p.machine c.requires.up c.requires.reported) c.requires.up
     (record {
-      continues = ends.continues (frame_of c.frame.result) c.frame.ensures.value;
+      continues = ends.continues (frame_of c.frame-frame.result) c.frame-frame.ensures.value;
       within = ends.within;
       none = ends.none_unparsed;
-    }) c.in_err-event.ensures)
+    }) c.in-Err-take_frame.ensures c.with-counted.ensures (λ fault. refl)
+    (λ same. absurd (other same))
+
+pub returns-else-ne-clause-takes : goal.returns-else-ne-clause-takes
+returns-else-ne-clause-takes c = λ octets body values log p.
+    let ends = rw c.in-Some.is at c.in-Ok.ensures.advances in
+    let same : c.in-Err-take_frame.code ≡ InternalError =
+    is_internal _ (not-false _ (sym c.ne.ensures ∙ c.if-ne.false)) in
+    frame_stops values _ _ _ _ log c.args.piece.now c.in-Ok.advance.used
+    (frame_of c.frame-frame.result) c.in-Err-take_frame.code p
+    (takes_octets values _ log p.machine c.requires.up c.requires.reported) c.requires.up
+    (record {
+      continues = ends.continues (frame_of c.frame-frame.result) c.frame-frame.ensures.value;
+      within = ends.within;
+      none = ends.none_unparsed;
+    }) c.in-Err-take_frame.ensures c.with-counted.ensures (λ fault. absurd (fault same))
+    (λ lacks. refl)
 
 pub returns-in_default-clause-cuts : goal.returns-in_default-clause-cuts
 returns-in_default-clause-cuts c = λ up.
@@ -112,4 +131,4 @@ pub returns-clause-cuts : goal.returns-clause-cuts
 returns-clause-cuts c = λ up.
     let ends = rw c.in-Some.is at c.in-Ok.ensures.advances in
     ap (λ (state : CutterState). state.fault) c.set_limit.ensures.same
-    ∙ (ends.continues (frame_of c.frame.result) c.frame.ensures.value).sound
+    ∙ (ends.continues (frame_of c.frame-frame.result) c.frame-frame.ensures.value).sound

@@ -9,5 +9,6 @@ returns c = λ client_values server_values made client server is.
       stays.lost,
       stays.other_lost,
       stays.pair.0,
-      λ had. stays.pair.1 (had_memory client_values server_values made client server is had),
+      λ had none. stays.pair.1
+          (had_memory client_values server_values made client server is had none),
     )

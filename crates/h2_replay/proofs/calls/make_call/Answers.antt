@@ -110,6 +110,17 @@ returns-in-GoAway-clause-makes c =
     (shows_itself (λ done. Done) c.go_away.result (λ id. refl)) tt c.requires.none
     c.go_away.ensures)
 
+pub returns-in-Fail-clause-typed : goal.returns-in-Fail-clause-typed
+unfolding IsTypedAct
+returns-in-Fail-clause-typed c = typed_as _ _ c.in-Fail.is tt
+
+pub returns-in-Fail-clause-makes : goal.returns-in-Fail-clause-makes
+returns-in-Fail-clause-makes c =
+    makes_as _ _ c.args.conn.now c.fail.new.self _ _ c.in-Fail.is
+    (answered_call c.args.conn.now c.fail.new.self _ _ _ _ c.done-in-Fail.ensures
+    (shows_itself (λ done. Done) c.fail.result (λ id. refl)) tt c.requires.none
+    c.fail.ensures)
+
 pub returns-in-PutOut-clause-typed : goal.returns-in-PutOut-clause-typed
 unfolding IsTypedAct
 returns-in-PutOut-clause-typed c = typed_as _ _ c.in-PutOut.is (omega arith)

@@ -32,6 +32,7 @@ returns c =
     let sound = sound_by c.change_settings.result e new act c.args.config.in_range
     (c.args.self.now.inner.sound (up_if_free e act refl accepted.free))
     c.change_settings.ensures.ok c.change_settings.ensures.err in
-    rw c.limit_payloads.ensures.end (change_answers c.args.self.now.inner.cutter
-    c.limit_payloads.new.self.cutter e new (values_of c.args.config) c.args.config.in_range accepted
-    c.limit_payloads.ensures.cutter (limit_in_range new sound.ranges))
+    rw (c.limit_payloads.ensures.end, c.limit_payloads.ensures.counts) (change_answers
+    c.args.self.now.inner.cutter c.limit_payloads.new.self.cutter e new (values_of c.args.config)
+    c.args.config.in_range accepted c.limit_payloads.ensures.cutter
+    (limit_in_range new sound.ranges))

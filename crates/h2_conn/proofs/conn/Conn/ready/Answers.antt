@@ -15,9 +15,9 @@ invariant_of-self c =
 pub returns-in_err-consume-clause-answers : goal.returns-in_err-consume-clause-answers
 returns-in_err-consume-clause-answers c =
     let why = err_from_is_err_and c.from_residual.result c.from_residual.ensures.1 in
-    let answers = ready_consumes c.consume.result c.args.self.now.inner.cutter
-    (end_of c.args.self.now.inner.end) (end_of c.consume.new.self) c.consume.ensures.nothing
-    c.consume.ensures.ok c.consume.ensures.err in
+    let answers = ready_consumes {counts = c.args.self.now.inner.counts} c.consume.result
+    c.args.self.now.inner.cutter (end_of c.args.self.now.inner.end) (end_of c.consume.new.self)
+    c.consume.ensures.nothing c.consume.ensures.ok c.consume.ensures.err in
     rw (why.1, why.2) (rw c.in_err-consume.was at answers)
 
 pub returns-in_err-consume-clause-room : goal.returns-in_err-consume-clause-room

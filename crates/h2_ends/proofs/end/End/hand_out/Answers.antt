@@ -12,14 +12,14 @@ use Rattle.h2_ends.proofs.TakeHands.{reset_lies}
 use Rattle.h2_ends.proofs.TakeInStep.{reset_but, unprocessed_but}
 use Rattle.h2_ends.proofs.end.End.hand_out.Goals as goal
 
-pub returns-then-read_data-clause-lies : goal.returns-then-read_data-clause-lies
+pub returns-in-Ok-read_data-clause-lies : goal.returns-in-Ok-read_data-clause-lies
 unfolding BodyLiesIn
-returns-then-read_data-clause-lies c =
+returns-in-Ok-read_data-clause-lies c =
     rw c.read_data.ensures.conn (rw c.in-Data.is at c.requires.lies)
 
-pub returns-then-read_data-clause-hands : goal.returns-then-read_data-clause-hands
+pub returns-in-Ok-read_data-clause-hands : goal.returns-in-Ok-read_data-clause-hands
 unfolding IsBodyIn
-returns-then-read_data-clause-hands c = λ octets body.
+returns-in-Ok-read_data-clause-hands c = λ octets body.
     let lies = rw c.read_data.ensures.conn at body in (
       octets,
       rw c.in-Data.is lies,
@@ -27,17 +27,17 @@ returns-then-read_data-clause-hands c = λ octets body.
           let said = rw c.in-Data.is at reported in
           data_handed values c.args.self.now c.read_data.new.self end c.args.piece.now count
           c.in-Data.id octets c.in-Data.flow c.in-Data.end log said
-          (c.if-read_data.ensures.reads values (end_with_log end log) octets
+          (c.in-Ok-read_data.ensures.reads values (end_with_log end log) octets
           (sym (c.body_len.ensures c.args.self.now.conn.inner.cutter _ octets lies))
           (data_on values c.args.self.now end c.args.piece.now count c.in-Data.id octets
           c.in-Data.flow c.in-Data.end log c.with-self.result c.with-self.ensures.here
           c.with-self.ensures.more said)),
     )
 
-pub returns-else-read_data-clause-lies : goal.returns-else-read_data-clause-lies
-returns-else-read_data-clause-lies c =
-    reset_lies _ c.args.piece.now c.in-Data.id 1 c.refuse-in-Data.result
-    c.refuse-in-Data.ensures.resets
+pub returns-in-Err-read_data-clause-lies : goal.returns-in-Err-read_data-clause-lies
+returns-in-Err-read_data-clause-lies c =
+    reset_lies _ c.args.piece.now c.in-Data.id (code_unread c.in-Err-read_data.unread)
+    c.refuse-in-Err-read_data.result c.refuse-in-Err-read_data.ensures.resets
 
 -- octets that are there
 octets_there : (octets : Option (List ℕ)) → is_some octets ≡ true
@@ -45,24 +45,24 @@ octets_there : (octets : Option (List ℕ)) → is_some octets ≡ true
 octets_there (Some octets) there = (octets, refl)
 octets_there None there = absurd (both_ways false refl there)
 
-pub returns-else-read_data-clause-hands : goal.returns-else-read_data-clause-hands
-returns-else-read_data-clause-hands c = λ octets none.
+pub returns-in-Err-read_data-clause-hands : goal.returns-in-Err-read_data-clause-hands
+returns-in-Err-read_data-clause-hands c = λ octets none.
     let there = octets_there _ (rw c.in-Data.is at c.requires.lies) in
     let lent = there.0 in (
       lent,
       rw c.in-Data.is there.1,
       λ values end count log reported.
           let said = rw c.in-Data.is at reported in
-          data_not_handed values c.args.self.now c.read_data.new.self c.refuse-in-Data.new.self end
-          c.args.piece.now count c.in-Data.id lent c.in-Data.flow c.in-Data.end log _ octets
-          c.refuse-in-Data.result said
-          (c.if-read_data.ensures.reads values (end_with_log end log) lent
+          data_not_handed values c.args.self.now c.read_data.new.self c.refuse-in-Err-read_data.new.self end
+          c.args.piece.now count c.in-Data.id lent c.in-Data.flow c.in-Data.end
+          c.in-Err-read_data.unread log _ octets c.refuse-in-Err-read_data.result said
+          (c.in-Err-read_data.ensures.reads values (end_with_log end log) lent
           (sym (c.body_len.ensures c.args.self.now.conn.inner.cutter _ lent there.1))
           (data_on values c.args.self.now end c.args.piece.now count c.in-Data.id lent
           c.in-Data.flow c.in-Data.end log c.with-self.result c.with-self.ensures.here
           c.with-self.ensures.more said))
-          (c.refuse-in-Data.ensures.answers values (end_with_log end log))
-          c.refuse-in-Data.ensures.resets,
+          (c.refuse-in-Err-read_data.ensures.answers values (end_with_log end log))
+          c.refuse-in-Err-read_data.ensures.resets,
     )
 
 pub returns-in-Ok-clause-lies : goal.returns-in-Ok-clause-lies

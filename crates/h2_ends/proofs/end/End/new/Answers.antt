@@ -11,9 +11,9 @@ returns-clause-ok c =
       | in-Client+in_ok-conn-in-Client w ↦
           let is = w.in_ok-conn-in-Client.ensures.ok in
           starts c.args.role (values_of c.args.config) _ (rw (w.conn-is, w.in-Client.is) is) refl
-          c.new.ensures.empty refl
+          c.new.ensures.empty refl refl
       | in-Server+in_ok-conn-in-Server w ↦
           let is = w.in_ok-conn-in-Server.ensures.ok in
           starts c.args.role (values_of c.args.config) _ (rw (w.conn-is, w.in-Server.is) is) refl
-          c.new.ensures.empty refl
+          c.new.ensures.empty refl refl
     ]

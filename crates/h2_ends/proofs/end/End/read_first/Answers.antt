@@ -8,8 +8,11 @@ pub returns-in_default-clause-reads : goal.returns-in_default-clause-reads
 returns-in_default-clause-reads c = λ values happened is.
     first_refused values c.args.self.now happened c.args.id _ c.args.end c.new-reading.result
     c.fields.new.self is c.requires.first (rw c.first_reads.ensures at c.new-reading.ensures)
+    c.broken_by_fields-rule.result
     (λ reads parts follows.
     rw (c.list.ensures, c.in_default.is) at c.fields.ensures reads parts follows)
+    (λ reads parts follows.
+    rw c.list-in_default.ensures at c.broken_by_fields-rule.ensures reads parts follows)
 
 pub returns-then-is_err-clause-reads : goal.returns-then-is_err-clause-reads
 returns-then-is_err-clause-reads c = λ values happened is.
