@@ -136,9 +136,9 @@ class Watched:
                 self.log.wrote(bytes(octets))
                 super().append(octets)
 
-            def fail(self, code):
+            def end_with(self, code):
                 self.log.failed = code
-                super().fail(code)
+                super().end_with(code)
 
             def take_out(self, count):
                 octets = super().take_out(count)
@@ -253,7 +253,8 @@ class Watched:
 
             def finish(self):
                 super().finish()
-                watcher.settled(self.joined)
+                if self.failed is None:
+                    watcher.settled(self.joined)
         return WatchedPlay
 
     def cases(self, group, seed, count):

@@ -167,6 +167,11 @@ def go_away(end):
     end.goaway_sent = end.processed
 
 
+def fail(end, code):
+    end.marks.reach("ended by a call")
+    end.end_with(code)
+
+
 def change(end, config):
     """Two values at a client, three at a server, and the greatest frame where it is another."""
     output(end)
@@ -186,5 +191,5 @@ def put_out(end, count):
 
 CALLS = {
     "open": open_stream, "fields": send_fields, "data": send_data, "release": release, "reset": reset,
-    "refuse": refuse, "ping": ping, "go_away": go_away, "change": change,
+    "refuse": refuse, "ping": ping, "go_away": go_away, "fail": fail, "change": change,
 }

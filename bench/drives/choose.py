@@ -10,14 +10,14 @@ CYCLE = ["calm", "wild", "wild", "greedy", "wild", "wild", "resets", "wild", "wi
          "flood", "wild", "calm", "wild", "wild", "greedy", "wild"]
 STEPS = {"calm": 150, "wild": 120, "greedy": 120, "crowd": 200, "resets": 300, "flood": 120}
 
-KINDS = "frame poll open fields data release reset refuse ping go_away change out".split()
+KINDS = "frame poll open fields data release reset refuse ping go_away change out fail".split()
 KIND_WEIGHTS = {
-    "calm": [500, 20, 80, 60, 100, 60, 20, 5, 20, 2, 10, 40],
-    "wild": [500, 20, 80, 40, 40, 20, 10, 10, 20, 5, 10, 100],
-    "crowd": [600, 10, 300, 10, 10, 10, 1, 1, 5, 0, 5, 60],
-    "resets": [600, 2, 250, 2, 2, 2, 160, 140, 2, 0, 2, 40],
-    "flood": [1_000, 1, 15, 1, 60, 1, 1, 1, 1, 0, 1, 0],
-    "greedy": [1_000, 10, 200, 10, 10, 0, 20, 5, 5, 2, 5, 20],
+    "calm": [500, 20, 80, 60, 100, 60, 20, 5, 20, 2, 10, 40, 0],
+    "wild": [500, 20, 80, 40, 40, 20, 10, 10, 20, 5, 10, 100, 3],
+    "crowd": [600, 10, 300, 10, 10, 10, 1, 1, 5, 0, 5, 60, 0],
+    "resets": [600, 2, 250, 2, 2, 2, 160, 140, 2, 0, 2, 40, 0],
+    "flood": [1_000, 1, 15, 1, 60, 1, 1, 1, 1, 0, 1, 0, 1],
+    "greedy": [1_000, 10, 200, 10, 10, 0, 20, 5, 5, 2, 5, 20, 0],
 }
 FRAMES = ("data headers priority reset settings ack ping pong goaway update stream_update continuation unknown "
           "malformed").split()
@@ -273,6 +273,8 @@ class Chooser:
                 return "ping", random.octets()
             case "go_away":
                 return ("go_away",)
+            case "fail":
+                return "fail", random.below(14)
         return "change", config(self.mood, random)
 
     def fields(self):

@@ -215,8 +215,21 @@ class Drive:
             self.command(f"owed {number}", ["0"])
             self.command(f"is_active {number}", ["false"])
 
+    def read_counts(self):
+        end = self.end
+        self.command("last_flow", [str(end.last_flow)])
+        self.command("resets_received", [str(end.resets_read)])
+        self.command("empty_frames_received", [str(end.empty_read)])
+        if end.failed is None:
+            self.command("peer_settings", [f"{end.window} {end.peer_frame}"])
+        for count, mark in ((end.last_flow, "flow of the last data"), (end.resets_read, "resets counted"),
+                            (end.empty_read, "empty frames counted")):
+            if count:
+                self.marks.reach(mark)
+
     def finish(self):
-        """All output is put out; that of a failed connection ends with GOAWAY."""
+        """What came of the peer, and then all output; that of a failed connection ends with GOAWAY."""
+        self.read_counts()
         self.put_out(1_000_000)
         self.changes()
         failed = self.end.failed

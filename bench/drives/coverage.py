@@ -12,7 +12,8 @@ update taken, stream update on idle, stream update ignored, stream update by not
 stream update taken, unknown, too many resets, too much output, credit returned, credit held back,
 credit returned later, frame size named, frame size lowered, frame too long, long frame sent, long block sent,
 long frame taken,
-refused with internal error, refused at a thousand, take after failure, partial frame
+refused with internal error, refused at a thousand, take after failure, partial frame, ended by a call,
+flow of the last data, resets counted, empty frames counted
 """
 
 
@@ -32,26 +33,27 @@ CONN_WANTED = (
 )
 
 ACTS = ("request respond begin begin_response body trailers pump pump_some move deliver release_all release reset "
-        "ping go_away change").split()
+        "ping go_away fail change").split()
 
-# What lists of acts are to reach. A pump, a pump_some, a move and a deliver are never refused, as no
-# connection fails (C1) and memory is ample (C12); a release_all is in few lists alone (C7). Lists are
+# What lists of acts are to reach. A move and a deliver are never refused; memory is ample (C12). Lists are
 # too short for C4, C5 and C9; C3 is of calls that no act makes. M12 is of reading alone, and no end
 # sends what is handed out as `interim`.
 PAIR_WANTED = (
     [f"{act} done" for act in ACTS]
     + [f"{act} refused" for act in
-       ("request", "respond", "begin", "begin_response", "body", "trailers", "release", "reset", "ping", "go_away", "change")]
+       ("request", "respond", "begin", "begin_response", "body", "trailers", "pump", "pump_some", "release_all",
+        "release", "reset", "ping", "go_away", "fail", "change")]
     + [f"body refused by {rule}" for rule in ("E3", "M11")]
     + [f"trailers refused by {rule}" for rule in ("E3", "M1", "M2", "M3", "M10", "M11")]
     + [f"E{number}" for number in (1, 2, 3, 4)]
     + [f"M{number}" for number in range(1, 12)]
-    + [f"C{number}" for number in (2, 6, 7, 8, 10, 11, 13)]
+    + [f"C{number}" for number in (1, 2, 6, 7, 8, 10, 11, 13)]
     + [f"{event} handed out" for event in
        ("head", "body", "trailers", "reset", "unprocessed", "goaway", "acked", "pong")]
     + ["a part that is cut", "an end alone", "a list with parts both ways", "a list with an open message at its end",
        "a list with bodies both ways", "a list with a reset", "a list with a go_away",
-       "a list with changed settings", "a list with one octet delivered", "a list with a long frame", "light",
+       "a list with changed settings", "a list with a connection that its end ends",
+       "a delivery to an end that has failed", "a list with one octet delivered", "a list with a long frame", "light",
        "heavy", "shares", "a share of what waits", "a pass that is cut short", "the rest of a share"]
 )
 

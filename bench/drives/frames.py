@@ -31,6 +31,15 @@ class Frame:
         """What DATA takes of the windows: its whole payload (section 6.9.1)."""
         return len(self.body) + (0 if self.pad is None else 1 + self.pad)
 
+    def says_nothing(self):
+        """Whether it has no octets, but for padding, and ends nothing (section 10.5)."""
+        match self.kind:
+            case "data":
+                return not self.body and not self.end
+            case "headers" | "continuation":
+                return not self.block and not self.whole
+        return False
+
     def encoded(self):
         return getattr(self, "encode_" + self.kind)()
 

@@ -5,7 +5,7 @@ import calls
 from frames import PREFACE, read_frame, split_frame
 from model import Model
 from receive import end_word, take, take_unprocessed
-from text import field_lines, last_text
+from text import CODES, field_lines, last_text
 
 
 class EndRefused(Exception):
@@ -41,6 +41,11 @@ class Half:
             raise EndRefused(f"E2 Conn: {refused}") from None
         self.forget_over()
         return answer
+
+    def refuse_if_failed(self):
+        """Nothing is sent of a connection that has failed, and nothing is given back."""
+        if self.end.failed is not None:
+            raise EndRefused(f"E2 Conn: {calls.REFUSALS[1]}")
 
     def forget_over(self):
         """What waits on a stream that is over is forgotten, and that a message is open there."""
@@ -128,6 +133,7 @@ class Half:
 
     def pump(self):
         """Sends what waits: streams in rising order, each as far as its windows go."""
+        self.refuse_if_failed()
         count = 0
         for number in sorted(self.waiting):
             sent, is_full = self.pump_stream(number)
@@ -158,6 +164,7 @@ class Half:
     def pump_some(self, most):
         """Sends shares, one pass: the streams from the turn up, and then those below it. That at which it ended comes
         first in the next one, with what is left of its share."""
+        self.refuse_if_failed()
         most, count, first, rest, self.rest = max(min(most, 65_536), 1), 0, self.turn, self.rest, 0
         for number in sorted(self.waiting, key=lambda number: (number < first, number)):
             size = min(rest, most) if number == first and rest else most
@@ -198,6 +205,7 @@ class Half:
         return count, None
 
     def release_all(self):
+        self.refuse_if_failed()
         for number in list(self.end.streams):
             stream = self.end.streams.get(number)
             if stream and stream.owed:
@@ -213,6 +221,10 @@ class Half:
     # What comes.
 
     def deliver(self, count):
+        """So many octets at most of the pipe; a connection that has failed takes none."""
+        if self.end.failed is not None:
+            self.end.marks.reach("a delivery to an end that has failed")
+            return f"fault {CODES[self.end.failed]}"
         octets, self.pipe = self.pipe[:count], self.pipe[count:]
         self.came += octets
         if self.unparsed is None:
@@ -256,6 +268,8 @@ class Half:
 
     def is_quiet(self):
         end = self.end
+        if end.failed is not None:
+            return False
         is_owed = end.due or any(stream.owed for stream in end.streams.values())
         return not end.waiting and not is_owed and not any(map(self.could_go, self.waiting))
 
@@ -304,7 +318,8 @@ class Joined:
         for side, half in self.halves.items():
             end = half.end
             piped = len(self.other(side).pipe)
-            lines.append(f"{side} {len(half.accepted)} {half.count} {end.waiting} {piped} {end.send}")
+            room = end.send if end.failed is None else "none"
+            lines.append(f"{side} {len(half.accepted)} {half.count} {end.waiting} {piped} {room}")
         self.seen = set(lines)
         return [line for line in lines if line not in before] + (["quiet"] if self.is_quiet() else [])
 

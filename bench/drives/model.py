@@ -70,6 +70,8 @@ class Model:
         self.max_streams = None  # what the peer allows
         self.encoder, self.decoder = Encoder(), Decoder()
         self.partial = None  # the stream, the end flag and the octets of a block that has begun
+        self.resets_read = self.empty_read = 0  # frames of the peer: RST_STREAM, and those that say nothing
+        self.last_flow = 0  # what the last DATA took of the windows
         self.open_connection()
 
     @property
@@ -178,9 +180,20 @@ class Model:
         self.due = 0
         return True
 
+    def count(self, frame):
+        """Frames that cost the peer little are counted (section 10.5), and what DATA takes is known (6.1)."""
+        self.resets_read += frame.kind == "reset"
+        self.empty_read += frame.says_nothing()
+        if frame.kind == "data":
+            self.last_flow = frame.flow()
+
     def fail(self, code):
-        """GOAWAY is written, and nothing after it (section 5.4.1)."""
+        """A fault of the peer, or a limit."""
         self.marks.fault(code)
+        self.end_with(code)
+
+    def end_with(self, code):
+        """GOAWAY is written, and nothing after it (section 5.4.1)."""
         self.failed = code
         self.write(7, 0, 0, four(self.processed) + four(code))
         self.due = self.made_due = 0

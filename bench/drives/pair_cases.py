@@ -51,6 +51,7 @@ class Play:
         pieces = " pieces 997" if self.is_heavy else ""
         self.lines = [f"case {name}: {self.mood}", f"> new client {client.text()} server {server.text()}{pieces}"]
         self.done = set()
+        self.failed = None  # which end a call has ended
         marks.reach(self.mood)
 
     def command(self, words, answer=()):
@@ -238,7 +239,7 @@ class Play:
                 is_whole = number in other.whole
                 is_open = half.accepted[number].is_open
                 assert not (is_whole and is_open), number
-                assert is_whole or is_open or joined.was_disturbed(number), number
+                assert is_whole or is_open or self.failed or joined.was_disturbed(number), number
                 self.command(f"whole {other.side} {number}", ["yes" if is_whole else "no"])
         self.mark_list()
 
@@ -254,10 +255,12 @@ class Play:
             self.marks.reach("a list with parts both ways")
         if any(half.open for half in halves):
             self.marks.reach("a list with an open message at its end")
-        for act, what in (("reset", "a reset"), ("go_away", "a go_away"), ("change", "changed settings")):
+        for act, what in (("reset", "a reset"), ("go_away", "a go_away"), ("change", "changed settings"),
+                          ("fail", "a connection that its end ends")):
             if act in self.done:
                 self.marks.reach(f"a list with {what}")
-        for mark in ("a pass that is cut short", "a share of what waits", "the rest of a share"):
+        for mark in ("a pass that is cut short", "a share of what waits", "the rest of a share",
+                     "a delivery to an end that has failed"):
             self.marks.counts[mark] += self.events.counts[mark]
         if self.events.counts["long frame taken"]:
             self.marks.reach("a list with a long frame")
@@ -275,20 +278,38 @@ class Play:
                 count = self.random.one_of([0, 4, 20]) if left is None else left
                 self.make("body", side, number, self.next_octets(side, number, count), True)
 
+    def fail(self):
+        """One end ends its connection with a code of its own, once."""
+        self.failed = "client" if self.random.percent(50) else "server"
+        for _ in range(1 + self.random.percent(30)):
+            self.make("fail", self.failed, self.random.below(14))
+
+    def hear(self):
+        """The other end hears of it."""
+        self.make("move", self.failed, ALL)
+        self.make("deliver", self.joined.other(self.failed).side, ALL)
+
     def run(self):
-        """Both ends are quiet in the midst of one list of two; and open messages are ended in most."""
+        """Both ends are quiet in the midst of one list of two; open messages are ended in most; and in some a
+        connection is ended before."""
         random = self.random
         count = random.below(56) + 5
         quiet = random.below(count) if random.percent(50) else count
+        end = random.below(count) if random.percent(15) else count
         for place in range(count):
-            if place == quiet:
+            if place == quiet and not self.failed:
                 self.drain()
+            if place == end:
+                self.fail()
             self.make(*self.any_act())
             self.command("ends", self.joined.lines())
-        self.drain()
-        if random.percent(70):
-            self.end_messages()
+        if self.failed:
+            self.hear()
+        else:
             self.drain()
+            if random.percent(70):
+                self.end_messages()
+                self.drain()
         self.finish()
 
 

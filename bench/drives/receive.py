@@ -39,6 +39,8 @@ def fault_event(code):
 
 def take(end, frame):
     """Takes a frame: what is reported, or None."""
+    if frame.kind != "malformed":
+        end.count(frame)
     try:
         event = take_frame(end, frame)
     except Fault as fault:
