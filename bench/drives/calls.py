@@ -2,6 +2,7 @@
 from frames import four
 from hpack import size_of
 from model import FIRST_FRAME, FULL, MAX_DATA, MAX_LIST, MOST_RESETS, Fault
+from text import CODES
 
 REFUSALS = {
     1: "C1 Closed", 2: "C2 NoSuchStream", 3: "C3 Ended", 4: "C4 TooManyStreams", 5: "C5 StreamsExhausted",
@@ -32,7 +33,7 @@ def make(end, name, *words):
         end.marks.refuse(refused.number)
         raise
     except Fault as fault:
-        end.fail(fault.code)
+        end.fail(fault.code, fault.why)
         return None
     if end.failed is None:
         end.return_made_due()
@@ -146,7 +147,7 @@ def refuse(end, number, code):
     """Resets a stream for a fault that the layer above has found; code 2 ends the connection."""
     if code == 2:
         end.marks.reach("refused with internal error")
-        raise Fault(2)
+        raise Fault(2, "OutOfMemory")
     active(end, number)
     if len(end.reset) >= MOST_RESETS:
         end.marks.reach("refused at a thousand")
@@ -169,7 +170,7 @@ def go_away(end):
 
 def fail(end, code):
     end.marks.reach("ended by a call")
-    end.end_with(code)
+    end.end_with(code, f"EndedAbove({CODES[code]})")
 
 
 def change(end, config):

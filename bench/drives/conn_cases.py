@@ -67,7 +67,7 @@ class Drive:
             return
         if self.mood == "wild" and random.percent(10):
             self.marks.reach("bad preface")
-            end.fail(1)
+            end.fail(1, "BadPreface")
             self.command(f"take {(PREFACE[:-5] + b'N').hex()}", fault_event(1).lines)
             return
         self.held = random.below(24)
@@ -220,6 +220,7 @@ class Drive:
         self.command("last_flow", [str(end.last_flow)])
         self.command("resets_received", [str(end.resets_read)])
         self.command("empty_frames_received", [str(end.empty_read)])
+        self.command("why", [end.why or "none"])
         if end.failed is None:
             self.command("peer_settings", [f"{end.window} {end.peer_frame}"])
         for count, mark in ((end.last_flow, "flow of the last data"), (end.resets_read, "resets counted"),

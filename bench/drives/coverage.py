@@ -20,14 +20,23 @@ flow of the last data, resets counted, empty frames counted
 def names_of(text):
     return [name.strip() for name in text.replace("\n", " ").split(",")]
 
+REASONS = """
+BadPreface, FrameTooLong, PushPromise, WrongStream, WrongLength, PaddingTooLong, FirstFrameNotSettings,
+BlockInterrupted, StrayContinuation, BlockTooLong, BlockNotDecoded, FrameOnIdleStream, DataOnClosedStream,
+BlockOnClosedStream, BlockOnIdleNumber, DataAboveConnectionWindow, DataAboveStreamWindow, ZeroConnectionIncrement,
+ConnectionWindowTooLarge, BadEnablePush, BadInitialWindow, BadMaxFrameSize, ShiftTooLarge, TooManyResets,
+TooMuchOutput, OutOfMemory, EndedAbove
+"""
 
 # What connections are to reach: the rules; all refusals of calls but C12, since memory is ample;
-# codes with which a connection fails and with which an end resets a stream; moods and roles.
+# codes with which a connection fails and with which an end resets a stream, and reasons of a failure
+# (OutOfMemory by `refuse` alone); moods and roles.
 CONN_WANTED = (
     names_of(CONN_MARKS)
     + [f"C{number}" for number in (1, 2, 3, 4, 5, 6, 7, 8, 9, 10, 11, 13)]
     + [f"fault {code}" for code in (1, 2, 3, 5, 6, 9, 11)]
     + [f"reset with {code}" for code in (1, 3, 5, 7, 11)]
+    + [f"why {reason}" for reason in names_of(REASONS)]
     + [f"{mood} {role}" for mood in ("calm", "wild", "crowd", "resets", "flood", "greedy")
        for role in ("client", "server")]
 )
@@ -72,6 +81,10 @@ class Marks:
 
     def fault(self, code):
         self.reach(f"fault {code}")
+
+    def why(self, why):
+        """The code that the layer above has chosen is left out."""
+        self.reach("why " + why.partition("(")[0])
 
     def reset(self, code):
         self.reach(f"reset with {code}")

@@ -21,7 +21,7 @@ class Frame:
 
     data: body, end, pad (octets of padding, or None). headers: block, end, whole, padded.
     continuation: block, whole. reset: code. settings: pairs. ack. ping: octets, ack. goaway: last,
-    code, debug. update: increment. unknown: type, payload. malformed: octets, code of the fault."""
+    code, debug. update: increment. unknown: type, payload. malformed: octets, code of the fault, its reason."""
 
     def __init__(self, kind, stream=0, **parts):
         self.kind, self.stream = kind, stream
@@ -128,39 +128,41 @@ def read_frame(head, payload):
 
 def too_long(kind, length):
     """The head of a frame whose payload is longer than may be read: a fault at its ninth octet."""
-    return Frame("malformed", octets=length.to_bytes(3, "big") + bytes([kind, 0, 0, 0, 0, 1]), code=6, long=True)
+    octets = length.to_bytes(3, "big") + bytes([kind, 0, 0, 0, 0, 1])
+    return Frame("malformed", octets=octets, code=6, why="FrameTooLong", long=True)
 
 
-def malformed(text, code):
-    return Frame("malformed", octets=bytes.fromhex(text), code=code, long=False)
+def malformed(text, code, why):
+    return Frame("malformed", octets=bytes.fromhex(text), code=code, why=why, long=False)
 
 
 # Frames that no state allows: the first fault that holds of sections 4.2 and 6.
 MALFORMED = [
-    # PUSH_PROMISE.
-    malformed("000000 05 00 00000001", 1),
+    # PUSH_PROMISE, on a stream and on the connection.
+    malformed("000000 05 00 00000001", 1, "PushPromise"),
+    malformed("000004 05 04 00000000", 1, "PushPromise"),
     # DATA, HEADERS, PRIORITY, RST_STREAM and CONTINUATION on stream 0.
-    malformed("000001 00 00 00000000", 1),
-    malformed("000001 01 00 00000000", 1),
-    malformed("000005 02 00 00000000", 1),
-    malformed("000004 03 00 00000000", 1),
-    malformed("000004 09 00 00000000", 1),
+    malformed("000001 00 00 00000000", 1, "WrongStream"),
+    malformed("000001 01 00 00000000", 1, "WrongStream"),
+    malformed("000005 02 00 00000000", 1, "WrongStream"),
+    malformed("000004 03 00 00000000", 1, "WrongStream"),
+    malformed("000004 09 00 00000000", 1, "WrongStream"),
     # SETTINGS, PING and GOAWAY on a stream.
-    malformed("000000 04 00 00000001", 1),
-    malformed("000008 06 00 00000001", 1),
-    malformed("000008 07 00 00000001", 1),
+    malformed("000000 04 00 00000001", 1, "WrongStream"),
+    malformed("000008 06 00 00000001", 1, "WrongStream"),
+    malformed("000008 07 00 00000001", 1, "WrongStream"),
     # DATA and HEADERS without room for what their flags say.
-    malformed("000000 00 08 00000001", 6),
-    malformed("000005 01 28 00000001", 6),
+    malformed("000000 00 08 00000001", 6, "WrongLength"),
+    malformed("000005 01 28 00000001", 6, "WrongLength"),
     # Lengths of PRIORITY, RST_STREAM, SETTINGS, its acknowledgment, PING, GOAWAY and WINDOW_UPDATE.
-    malformed("000004 02 00 00000001", 6),
-    malformed("000005 03 00 00000001", 6),
-    malformed("000005 04 00 00000000", 6),
-    malformed("000006 04 01 00000000", 6),
-    malformed("000007 06 00 00000000", 6),
-    malformed("000007 07 00 00000000", 6),
-    malformed("000005 08 00 00000000", 6),
+    malformed("000004 02 00 00000001", 6, "WrongLength"),
+    malformed("000005 03 00 00000001", 6, "WrongLength"),
+    malformed("000005 04 00 00000000", 6, "WrongLength"),
+    malformed("000006 04 01 00000000", 6, "WrongLength"),
+    malformed("000007 06 00 00000000", 6, "WrongLength"),
+    malformed("000007 07 00 00000000", 6, "WrongLength"),
+    malformed("000005 08 00 00000000", 6, "WrongLength"),
     # Padding that is longer than what remains.
-    malformed("000002 00 08 00000001 0200", 1),
-    malformed("000002 01 0c 00000001 0282", 1),
+    malformed("000002 00 08 00000001 0200", 1, "PaddingTooLong"),
+    malformed("000002 01 0c 00000001 0282", 1, "PaddingTooLong"),
 ]

@@ -17,11 +17,11 @@ MAX_DATA = 65_536  # octets of a body that one call sends at most
 
 
 class Fault(Exception):
-    """The connection fails with this code."""
+    """The connection fails with this code, and for this reason."""
 
-    def __init__(self, code):
-        super().__init__(code)
-        self.code = code
+    def __init__(self, code, why):
+        super().__init__(why)
+        self.code, self.why = code, why
 
 
 class Config:
@@ -53,7 +53,7 @@ class Model:
         self.own_frame = FIRST_FRAME  # the own greatest frame in force
         self.written_frame = FIRST_FRAME  # the one that was sent last
         self.peer_frame = FIRST_FRAME  # the peer's
-        self.failed = None
+        self.failed = self.why = None  # the code, and the reason as crates/h2_conn/src/why.rt names it
         self.output = bytearray()
         self.ends = []  # how many octets of output precede the end of each frame that waits
         self.is_cut = False  # whether the first frame that waits has lost octets already
@@ -119,7 +119,7 @@ class Model:
         """Writes a frame that answers the peer, or fails where too much would wait (section 10.5)."""
         if self.waiting + 9 + len(payload) > MOST_WAITING:
             self.marks.reach("too much output")
-            raise Fault(11)
+            raise Fault(11, "TooMuchOutput")
         self.write(kind, flags, stream, payload)
 
     def take_out(self, count):
@@ -157,7 +157,7 @@ class Model:
     def stream_error(self, number, code):
         """This end resets a stream, for a fault of the peer (section 5.4.2)."""
         if len(self.reset) >= MOST_RESETS:
-            raise Fault(11)
+            raise Fault(11, "TooManyResets")
         self.reply(3, 0, number, four(code))
         self.count_reset(number)
 
@@ -187,14 +187,15 @@ class Model:
         if frame.kind == "data":
             self.last_flow = frame.flow()
 
-    def fail(self, code):
+    def fail(self, code, why):
         """A fault of the peer, or a limit."""
         self.marks.fault(code)
-        self.end_with(code)
+        self.end_with(code, why)
 
-    def end_with(self, code):
+    def end_with(self, code, why):
         """GOAWAY is written, and nothing after it (section 5.4.1)."""
-        self.failed = code
+        self.failed, self.why = code, why
+        self.marks.why(why)
         self.write(7, 0, 0, four(self.processed) + four(code))
         self.due = self.made_due = 0
 

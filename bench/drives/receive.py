@@ -44,7 +44,7 @@ def take(end, frame):
     try:
         event = take_frame(end, frame)
     except Fault as fault:
-        end.fail(fault.code)
+        end.fail(fault.code, fault.why)
         return fault_event(fault.code)
     end.return_made_due()
     return event
@@ -58,33 +58,33 @@ def take_unprocessed(end, number):
     return Event("unprocessed", number, [f"unprocessed {number}"])
 
 
-def fails(end, mark, code):
+def fails(end, mark, code, why):
     end.marks.reach(mark)
-    raise Fault(code)
+    raise Fault(code, why)
 
 
 def take_frame(end, frame):
     assert frame.kind == "malformed" or len(frame.encoded()) <= 9 + end.limit
     if frame.kind == "malformed":
-        fails(end, "frame too long" if frame.long else "malformed", frame.code)
+        fails(end, "frame too long" if frame.long else "malformed", frame.code, frame.why)
     if len(frame.encoded()) > 9 + FIRST_FRAME:
         end.marks.reach("long frame taken")
     if not end.begun:
         if frame.kind != "settings":
-            fails(end, "first frame", 1)
+            fails(end, "first frame", 1, "FirstFrameNotSettings")
         end.begun = True
     if end.partial is None:
         return TAKERS[frame.kind](end, frame)
     number, ended, octets = end.partial
     if frame.kind != "continuation" or frame.stream != number:
-        fails(end, "interrupted", 1)
+        fails(end, "interrupted", 1, "BlockInterrupted")
     return take_part(end, number, ended, octets + frame.block, frame.whole)
 
 
 def take_part(end, number, ended, octets, whole):
     """Section 6.10."""
     if len(octets) > MAX_BLOCK:
-        fails(end, "block too long", 11)
+        fails(end, "block too long", 11, "BlockTooLong")
     if not whole:
         end.partial = (number, ended, octets)
         return None
@@ -97,7 +97,7 @@ def take_headers(end, frame):
 
 
 def stray_continuation(end, frame):
-    fails(end, "stray continuation", 1)
+    fails(end, "stray continuation", 1, "StrayContinuation")
 
 
 def take_block(end, number, ended, block):
@@ -105,14 +105,14 @@ def take_block(end, number, ended, block):
     try:
         fields = end.decoder.decode(block)
     except BadBlock:
-        fails(end, "block undecodable", 9)
+        fails(end, "block undecodable", 9, "BlockNotDecoded")
     match end.state(number):
         case "idle" if end.is_server and number % 2:
             return take_first_block(end, number, ended, fields)
         case "idle":
-            fails(end, "block on idle", 1)
+            fails(end, "block on idle", 1, "BlockOnIdleNumber")
         case "closed":
-            fails(end, "block on closed", 1)
+            fails(end, "block on closed", 1, "BlockOnClosedStream")
         case "ignored":
             return end.marks.reach("block ignored")
     return take_list(end, end.streams[number], ended, fields)
@@ -158,11 +158,11 @@ def take_data(end, frame):
     """Section 6.1."""
     state, flow = end.state(frame.stream), frame.flow()
     if state == "idle":
-        fails(end, "data on idle", 1)
+        fails(end, "data on idle", 1, "FrameOnIdleStream")
     if state == "closed":
-        fails(end, "data on closed", 5)
+        fails(end, "data on closed", 5, "DataOnClosedStream")
     if exceeds(flow, end.receive):
-        fails(end, "data above connection", 3)
+        fails(end, "data above connection", 3, "DataAboveConnectionWindow")
     end.receive -= flow
     if state == "ignored":
         end.made_due = flow
@@ -173,7 +173,7 @@ def take_data(end, frame):
         end.made_due = flow
         return reset_stream(end, stream.number, 5)
     if exceeds(flow, stream.receive):
-        fails(end, "data above stream", 3)
+        fails(end, "data above stream", 3, "DataAboveStreamWindow")
     end.marks.reach("data reported")
     stream.receive -= flow
     stream.owed += flow
@@ -187,9 +187,9 @@ def take_update(end, frame):
     if frame.stream:
         return take_stream_update(end, frame)
     if frame.increment == 0:
-        fails(end, "update by nothing", 1)
+        fails(end, "update by nothing", 1, "ZeroConnectionIncrement")
     if is_too_great(end.send + frame.increment):
-        fails(end, "update overflow", 3)
+        fails(end, "update overflow", 3, "ConnectionWindowTooLarge")
     end.send += frame.increment
     return end.marks.reach("update taken")
 
@@ -197,7 +197,7 @@ def take_update(end, frame):
 def take_stream_update(end, frame):
     state = end.state(frame.stream)
     if state == "idle":
-        fails(end, "stream update on idle", 1)
+        fails(end, "stream update on idle", 1, "FrameOnIdleStream")
     if state != "active":
         return end.marks.reach("stream update ignored")
     stream = end.streams[frame.stream]
@@ -215,7 +215,7 @@ def take_reset(end, frame):
     """Section 6.4."""
     state = end.state(frame.stream)
     if state == "idle":
-        fails(end, "reset on idle", 1)
+        fails(end, "reset on idle", 1, "FrameOnIdleStream")
     if state != "active":
         return end.marks.reach("reset ignored")
     end.marks.reach("reset reported")
@@ -235,13 +235,13 @@ def take_pair(end, name, value):
     if name == 1:
         end.encoder.set_limit(value)
     elif name == 2 and (value > 1 or (value == 1 and not end.is_server)):
-        fails(end, "settings push", 1)
+        fails(end, "settings push", 1, "BadEnablePush")
     elif name == 3:
         end.max_streams = value
     elif name == 4:
         take_window(end, value)
     elif name == 5 and not 16_384 <= value <= 16_777_215:
-        fails(end, "settings frame", 1)
+        fails(end, "settings frame", 1, "BadMaxFrameSize")
     elif name == 5:
         end.peer_frame = value
 
@@ -249,12 +249,12 @@ def take_pair(end, name, value):
 def take_window(end, window):
     """The initial window: all streams' windows change with it (section 6.9.2)."""
     if is_too_great(window):
-        fails(end, "settings window", 3)
+        fails(end, "settings window", 3, "BadInitialWindow")
     for stream in end.streams.values():
         stream.send += window - end.window
     end.window = window
     if any(is_too_great(stream.send) for stream in end.streams.values()):
-        fails(end, "settings overflow", 3)
+        fails(end, "settings overflow", 3, "ShiftTooLarge")
 
 
 def take_ack(end, frame):

@@ -1,7 +1,7 @@
 //! The gatherer of field blocks.
 
 ghost use Rattle.std.specs.Prelude.{◌≡◌, ◌≤◌, [], length, IfSome, None, Some, Ok, Err, true, IsOk};
-ghost use Rattle.std.specs.Option.{is_some, option_map_or};
+ghost use Rattle.std.specs.Option.{is_some, option_map, option_map_or};
 ghost use Rattle.h2_frame.specs.Frames.{frame_of};
 ghost use Rattle.h2_block.specs.Grouping.{is_standalone};
 ghost use Rattle.h2_block.specs.Gather.{GatherRepresents, GatherTakes, LeavesNone};
@@ -102,5 +102,17 @@ impl Gather {
         ensures { result ≡ is_some self.now.begun }
     {
         self.partial.opening.is_some()
+    }
+
+    // contract: 4.3 (own) A gatherer says what it holds of a block, and if it is inside one
+    // rule: 4.3 (own) A gatherer says what it holds of a block, and if it is inside one
+    /// The stream of the block that has begun and isn't complete. It allocates nothing.
+    pub fn stream(&self) -> Option<u32>
+        ensures { result ≡ option_map (λ begun. begun.stream) self.now.begun }
+    {
+        match self.partial.opening {
+            Some(opening) => Some(opening.stream),
+            None => None,
+        }
     }
 }

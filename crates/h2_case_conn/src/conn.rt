@@ -15,7 +15,7 @@
 //!   the rule by which it is refused.
 //! - `out`: the frames of all output; `drop out` and `drop out N`: it is taken away, and not shown.
 //! - The readers: `waiting`, `lent` (the frames of the queued output), `held`, `place`, `due`,
-//!   `failed`, `next_number`, `room ID`, `owed ID`, `next_live ID`, `is_active ID`,
+//!   `failed`, `why`, `next_number`, `room ID`, `owed ID`, `next_live ID`, `is_active ID`,
 //!   `refusal_to_open FIELDS`, `last_flow`, `resets_received`, `empty_frames_received`, and
 //!   `peer_settings` (the initial window and the greatest frame).
 //! - `changes`: which of these numbers have changed since the last such command, or, at the first
@@ -140,6 +140,14 @@ fn add_failed(conn: &Conn, text: &mut Text) {
     }
 }
 
+// Adds why the connection has failed.
+fn add_why(conn: &Conn, text: &mut Text) {
+    match conn.why() {
+        Some(why) => write!(text, "{why:?}\n"),
+        None => text.push_line("none"),
+    }
+}
+
 /// Says where there is no output.
 pub fn drop_out(out: &[u8], text: &mut Text) {
     if out.is_empty() {
@@ -156,6 +164,7 @@ fn read(alloc: Global, conn: &Conn, name: &str, words: &mut Words<'_>, text: &mu
         "due" => add_value(text, conn.due()),
         "next_number" => add_option(text, conn.next_number()),
         "failed" => add_failed(conn, text),
+        "why" => add_why(conn, text),
         "lent" => add_lent(alloc, conn, words, text),
         "refusal_to_open" => add_refusal(alloc, conn, words, text),
         _ => return read_stream(conn, name, words, text),

@@ -1,9 +1,9 @@
 //! A client or a server of complete messages.
 //!
 //! - `new client`, `new server`, `take`, `out`, `out N`, `drop out`, `ping OCTETS`, `go_away`,
-//!   `fail CODE`, `reset ID CODE`, `release ID N`, `change VALUES`, `waiting`, `room ID`, `owed ID` and
-//!   `next_live ID` as of one end of a connection (`h2_case_conn::conn`). What is handed out is as
-//!   [`crate::end_events`] says.
+//!   `fail CODE`, `reset ID CODE`, `release ID N`, `change VALUES`, `waiting`, `room ID`, `owed ID`
+//!   and `next_live ID` as of one end of a connection (`h2_case_conn::conn`). What is handed out is
+//!   as [`crate::end_events`] says.
 //! - `start`: the peer's opening comes, with SETTINGS without values, and all output is taken away
 //!   and not shown.
 //! - `request MESSAGE`, `respond ID MESSAGE`: messages are written as [`h2_case::messages`] says.
@@ -13,8 +13,9 @@
 //!   many of the octets are sent; there may be none. `trailers ID FIELDS`.
 //! - `serve each N MESSAGE`, at a client `ask each N MESSAGE`: see [`crate::crowds`].
 //! - `pump`, `pump_some N`, `release_all`, `unsent ID`, `is_quiet`, `is_full`, `is_drained`;
-//!   `last_flow`; `last_malformed`: the stream and the rule, or `none`; `active`: the numbers of all active streams, and `count active`: their number; `count out`: the
-//!   number of octets of output that are taken away.
+//!   `last_flow`; `last_malformed`: the stream and the rule, or `none`; `active`: the numbers of
+//!   all active streams, and `count active`: their number; `count out`: the number of octets of
+//!   output that are taken away.
 //! - `other`: the commands that follow are for the other of two ends, which is new at first.
 //!   `exchange N`: octets go to the other end and back, N at once at most, until none are queued
 //!   ([`crate::joined`]).

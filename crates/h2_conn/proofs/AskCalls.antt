@@ -6,7 +6,7 @@ use Rattle.h2_conn.proofs.Names.{Act, Answer, Refused, Open, PutOut, ChangeSetti
 use Rattle.h2_conn.proofs.Names.{Done, most_max_frame, Log, log_view, MayAnswer, with_call}
 use Rattle.h2_conn.proofs.Names.{refusal_of, View, Keeps, End, end_view, payload_limit_of}
 use Rattle.h2_conn.proofs.Names.{after_call, Represents, views_alike, refusal_same, CallRefused}
-use Rattle.h2_conn.proofs.Names.{CallAccepted, answer_by, PartsRepresent, IsTypedAct}
+use Rattle.h2_conn.proofs.Names.{CallAccepted, answer_by, PartsFit, IsTypedAct}
 use Rattle.h2_conn.proofs.Names.{may_lack_memory, end_after, Counts, CountsFrames, Frame}
 use Rattle.h2_spec_log.specs.CallRules.{answer_of, first_of, conditions}
 use Rattle.std.proofs.Common.{IfErr, OnOk}
@@ -23,16 +23,16 @@ use Rattle.hpack.proofs.Tests.{none_since as nothing}
 -- it.
 abbrev pub PartsAnswer : CutterState → Counts → End → Act → Answer → End → Type 0
 PartsAnswer cutter counts e act answer new =
-    (values : Values) (log : Log) → PartsRepresent values cutter counts e log
-    → MayAnswer log act answer × PartsRepresent values cutter counts new (with_call log act answer)
+    (values : Values) (log : Log) → PartsFit values cutter counts e log
+    → MayAnswer log act answer × PartsFit values cutter counts new (with_call log act answer)
 
 -- The parts represent the log with a call that may have its answer, where the end keeps its own
 -- settings.
 pub parts_called : {counts : Counts} (values : Values) (cutter : CutterState) (e : End) (log : Log)
     (act : Act)
-    (answer : Answer) → PartsRepresent values cutter counts e log → IsTypedAct act
+    (answer : Answer) → PartsFit values cutter counts e log → IsTypedAct act
     → MayAnswer log act answer → (end_after e act answer).own ≡ e.own
-    → PartsRepresent values cutter counts (end_after e act answer) (with_call log act answer)
+    → PartsFit values cutter counts (end_after e act answer) (with_call log act answer)
 parts_called values cutter e log act answer parts typed may own =
     parts_kept values cutter e (end_after e act answer) log (with_call log act answer) parts
     (Keeps-call log act answer) own
@@ -59,17 +59,17 @@ refused_after e act refusal = refl
 -- A call that is refused, for memory only where the log may lack it.
 pub refused_at : {counts : Counts} (values : Values) (cutter : CutterState) (e new : End)
     (log : Log) (act : Act)
-    (refusal : Refusal) → PartsRepresent values cutter counts e log → IsTypedAct act
+    (refusal : Refusal) → PartsFit values cutter counts e log → IsTypedAct act
     → (refusal ≡ Memory → refusal_of (end_view e) act ≡ None
     → may_lack_memory (log_view log) act ≡ true)
     → CallRefused e act refusal new
     → MayAnswer log act (Refused refusal)
-    × PartsRepresent values cutter counts new (with_call log act (Refused refusal))
+    × PartsFit values cutter counts new (with_call log act (Refused refusal))
 refused_at {counts} values cutter e new log act refusal parts typed lacking refused =
     let may = refusal_may values e new log act refusal parts.machine lacking refused in (
       may,
       subst
-          (λ (x : End). PartsRepresent values cutter counts x
+          (λ (x : End). PartsFit values cutter counts x
           (with_call log act (Refused refusal)))
           (refused_after e act refusal ∙ sym refused.same)
           (parts_called values cutter e log act (Refused refusal) parts typed may
@@ -97,18 +97,18 @@ own_kept e act other =
 -- A call that is accepted, with the machine's answer where the log has the same.
 pub accepted_with : {counts : Counts} (values : Values) (cutter : CutterState) (e new : End)
     (log : Log) (act : Act)
-    (answer : Answer) → changes_settings act ≡ false → PartsRepresent values cutter counts e log
+    (answer : Answer) → changes_settings act ≡ false → PartsFit values cutter counts e log
     → IsTypedAct act → answer ≡ answer_of (end_view e) act
     → answer_of (end_view e) act ≡ answer_of (log_view log) act
     → refusal_of (end_view e) act ≡ None → new ≡ after_call e act
-    → MayAnswer log act answer × PartsRepresent values cutter counts new (with_call log act answer)
+    → MayAnswer log act answer × PartsFit values cutter counts new (with_call log act answer)
 accepted_with {counts} values cutter e new log act answer keeps parts typed is alike free after =
     let may : MayAnswer log act answer =
     accepts (sym (refusal_same values e log act parts.machine) ∙ free) (is ∙ alike) in
     let called : end_after e act answer ≡ after_call e act =
     ap (λ (x : Answer). end_after e act x) is ∙ accepted_after e act in (
       may,
-      subst (λ (x : End). PartsRepresent values cutter counts x (with_call log act answer))
+      subst (λ (x : End). PartsFit values cutter counts x (with_call log act answer))
           (called ∙ sym after)
           (parts_called values cutter e log act answer parts typed may
           (ap (λ (x : End). x.own) called ∙ own_kept e act keeps)),
@@ -197,9 +197,9 @@ pub change_answers : {counts : Counts} (cutter limited : CutterState) (e new : E
     → AreInRange changed → CallAccepted e (ChangeSettings changed) new
     → CutterLimited cutter (payload_limit_of new.own) limited
     → payload_limit_of new.own ≤ most_max_frame → (values : Values) (log : Log)
-    → PartsRepresent values cutter counts e log
+    → PartsFit values cutter counts e log
     → MayAnswer log (ChangeSettings changed) Done
-    × PartsRepresent values limited counts new (with_call log (ChangeSettings changed) Done)
+    × PartsFit values limited counts new (with_call log (ChangeSettings changed) Done)
 unfolding IsTypedAct
 change_answers {counts} cutter limited e new changed in_range accepted set within values log
     parts =
@@ -233,7 +233,7 @@ condition_answers {counts} cutter e act refusal typed why values log parts =
     refuses refusal (sym (refusal_same values e log act parts.machine) ∙ why) refl in (
       may,
       subst
-          (λ (x : End). PartsRepresent values cutter counts x
+          (λ (x : End). PartsFit values cutter counts x
           (with_call log act (Refused refusal)))
           (refused_after e act refusal)
           (parts_called values cutter e log act (Refused refusal) parts typed may

@@ -3,7 +3,7 @@
 use Rattle.h2_conn.proofs.Names.{◌≡◌, ℕ, nat_le, if◌then◌else◌, List, length, None, ap, sym, ◌∙◌}
 use Rattle.h2_conn.proofs.Names.{Frame, CutterState, CutterRepresents, saturated, Limits, Role}
 use Rattle.h2_conn.proofs.Names.{Values, is_server, payload_limit, Log, acked, limits_from, Keeps}
-use Rattle.h2_conn.proofs.Names.{End, payload_limit_of, Represents, limit_agrees, PartsRepresent}
+use Rattle.h2_conn.proofs.Names.{End, payload_limit_of, Represents, limit_agrees, PartsFit}
 use Rattle.h2_conn.proofs.Names.{rules, Counts}
 
 -- With the same own settings the same limit is in force.
@@ -36,8 +36,8 @@ cuts_same cutter one two limits others input after frames more role limit came c
 -- A step that keeps the stream of octets, and the cutter with it.
 pub parts_kept : {counts : Counts} (values : Values) (cutter : CutterState) (e other : End)
     (log next : Log)
-    → PartsRepresent values cutter counts e log → Keeps log next → other.own ≡ e.own
-    → Represents values other next → PartsRepresent values cutter counts other next
+    → PartsFit values cutter counts e log → Keeps log next → other.own ≡ e.own
+    → Represents values other next → PartsFit values cutter counts other next
 parts_kept values cutter e other log next parts keeps own machine =
     record {
       machine = machine;

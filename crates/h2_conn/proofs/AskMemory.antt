@@ -2,7 +2,7 @@
 use Rattle.h2_conn.proofs.Names.{◌≡◌, ◌≢◌, ◌∙◌, ◌+◌, ◌≤◌, ℕ, Bool, true, false, List, Option, Some}
 use Rattle.h2_conn.proofs.Names.{None, is_some, Result, Err, refl, ap, sym, arith, Code, Refusal}
 use Rattle.h2_conn.proofs.Names.{Memory, Values, returns_before_put_out, Log, log_view, View, End}
-use Rattle.h2_conn.proofs.Names.{end_view, Represents, views_alike, CutterState, PartsRepresent}
+use Rattle.h2_conn.proofs.Names.{end_view, Represents, views_alike, CutterState, PartsFit}
 use Rattle.h2_conn.proofs.Names.{IsSome, rules, Counts}
 use Rattle.h2_spec_log.specs.declared.refusal.Refusal.TheVariants.{Closed}
 use Rattle.h2_spec_log.specs.CallRules.{sends_no_data}
@@ -52,7 +52,7 @@ none_of (Some code) is = cc
 
 pub held_at_most : {counts : Counts} (values : Values) (cutter : CutterState) (e : End) (log : Log)
     (count : ℕ)
-    → PartsRepresent values cutter counts e log → log.failed ≡ None
+    → PartsFit values cutter counts e log → log.failed ≡ None
     → (cutter.in_preface ≡ true → count ≤ 24)
     → (cutter.in_preface ≡ false → count ≤ 9 + cutter.greatest) → count ≤ 1048585
 held_at_most values cutter e log count p up few most = search rules

@@ -4,7 +4,7 @@ use Rattle.h2_conn.proofs.Names.{refl, sym, ap, subst, ◌∙◌, Code, Internal
 use Rattle.h2_conn.proofs.Names.{Refusal, Values, Act, Answer, IsTypedAct, Refuse, Done, Refused}
 use Rattle.h2_conn.proofs.Names.{refusal_of, Log, log_view, MayAnswer, with_call, View, End}
 use Rattle.h2_conn.proofs.Names.{end_view, fail, views_alike, refusal_same, CallRefuses, answer_by}
-use Rattle.h2_conn.proofs.Names.{PartsRepresent, end_after, Counts}
+use Rattle.h2_conn.proofs.Names.{PartsFit, end_after, Counts}
 use Rattle.h2_spec_log.specs.Acts.{OutOfMemory, shown}
 use Rattle.h2_spec_log.specs.CallRules.{refuse_fault, may_fail_for_memory}
 use Rattle.h2_spec_log.specs.LogCalls.{fails}
@@ -15,9 +15,9 @@ use Rattle.h2_conn.proofs.AskCalls.{up_if_free}
 -- represent the log with it.
 abbrev pub PartsShow : CutterState → Counts → End → Act → Answer → End → Type 0
 PartsShow cutter counts e act answer new =
-    (values : Values) (log : Log) → PartsRepresent values cutter counts e log
+    (values : Values) (log : Log) → PartsFit values cutter counts e log
     → (one : Answer) × (shown one ≡ answer) × MayAnswer log act one
-    × PartsRepresent values cutter counts new (with_call log act one)
+    × PartsFit values cutter counts new (with_call log act one)
 
 -- An answer shows itself.
 shows_own : {counts : Counts} (cutter : CutterState) (e new : End) (act : Act)
@@ -44,7 +44,7 @@ failing_answers {counts} cutter e new id code typed free calm is values log part
     fails (sym (refusal_same values e log act parts.machine) ∙ free)
     (ap (λ (fault : Option Code). not (is_some fault)) none) refl in (
       may,
-      subst (λ (x : End). PartsRepresent values cutter counts x (with_call log act OutOfMemory))
+      subst (λ (x : End). PartsFit values cutter counts x (with_call log act OutOfMemory))
           (sym is)
           (parts_called values cutter e log act OutOfMemory parts typed may refl),
     )

@@ -1,3 +1,14 @@
+-- The parts of a connection without the reason of its failure.
+mod PartsFit
+-- What attributes of the code unfold.
+pub mod Rules
+-- Why a connection has failed.
+pub mod Reasons
+pub mod ReasonVerdicts
+pub mod ReasonCodes
+pub mod WhyCalls
+-- What is seen of an end that fails.
+mod WhySeen
 -- The parts of a connection where its cutter is left as it is.
 pub mod AskLimits
 -- The parts where the limit of payloads is set.
@@ -27,3 +38,5 @@ mod TakeSound
 -- A new end.
 mod TakeStart
 pub mod Names
+-- Worked rows.
+mod examples

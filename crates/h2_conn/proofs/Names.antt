@@ -3,8 +3,12 @@ pub use Rattle.h2_block.specs.Grouping.{alone, block, Item}
 pub use Rattle.h2_conn.specs.Conn.{answer_by}
 pub use Rattle.h2_conn.specs.Counts.{CountsFrames}
 pub use Rattle.h2_conn.specs.Events.{happened_value, LocatedEvent}
+pub use Rattle.h2_conn.proofs.PartsFit.{PartsFit}
 pub use Rattle.h2_conn.specs.Inner.{PartsRepresent}
+unfoldable pub use Rattle.h2_conn.specs.Why.{rule_of_frame}
+pub use Rattle.h2_conn.specs.Why.{rule_of_octets}
 pub use Rattle.h2_conn.specs.declared.counts.Counts.{Counts}
+pub use Rattle.h2_conn.specs.declared.why.Why.{Why}
 pub use Rattle.h2_core.specs.Calls.{CallAccepted, CallRefused, CallRefuses}
 pub use Rattle.h2_core.specs.Endpoint.{end_of, IsSoundEnd}
 pub use Rattle.h2_core.specs.Events.{FrameEvent}

@@ -4,7 +4,7 @@ use Rattle.h2_conn.proofs.Names.{length, None, refl, sym, ap, ◌∙◌, arith, 
 use Rattle.h2_conn.proofs.Names.{CutterRepresents, CutterLimited, saturated, body_at, Limits}
 use Rattle.h2_conn.proofs.Names.{Complete, Values, most_max_frame, is_server, payload_limit, Log}
 use Rattle.h2_conn.proofs.Names.{acked, limits_from, Keeps, End, payload_limit_of, Represents}
-use Rattle.h2_conn.proofs.Names.{limit_agrees, PartsRepresent, rules, Counts, CountsFrames}
+use Rattle.h2_conn.proofs.Names.{limit_agrees, PartsFit, rules, Counts, CountsFrames}
 use Rattle.h2_conn.proofs.AskLimits.{cuts_same}
 
 -- A cutter that has cut the octets of a log, whatever limit it has for those to come.
@@ -38,7 +38,7 @@ pub parts_limited : {counts : Counts} (values : Values) (cutter limited : Cutter
     → CutterLimited cutter (payload_limit_of e.own) limited
     → (log.failed ≡ None → payload_limit_of e.own ≤ most_max_frame)
     → CountsFrames counts log.frames
-    → PartsRepresent values limited counts e log
+    → PartsFit values limited counts e log
 parts_limited values cutter limited e log machine has place set within counts_are =
     record {
       machine = machine;
@@ -69,7 +69,7 @@ limit_of_used log place used = rw used refl
 -- After a step that keeps the stream of octets the cutter has cut it.
 pub has_cut_kept : {counts : Counts} (values : Values) (cutter : CutterState) (e : End)
     (log next : Log)
-    → PartsRepresent values cutter counts e log → Keeps log next → next.failed ≡ None
+    → PartsFit values cutter counts e log → Keeps log next → next.failed ≡ None
     → HasCut cutter next
 has_cut_kept values cutter e log next parts keeps going = search rules
 

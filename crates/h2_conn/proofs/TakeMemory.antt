@@ -1,11 +1,12 @@
 -- Memory is refused for a cause: what a cutter and an end say of it, as a log does.
 use Rattle.h2_conn.proofs.Names.{◌≡◌, ◌≢◌, ◌∙◌, ◌++◌, ℕ, nat_le, List, [], true, false, None}
-use Rattle.h2_conn.proofs.Names.{Result, Err, suc, length, refl, ap, sym, arith, nat_tests, Code}
+use Rattle.h2_conn.proofs.Names.{Result, Err, suc, length, refl, ap, sym, arith, nat_tests}
 use Rattle.h2_conn.proofs.Names.{Frame, alone, block, WireFault, CutterState, Values, FrameStep}
 use Rattle.h2_conn.proofs.Names.{fails_with, begins_block, completes, frame_step, verdict_of, Log}
 use Rattle.h2_conn.proofs.Names.{acked, limits_from, log_view, payload_limit, Verdict, View, End}
 use Rattle.h2_conn.proofs.Names.{end_view, with_begun, Represents, step_alike, views_alike}
-use Rattle.h2_conn.proofs.Names.{PartsRepresent, rules, Counts}
+use Rattle.h2_conn.proofs.Names.{PartsFit, rules, Counts}
+use Rattle.h2_frame.specs.declared.head_faults.HeadFault.{HeadFault}
 use Rattle.h2_wire.specs.declared.cut.Advance.{Advance}
 use Rattle.h2_wire.specs.Streams.{GoesPastPreface}
 use Rattle.h2_wire.specs.Cutter.{FaultsAtHead, BeginsWithFrame}
@@ -19,13 +20,14 @@ use Rattle.h2_wire.specs.declared.fault.WireFault.TheVariants as faults
 pub record CutterLacks (cutter : CutterState) (piece : List ℕ) : Type 0 where
   pub some : piece ≢ []
   pub past_preface : cutter.in_preface ≡ true → GoesPastPreface (cutter.unparsed ++ piece)
-  pub no_faulty_head : (code : Code) → FaultsAtHead cutter piece code → ⊥
+  pub no_faulty_head : (fault : HeadFault) → FaultsAtHead cutter piece fault → ⊥
   pub cut_in_two : BeginsWithFrame cutter piece → ⊥
 
 -- It follows from the clauses of the call.
 pub cutter_lacks : (cutter : CutterState) (piece : List ℕ) (result : Result Advance WireFault)
     → result ≡ Err faults.Memory → cutter.fault ≡ None
-    → ((code : Code) → FaultsAtHead cutter piece code → result ≡ Err (faults.HeadFault code))
+    → ((fault : HeadFault) → FaultsAtHead cutter piece fault
+    → result ≡ Err (faults.HeadFault fault))
     → (cutter.in_preface ≡ true → result ≡ Err faults.Memory
     → GoesPastPreface (cutter.unparsed ++ piece))
     → (BeginsWithFrame cutter piece → result ≢ Err faults.Memory)
@@ -43,12 +45,12 @@ limit_now log = rw not_above refl
 
 -- The cutter is the log's.
 limit_same : {counts : Counts} (values : Values) (cutter : CutterState) (e : End) (log : Log)
-    → PartsRepresent values cutter counts e log → log.failed ≡ None
+    → PartsFit values cutter counts e log → log.failed ≡ None
     → cutter.limit ≡ (cutter_of log).limit
 limit_same values cutter e log p up = search rules
 
 pub keeps_octets : {counts : Counts} (values : Values) (cutter : CutterState) (e : End) (log : Log)
-    (piece : List ℕ) → PartsRepresent values cutter counts e log → log.failed ≡ None
+    (piece : List ℕ) → PartsFit values cutter counts e log → log.failed ≡ None
     → CutterLacks cutter piece → KeepsOctets log piece
 keeps_octets values cutter e log piece p up lacks =
     let limit : cutter.limit ≡ (cutter_of log).limit = limit_same values cutter e log p up in

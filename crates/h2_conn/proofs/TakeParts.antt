@@ -10,7 +10,12 @@ use Rattle.h2_conn.proofs.Names.{limits_from, took_frame, log_view, credit_needs
 use Rattle.h2_conn.proofs.Names.{IsDecodedFor, End, end_view, payload_limit_of, after_frame, fail}
 use Rattle.h2_conn.proofs.Names.{close_unprocessed, unprocessed_of_end, Represents, views_alike}
 use Rattle.h2_conn.proofs.Names.{Failed, FailsWithoutMemory, LocatedEvent, happened_value}
-use Rattle.h2_conn.proofs.Names.{PartsRepresent, used, with_sent, rules, Counts, CountsFrames}
+use Rattle.h2_conn.proofs.Names.{PartsFit, PartsRepresent, used, with_sent, rules, Counts}
+use Rattle.h2_conn.proofs.Names.{CountsFrames, Why, rule_of_frame, rule_of_octets}
+use Rattle.h2_conn.specs.declared.why.Why.TheVariants.{OutOfMemory}
+use Rattle.h2_conn.specs.Why.{for_octets, for_memory, for_a_frame}
+use Rattle.h2_conn.proofs.PartsFit.{fit_of, with_reason}
+use Rattle.h2_conn.proofs.Reasons.{came_of, said_for, why_up}
 use Rattle.h2_spec_log.specs.LogSteps.{took_part, took_fault, took_none, took_out_of_memory}
 use Rattle.std.proofs.Common.{◌⊎◌, append-nil}
 use Rattle.std.specs.Option.{MatchOption}
@@ -31,6 +36,7 @@ use Rattle.h2_laws_end.specs.Takes.{TakeAnswer, Took, events_answered, MayTake, 
 use Rattle.h2_laws_end.specs.Takes.{reports_unprocessed, ends_no_frame, ends_frame, meets_fault}
 use Rattle.h2_laws_end.specs.Takes.{runs_out_of_memory}
 use Rattle.h2_laws_end.proofs.NotInternal.{frame_up}
+use Rattle.h2_laws_end.proofs.Failures.{reported_failed, unreturned_failed}
 use Rattle.h2_laws_end.proofs.PieceLogs.{limits_used}
 use Rattle.h2_core.specs.Failure.{FailsAlike}
 use Rattle.h2_core.specs.Frames.{FrameFails, FrameLacksMemory}
@@ -45,9 +51,10 @@ use denote.Enum.Bare.{sameb}
 use Rattle.h2_frame.specs.contracts.code.Code.{the_type}
 
 -- A call of `take` may have this answer, and the parts represent the log with it.
-abbrev pub Takes : Values → Log → List ℕ → TakeAnswer → CutterState → Counts → End → Type 0
-Takes values log piece answer cutter counts e =
-    (after : Log) × MayTake log piece answer after × PartsRepresent values cutter counts e after
+abbrev pub Takes : Values → Log → List ℕ → TakeAnswer → CutterState → Counts → Option Why → End
+    → Type 0
+Takes values log piece answer cutter counts why e =
+    (after : Log) × MayTake log piece answer after × PartsRepresent values cutter counts why e after
 
 -- An end that has failed as another has represents what that one does.
 represents_alike : (values : Values) (e other : End) (log : Log) → Represents values e log
@@ -74,18 +81,24 @@ fault_input : (log : Log) (octets : List ℕ) (fault : WireFault)
 unfolding used with_sent
 fault_input log octets fault = refl
 
+-- A frame leaves the role.
+frame_role : (log : Log) (octets : List ℕ) (decoded : Option Decoded) (frame : Frame)
+    → (took_frame log octets decoded frame).role ≡ log.role
+unfolding used
+frame_role log octets decoded frame = (Keeps-frame (used log octets []) decoded frame).role
+
 module _ (values : Values) where
   -- Of a connection that has failed only the machine and the place count.
   pub failed_parts : {counts : Counts} (cutter : CutterState) (e : End) (log : Log)
       → Represents values e log
       → e.failed ≢ None → IsAtEnd cutter log → CountsFrames counts log.frames
-      → PartsRepresent values cutter counts e log
+      → PartsFit values cutter counts e log
   failed_parts cutter e log s down at_end counts_are = search rules
 
   alike_parts : {counts : Counts} (cutter : CutterState) (e other : End) (log : Log)
       → Represents values e log
       → FailsAlike e other → IsAtEnd cutter log → CountsFrames counts log.frames
-      → PartsRepresent values cutter counts other log
+      → PartsFit values cutter counts other log
   alike_parts cutter e other log s alike at_end counts_are = search rules
 
   -- An end takes octets where it is up and has reported all unprocessed streams.
@@ -96,11 +109,11 @@ module _ (values : Values) where
       record { up = log_up; all_reported = sym (next_same values e log s log_up) ∙ reported }
 
   -- Octets that end no frame.
-  pub no_frame_taken : {counts : Counts} (cutter new : CutterState) (e : End) (log : Log)
-      (piece : List ℕ) (count : ℕ)
-      → PartsRepresent values cutter counts e log → TakesOctets log → e.failed ≡ None
+  pub no_frame_taken : {counts : Counts} {why : Option Why} (cutter new : CutterState) (e : End)
+      (log : Log) (piece : List ℕ) (count : ℕ)
+      → PartsRepresent values cutter counts why e log → TakesOctets log → e.failed ≡ None
       → count ≡ length piece → CutterContinues cutter (take count piece) [] new
-      → Takes values log piece (Took count None) new counts e
+      → Takes values log piece (Took count None) new counts why e
   unfolding MayStep log_after machine_after used
   no_frame_taken cutter new e log piece count p takes up all continues =
       let all_of : take count piece ≡ piece =
@@ -125,6 +138,7 @@ module _ (values : Values) where
           greatest = λ going. rw continues.same_greatest (p.greatest takes.up);
           place = now.place;
           counted = p.counted;
+          reason = why_up values log after _ p.reason takes.up takes.up;
         },
       )
 
@@ -137,7 +151,7 @@ pub record IsCut (cutter new : CutterState) (piece : List ℕ) (count : ℕ) (fr
 
 module _ (values : Values) (cutter new : CutterState) (e : End) (log : Log) (piece : List ℕ)
     (count : ℕ) (frame : Frame) where
-  cut_now : {counts : Counts} → PartsRepresent values cutter counts e log → log.failed ≡ None
+  cut_now : {counts : Counts} → PartsFit values cutter counts e log → log.failed ≡ None
       → IsCut cutter new piece count frame
       → CutterRepresents new (is_server log.role) (limits_from log) (log.input ++ take count piece)
       (log.frames ++ frame ∷ [])
@@ -147,14 +161,14 @@ module _ (values : Values) (cutter new : CutterState) (e : End) (log : Log) (pie
 
   -- The cutter's place then.
   cut_end : {counts : Counts} (decoded : Option Decoded)
-      → PartsRepresent values cutter counts e log → log.failed ≡ None
+      → PartsFit values cutter counts e log → log.failed ≡ None
       → IsCut cutter new piece count frame
       → IsAtEnd new (took_frame log (take count piece) decoded frame)
   unfolding used
   cut_end decoded p up cut = end_kept new.place (log.input ++ take count piece) _
       (Keeps-frame (used log (take count piece) []) decoded frame).input (cut_now p up cut).place
 
-  read_of : {counts : Counts} → PartsRepresent values cutter counts e log → log.failed ≡ None
+  read_of : {counts : Counts} → PartsFit values cutter counts e log → log.failed ≡ None
       → IsCut cutter new piece count frame → TakesFrame log.role log (take count piece) frame
   read_of p up cut = search rules
 
@@ -169,7 +183,7 @@ answered list octets (Some happened) = refl
 has_cut_frame : {counts : Counts} (values : Values) (cutter new : CutterState) (e : End)
     (log : Log)
     (piece : List ℕ) (count : ℕ) (frame : Frame) (decoded : Option Decoded)
-    → PartsRepresent values cutter counts e log → log.failed ≡ None
+    → PartsFit values cutter counts e log → log.failed ≡ None
     → IsCut cutter new piece count frame
     → HasCut new (took_frame log (take count piece) decoded frame)
 unfolding used
@@ -202,18 +216,20 @@ counts_frame {more = more} log octets decoded frame were counts_it =
     (sym (Keeps-frame (used log octets []) decoded frame).frames) (counts_it log.frames were)
 
 -- A frame that the connection outlives, after which the cutter is given the limit in force.
-pub frame_taken : {counts more : Counts} (values : Values) (cutter new limited : CutterState)
+pub frame_taken : {counts more : Counts} {why : Option Why} (values : Values)
+    (cutter new limited : CutterState)
     (e other : End) (log : Log)
     (piece : List ℕ) (count : ℕ) (frame : Frame) (list : List Field) (octets : List ℕ)
-    (happened : Option LocatedEvent) → PartsRepresent values cutter counts e log → TakesOctets log
-    → e.failed ≡ None → IsCut cutter new piece count frame
+    (happened : Option LocatedEvent) → PartsRepresent values cutter counts why e log
+    → TakesOctets log → e.failed ≡ None → IsCut cutter new piece count frame
     → FrameHappens e frame list octets happened other
     → CutterLimited new (payload_limit_of other.own) limited
     → payload_limit_of other.own ≤ most_max_frame → CountsOneMore counts frame more
     → Takes values log piece (Took count (option_map (happened_value list octets) happened)) limited
-    more other
-frame_taken values cutter new limited e other log piece count frame list octets happened p takes up
-    cut h set within counts_it =
+    more why other
+frame_taken values cutter new limited e other log piece count frame list octets happened parts
+    takes up cut h set within counts_it =
+    let p = fit_of values cutter _ _ e log parts in
     let taken : List ℕ = take count piece in
     let read = read_of values cutter new e log piece count frame p takes.up cut in
     let sees : IsDecodedFor log h.decoded frame =
@@ -231,20 +247,24 @@ frame_taken values cutter new limited e other log piece count frame list octets 
       after,
       ends_frame takes taken (drop count piece) (sym (take-append-drop count piece)) frame
           h.decoded read sees refl (sym (length-take-le count piece cut.within), going, reported),
-      parts_limited values new limited other after machine
+      with_reason values limited _ _ other after
+          (parts_limited values new limited other after machine
           (λ going. has_cut_frame values cutter new e log piece count frame h.decoded p takes.up
           cut) (cut_end values cutter new e log piece count frame h.decoded p takes.up cut) set
-          (λ going. within) (counts_frame log taken h.decoded frame p.counted counts_it),
+          (λ going. within) (counts_frame log taken h.decoded frame p.counted counts_it))
+          (why_up values log after _ parts.reason takes.up going),
     )
 
 module _ (values : Values) (cutter new : CutterState) (e other : End) (log : Log)
     (piece : List ℕ) where
   -- A frame with which the connection fails.
   pub frame_fails : {counts more : Counts} (count : ℕ) (frame : Frame) (code : Code)
-      → PartsRepresent values cutter counts e log
+      → PartsFit values cutter counts e log
       → TakesOctets log → e.failed ≡ None → IsCut cutter new piece count frame
       → FrameFails e frame code other → CountsOneMore counts frame more
-      → (code ≢ InternalError) × Takes values log piece (Failed code) new more other
+      → (code ≢ InternalError)
+      × Takes values log piece (Failed code) new more (Some (rule_of_frame (log_view log) frame code))
+      other
   frame_fails count frame code p takes up cut h counts_it =
       let taken : List ℕ = take count piece in
       let read = read_of values cutter new e log piece count frame p takes.up cut in
@@ -260,18 +280,23 @@ module _ (values : Values) (cutter new : CutterState) (e other : End) (log : Log
           after,
           ends_frame takes taken (drop count piece) (sym (take-append-drop count piece)) frame
               h.decoded read sees refl fails,
-          alike_parts values new (after_frame e h.decoded frame) other after machine h.after
+          with_reason values new _ _ other after
+              (alike_parts values new (after_frame e h.decoded frame) other after machine h.after
               (cut_end values cutter new e log piece count frame h.decoded p takes.up cut)
-              (counts_frame log taken h.decoded frame p.counted counts_it),
+              (counts_frame log taken h.decoded frame p.counted counts_it))
+              (said_for values log.role after _
+              (frame_role log taken h.decoded frame)
+              (for_a_frame (came_of values e log p.machine) takes taken frame h.decoded code read
+              sees fails)),
         ),
       )
 
   -- Memory was refused with these octets.
   pub memory_refused : {counts : Counts} (octets unused : List ℕ) (code : Code)
-      → PartsRepresent values cutter counts e log
+      → PartsFit values cutter counts e log
       → log.failed ≡ None → piece ≡ octets ++ unused → LacksMemory log.role log octets unused
       → new.place ≡ saturated (length (log.input ++ octets)) → FailsWithoutMemory e code other
-      → Takes values log piece (Failed code) new counts other
+      → Takes values log piece (Failed code) new counts (Some OutOfMemory) other
   unfolding MayStep log_after machine_after used with_sent
   memory_refused octets unused code p up joined may place h =
       let after : Log = took_out_of_memory log octets in
@@ -279,16 +304,20 @@ module _ (values : Values) (cutter new : CutterState) (e other : End) (log : Log
       steps_represent values e log (no_memory octets) p.machine (up, (unused, may)) in (
         after,
         runs_out_of_memory up octets unused joined may (ap Failed h.lacks) refl,
-        alike_parts values new (fail InternalError e.streams.last_processed e) other after machine
-            h.after (end_kept new.place (log.input ++ octets) _ (lacking_input log octets) place)
-            p.counted,
+        with_reason values new _ _ other after
+            (alike_parts values new (fail InternalError e.streams.last_processed e) other after
+            machine h.after
+            (end_kept new.place (log.input ++ octets) _ (lacking_input log octets) place)
+            p.counted)
+            (for_memory (came_of values e log p.machine) up octets (unused, may)),
       )
 
   -- Memory was refused with a frame.
   pub frame_lacks : {counts : Counts} (count : ℕ) (frame : Frame) (code : Code)
-      → PartsRepresent values cutter counts e log
+      → PartsFit values cutter counts e log
       → TakesOctets log → e.failed ≡ None → IsCut cutter new piece count frame
-      → FrameLacksMemory e frame code other → Takes values log piece (Failed code) new counts other
+      → FrameLacksMemory e frame code other
+      → Takes values log piece (Failed code) new counts (Some OutOfMemory) other
   frame_lacks count frame code p takes up cut lacks =
       memory_refused (take count piece) (drop count piece) code p
       takes.up (sym (take-append-drop count piece))
@@ -297,25 +326,31 @@ module _ (values : Values) (cutter new : CutterState) (e other : End) (log : Log
       (cut_now values cutter new e log piece count frame p takes.up cut).place lacks.fails
 
   -- Either of them; the frame is counted where memory was not refused to it.
-  pub frame_stops : {counts more after : Counts} (count : ℕ) (frame : Frame) (code : Code)
-      → PartsRepresent values cutter counts e log
+  pub frame_stops : {counts more after : Counts} {why : Option Why} (count : ℕ) (frame : Frame)
+      (code : Code)
+      → PartsFit values cutter counts e log
       → TakesOctets log → e.failed ≡ None → IsCut cutter new piece count frame
       → FrameFails e frame code other ⊎ FrameLacksMemory e frame code other
       → CountsOneMore counts frame more → (code ≢ InternalError → after ≡ more)
       → (code ≡ InternalError → after ≡ counts)
-      → Takes values log piece (Failed code) new after other
-  frame_stops count frame code p takes up cut (inl fails) counts_it counted_it kept =
+      → (code ≢ InternalError → FrameFails e frame code other
+      → why ≡ Some (rule_of_frame (log_view log) frame code))
+      → (code ≡ InternalError → why ≡ Some OutOfMemory)
+      → Takes values log piece (Failed code) new after why other
+  frame_stops count frame code p takes up cut (inl fails) counts_it counted_it kept broken lacking =
       let made = frame_fails count frame code p takes up cut fails counts_it in
-      rw (counted_it made.0) made.1
-  frame_stops count frame code p takes up cut (inr lacks) counts_it counted_it kept =
-      rw (kept lacks.fails.lacks) (frame_lacks count frame code p takes up cut lacks)
+      rw (counted_it made.0, broken made.0 fails) made.1
+  frame_stops count frame code p takes up cut (inr lacks) counts_it counted_it kept broken lacking =
+      rw (kept lacks.fails.lacks, lacking lacks.fails.lacks)
+      (frame_lacks count frame code p takes up cut lacks)
 
   -- A fault of the stream.
   pub fault_taken : {counts : Counts} (fault : WireFault)
-      → PartsRepresent values cutter counts e log → TakesOctets log
+      → PartsFit values cutter counts e log → TakesOctets log
       → CutterFaults cutter piece fault new
       → other ≡ fail (wire_fault_code fault) e.streams.last_processed e
-      → Takes values log piece (Failed (wire_fault_code fault)) new counts other
+      → Takes values log piece (Failed (wire_fault_code fault)) new counts
+      (Some (rule_of_octets fault)) other
   unfolding MayStep log_after machine_after used with_sent
   fault_taken fault p takes met failed =
       let cut = p.cut takes.up in
@@ -330,9 +365,10 @@ module _ (values : Values) (cutter new : CutterState) (e other : End) (log : Log
       λ up. none_some (wire_fault_code fault) (sym up ∙ ap (λ (x : End). x.failed) failed) in (
         after,
         meets_fault takes made.0 made.1 made.2 fault made.3 refl refl,
-        failed_parts values new other after machine down
+        with_reason values new _ _ other after (failed_parts values new other after machine down
             (end_kept new.place (log.input ++ made.0) _ (fault_input log made.0 fault)
-            (at.2 ∙ ap saturated made.4)) p.counted,
+            (at.2 ∙ ap saturated made.4)) p.counted)
+            (for_octets (came_of values e log p.machine) takes made.0 fault made.3),
       )
 
 -- The test whether a code is that of refused memory.
@@ -358,22 +394,27 @@ first_fault None Meets Stays none h = h
 first_fault (Some fault) Meets Stays none h = cc
 
 -- A connection that has failed returns its code again.
-pub failed_again : {counts : Counts} (values : Values) (cutter : CutterState) (e : End) (log : Log)
-    (piece : List ℕ)
-    (code : Code) → PartsRepresent values cutter counts e log → e.failed ≡ Some code
-    → Takes values log piece (Failed code) cutter counts e
+pub failed_again : {counts : Counts} {why : Option Why} (values : Values) (cutter : CutterState)
+    (e : End) (log : Log) (piece : List ℕ)
+    (code : Code) → PartsRepresent values cutter counts why e log → e.failed ≡ Some code
+    → Takes values log piece (Failed code) cutter counts why e
 failed_again values cutter e log piece code p down =
     (log, has_failed code (sym p.machine.failed ∙ down) refl refl, p)
 
+-- A stream that is reported as unprocessed fails nothing.
+none_failed : (log : Log) → (took_none log).failed ≡ log.failed
+none_failed log = reported_failed _ _ ∙ unreturned_failed _ log
+
 -- A stream that the peer doesn't process is reported.
-pub unprocessed_taken : {counts : Counts} (values : Values) (cutter : CutterState) (e other : End)
-    (log : Log)
-    (piece : List ℕ) (id : ℕ) → PartsRepresent values cutter counts e log → e.failed ≡ None
+pub unprocessed_taken : {counts : Counts} {why : Option Why} (values : Values)
+    (cutter : CutterState) (e other : End) (log : Log)
+    (piece : List ℕ) (id : ℕ) → PartsRepresent values cutter counts why e log → e.failed ≡ None
     → id ≡ unprocessed_of_end e.role e.streams.entries e.goaway.received → id ≢ 0
     → other ≡ close_unprocessed e id
-    → Takes values log piece (Took 0 (Some (UnprocessedEvent id))) cutter counts other
+    → Takes values log piece (Took 0 (Some (UnprocessedEvent id))) cutter counts why other
 unfolding MayStep log_after machine_after
-unprocessed_taken values cutter e other log piece id p up next some closed =
+unprocessed_taken values cutter e other log piece id parts up next some closed =
+    let p = fit_of values cutter _ _ e log parts in
     let log_up : log.failed ≡ None = sym p.machine.failed ∙ up in
     let named : id ≡ next_unprocessed log = next ∙ next_same values e log p.machine log_up in
     let of_log : next_unprocessed log ≢ 0 = λ none. some (named ∙ none) in
@@ -387,7 +428,9 @@ unprocessed_taken values cutter e other log piece id p up next some closed =
       after,
       reports_unprocessed log_up of_log
           (ap (λ (i : ℕ). Took 0 (Some (UnprocessedEvent i))) named) refl,
-      parts_kept values cutter e other log after p (Keeps-none log) own machine,
+      with_reason values cutter _ _ other after
+          (parts_kept values cutter e other log after p (Keeps-none log) own machine)
+          (why_up values log after _ parts.reason log_up (none_failed log ∙ log_up)),
     )
 
 -- No octet more was used.
@@ -398,10 +441,10 @@ used_none cutter log at_end = search rules
 -- Or memory is refused to it.
 pub unprocessed_lacks : {counts : Counts} (values : Values) (cutter : CutterState) (e other : End)
     (log : Log)
-    (piece : List ℕ) (id : ℕ) (code : Code) → PartsRepresent values cutter counts e log
+    (piece : List ℕ) (id : ℕ) (code : Code) → PartsFit values cutter counts e log
     → e.failed ≡ None → id ≡ unprocessed_of_end e.role e.streams.entries e.goaway.received
     → id ≢ 0 → FailsWithoutMemory e code other × (credit_needs_memory (end_view e) id ≡ true)
-    → Takes values log piece (Failed code) cutter counts other
+    → Takes values log piece (Failed code) cutter counts (Some OutOfMemory) other
 unprocessed_lacks values cutter e other log piece id code p up next some (fails, due) =
     let log_up : log.failed ≡ None = sym p.machine.failed ∙ up in
     let named : id ≡ next_unprocessed log = next ∙ next_same values e log p.machine log_up in
@@ -414,11 +457,12 @@ unprocessed_lacks values cutter e other log piece id code p up next some (fails,
 
 -- What stops the cutter.
 pub cut_stopped : {counts : Counts} (values : Values) (cutter new : CutterState) (e other : End)
-    (log : Log) (piece : List ℕ) (fault : WireFault) → PartsRepresent values cutter counts e log
+    (log : Log) (piece : List ℕ) (fault : WireFault) → PartsFit values cutter counts e log
     → TakesOctets log
     → CutterFails cutter piece fault new → (fault ≡ faults.Memory → CutterLacks cutter piece)
     → other ≡ fail (wire_fault_code fault) e.streams.last_processed e
-    → Takes values log piece (Failed (wire_fault_code fault)) new counts other
+    → Takes values log piece (Failed (wire_fault_code fault)) new counts
+    (Some (rule_of_octets fault)) other
 cut_stopped values cutter new e other log piece faults.Memory p takes fails lacks failed =
     memory_refused values cutter new e other log piece [] piece InternalError p takes.up refl
     (to_keep refl takes (keeps_octets values cutter e log piece p takes.up (lacks refl)))
@@ -431,11 +475,11 @@ cut_stopped values cutter new e other log piece fault p takes fails lacks failed
     (p.cut takes.up).sound fails) failed
 
 -- The event that is returned may be given in another form.
-pub said_so : {counts : Counts} (values : Values) (log : Log) (piece : List ℕ) (count : ℕ)
-    (event other : Option Event)
+pub said_so : {counts : Counts} {why : Option Why} (values : Values) (log : Log) (piece : List ℕ)
+    (count : ℕ) (event other : Option Event)
     (cutter : CutterState) (e : End) → event ≡ other
-    → Takes values log piece (Took count other) cutter counts e
-    → Takes values log piece (Took count event) cutter counts e
-said_so {counts} values log piece count event other cutter e same takes =
-    subst (λ (o : Option Event). Takes values log piece (Took count o) cutter counts e) (sym same)
-    takes
+    → Takes values log piece (Took count other) cutter counts why e
+    → Takes values log piece (Took count event) cutter counts why e
+said_so {counts} {why} values log piece count event other cutter e same takes =
+    subst (λ (o : Option Event). Takes values log piece (Took count o) cutter counts why e)
+    (sym same) takes

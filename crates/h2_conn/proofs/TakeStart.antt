@@ -1,9 +1,10 @@
 -- A new end represents the log of one, and its values are sound.
+use Rattle.h2_conn.proofs.Names.{None}
 use Rattle.h2_conn.proofs.Names.{◌≡◌, ℕ, Bool, List, [], ◌∷◌, ◌++◌, refl, sym, subst, inl, inr}
 use Rattle.h2_conn.proofs.Names.{arith, Limits, Frames, CutterState, CutterRepresents}
 use Rattle.h2_conn.proofs.Names.{CutterLimited, Role, Client, Server, Values, AreInRange, is_server}
 use Rattle.h2_conn.proofs.Names.{End, payload_limit_of, Represents, is_whole, is_counted}
-use Rattle.h2_conn.proofs.Names.{are_in_range, limit_in_range, IsSoundEnd, PartsRepresent}
+use Rattle.h2_conn.proofs.Names.{are_in_range, limit_in_range, IsSoundEnd, PartsFit}
 use Rattle.h2_conn.proofs.Names.{with_sent, rules, Counts, CountsFrames}
 use denote.Enum.Bare.{sameb}
 use Rattle.h2_spec_log.specs.contracts.role.Role.{the_type}
@@ -58,13 +59,18 @@ opened_cut : (cutter : CutterState) (role : Role) (values : Values)
 unfolding opened with_sent
 opened_cut cutter role values cut greatest = grind (arith, common_steps)
 
+-- A new end has not failed.
+pub opened_up : (role : Role) (values : Values) → (opened role values).failed ≡ None
+unfolding opened with_sent
+opened_up role values = refl
+
 -- A new end represents its log, with such a cutter that is given the limit in force.
 pub new_parts : {counts : Counts} (cutter limited : CutterState) (e : End) (role : Role)
     (values : Values)
     → AreInRange values → e ≡ new_end role values
     → CutterRepresents cutter (is_server role) first_limits [] [] → cutter.greatest ≡ 16384
     → CutterLimited cutter (payload_limit_of e.own) limited → CountsFrames counts []
-    → PartsRepresent values limited counts e (opened role values)
+    → PartsFit values limited counts e (opened role values)
 unfolding opened with_sent
 new_parts cutter limited e role values in_range new cut greatest set counts_none =
     let machine : Represents values e (opened role values) =

@@ -18,7 +18,8 @@ use Rattle.h2_conn.specs.Events.{answer_taken, answer_progress, code_result}
 -- The connection represents the log of an end with these values of its own settings.
 abbrev pub ConnRepresents : Values → Conn → Log → Type 0
 ConnRepresents values conn log =
-    PartsRepresent values conn.inner.cutter conn.inner.counts (end_of conn.inner.end) log
+    PartsRepresent values conn.inner.cutter conn.inner.counts conn.inner.why
+    (end_of conn.inner.end) log
 
 -- Whatever log it represents: the answer is one that a call of `take` may give after it, and the
 -- connection represents the log with that call.

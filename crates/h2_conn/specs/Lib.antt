@@ -3,3 +3,5 @@ pub mod Counts
 pub mod Events
 pub mod Inner
 pub mod Loans
+pub mod Seen
+pub mod Why

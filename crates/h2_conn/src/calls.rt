@@ -14,6 +14,7 @@ ghost use Rattle.h2_flow.specs.ConfigValues.{values_of};
 ghost use Rattle.h2_conn.specs.Conn.{ConnAnswers, ConnRepresents, ConnShows, answer_by};
 
 use crate::conn::Conn;
+use crate::why::Why;
 use h2_flow::Config;
 use h2_frame::Code;
 use h2_spec_log::Refusal;
@@ -110,7 +111,7 @@ impl Conn {
     /// that layer has no memory, and the connection fails with it; it fails with ENHANCE_YOUR_CALM
     /// where 1,000 streams were reset, or RST_STREAM would bring the queued output above 262,144
     /// octets, and with INTERNAL_ERROR where an allocation was refused. [`Conn::take`] then
-    /// returns the code.
+    /// returns the code, and [`Conn::why`] says of INTERNAL_ERROR [`Why::OutOfMemory`].
     ///
     /// # Errors
     ///
@@ -119,7 +120,11 @@ impl Conn {
     pub fn refuse(&mut self, id: u32, code: u32) -> Result<(), Refusal>
         ensures { ConnShows self.old (Refuse id code) (answer_by (λ done. Done) result) self.new }
     {
-        self.inner.end.refuse(id, code)
+        self.inner.end.refuse(id, code)?;
+        if let Some(failed) = self.inner.end.failed() {
+            self.inner.why = Some(Why::of_refusal(failed, &self.inner.end));
+        }
+        Ok(())
     }
 
     /// Sends PING (section 6.7).
@@ -160,7 +165,9 @@ impl Conn {
     pub fn fail(&mut self, code: Code) -> Result<(), Refusal>
         ensures { ConnAnswers self.old (Fail code) (answer_by (λ done. Done) result) self.new }
     {
-        self.inner.end.fail_on_request(code)
+        self.inner.end.fail_on_request(code)?;
+        self.inner.why = Some(Why::EndedAbove(code));
+        Ok(())
     }
 
     // contract: 6.5.3 (own) Own SETTINGS are changed once those before are acknowledged

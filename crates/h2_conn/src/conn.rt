@@ -23,6 +23,7 @@ use crate::counts::Counts;
 use crate::inner::Inner;
 use crate::taken::{ConnFault, Progress, Taken};
 use crate::taking::take_piece;
+use crate::why::Why;
 use h2_core::{Endpoint, Event};
 use h2_flow::Config;
 use h2_frame::limits::LEAST_MAX_FRAME;
@@ -99,7 +100,10 @@ impl Conn {
             return Err(ConnFault { code });
         }
         if let Some(id) = self.inner.end.unprocessed() {
-            self.inner.end.close_unprocessed(id)?;
+            if let Err(code) = self.inner.end.close_unprocessed(id) {
+                self.inner.why = Some(Why::OutOfMemory);
+                return Err(ConnFault { code });
+            }
             return Ok(Progress {
                 used: 0,
                 happened: Some(Event::Unprocessed { id }),
@@ -109,6 +113,7 @@ impl Conn {
             &mut self.inner.cutter,
             &mut self.inner.end,
             &mut self.inner.counts,
+            &mut self.inner.why,
             piece,
         )?;
         Ok(progress)
@@ -203,7 +208,7 @@ impl Conn {
 /// The parts of a new end.
 fn new_inner(alloc: Global, role: Role, config: Config) -> Result<Inner, Refusal>
     ensures ok { IfOk result (λ inner. PartsRepresent (values_of config) inner.cutter inner.counts
-        (end_of inner.end) (opened role (values_of config))) }
+        inner.why (end_of inner.end) (opened role (values_of config))) }
     ensures err { IfErr result (λ refusal. refusal ≡ Refusal.Memory) }
 {
     let end = Endpoint::new(alloc, role, config)?;
@@ -213,6 +218,7 @@ fn new_inner(alloc: Global, role: Role, config: Config) -> Result<Inner, Refusal
         cutter,
         end,
         counts: Counts::new(),
+        why: None,
     })
 }
 
@@ -221,6 +227,7 @@ impl fmt::Debug for Conn {
         f.debug_struct("Conn")
             .field("role", &self.inner.end.role())
             .field("failed", &self.failed())
+            .field("why", &self.why())
             .field("waiting", &self.waiting())
             .field("held", &self.held())
             .finish()

@@ -9,7 +9,8 @@ ghost use Rattle.h2_conn.specs.Counts.{CountsFrames, flow_after};
 use h2_frame::FrameRef;
 
 /// How many frames have come that cost the peer little (RFC 9113, section 10.5), each the greatest
-/// number of 32 bits where it is more than that; and what the last DATA took of the windows.
+/// number of 32 bits where it is more than that; and how many octets the payload of the last DATA
+/// had.
 #[derive(Clone, Copy)]
 pub(crate) struct Counts {
     /// RST_STREAM.
@@ -48,7 +49,7 @@ impl Counts {
 }
 
 // rule: 6.1 The complete payload of DATA, padding included, counts for windows
-/// What the last DATA took of the windows, after this frame: of DATA its whole payload.
+/// How many octets the payload of the last DATA had, after this frame.
 fn flow_after(before: u32, frame: FrameRef) -> u32
     requires good { refusal (frame_of frame) ≡ None }
     ensures { result ≡ flow_after before (frame_of frame.entry) }

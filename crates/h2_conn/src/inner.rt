@@ -6,10 +6,11 @@ ghost use Rattle.h2_spec_machine.specs.End.{payload_limit_of};
 ghost use Rattle.h2_core.specs.Endpoint.{end_of, IsSoundEnd};
 
 use crate::counts::Counts;
+use crate::why::Why;
 use h2_core::Endpoint;
 use h2_wire::Cutter;
 
-/// The cutter of an end's octets, the end, and what is counted.
+/// The cutter of an end's octets, the end, what is counted, and why the connection has failed.
 #[derive(Drop)]
 pub(crate) struct Inner {
     /// What is unparsed.
@@ -18,6 +19,8 @@ pub(crate) struct Inner {
     pub(crate) end: Endpoint,
     /// What is counted of the frames that came.
     pub(crate) counts: Counts,
+    /// Why the connection has failed, once it has.
+    pub(crate) why: Option<Why>,
     // As long as the connection has not failed, its values are sound and the cutter has not failed.
     ghost sound: { end.failed ≡ None → IsSoundEnd (end_of end) },
     ghost cuts: { end.failed ≡ None → cutter.fault ≡ None },
@@ -31,6 +34,7 @@ impl Inner {
             (payload_limit_of (end_of self.old.end).own) self.new.cutter }
         ensures end { self.new.end ≡ self.old.end }
         ensures counts { self.new.counts ≡ self.old.counts }
+        ensures why { self.new.why ≡ self.old.why }
     {
         self.cutter.set_limit(self.end.payload_limit());
     }

@@ -14,6 +14,8 @@ mod peer;
 mod readers;
 mod taken;
 mod taking;
+mod why;
+mod why_of_frame;
 
 pub use conn::Conn;
 pub use h2_core::Event;
@@ -24,3 +26,4 @@ pub use h2_wire::Complete;
 pub use hpack::FieldList;
 pub use peer::PeerSettings;
 pub use taken::{ConnFault, Progress, Taken};
+pub use why::Why;

@@ -10,11 +10,14 @@ ghost use Rattle.h2_spec_log.specs.LogView.{log_view};
 ghost use Rattle.h2_spec_log.specs.Settings.{value_read};
 ghost use Rattle.h2_spec_log.specs.Windows.{first_window};
 ghost use Rattle.h2_spec_log.specs.CallRules.{reader_room, reader_owed, reader_due, refusal_of};
+ghost use Rattle.std.specs.Option.{option_map};
 ghost use Rattle.h2_conn.specs.Conn.{ConnRepresents, reader_next_number};
 ghost use Rattle.h2_conn.specs.Counts.{last_flow};
+ghost use Rattle.h2_conn.specs.Why.{IsWhy, code_of_why};
 
 use crate::conn::Conn;
 use crate::peer::PeerSettings;
+use crate::why::Why;
 use h2_frame::Code;
 use h2_spec_log::{Refusal, Role};
 use hpack::Field;
@@ -94,6 +97,22 @@ impl Conn {
         endpoint.failed()
     }
 
+    // contract: 5.4.1 (own) A connection that has failed says why
+    /// Why the connection has failed, if it has (section 5.4.1): the rule that the peer has broken,
+    /// the limit that was reached, or what else has ended it. Nothing changes it any more, and its
+    /// code is that of [`Conn::failed`]. It works after a failure, has no errors, and takes no
+    /// memory.
+    pub fn why(&self) -> Option<Why>
+        ensures why { (values : Values) (log : Log) → ConnRepresents values self.now log
+            → IsWhy values log result }
+
+        // The code of what is said is the code of the failure.
+        ensures code { (values : Values) (log : Log) → ConnRepresents values self.now log
+            → option_map code_of_why result ≡ log.failed }
+    {
+        self.inner.why
+    }
+
     // contract: 6.5.3 Settings apply in order: the first fault decides, the last value counts
     /// The values of the peer's SETTINGS that are in force (section 6.5.2): those that were read
     /// last, and 65,535 and 16,384 before. Once the connection has failed nothing is said of them.
@@ -146,10 +165,11 @@ impl Conn {
     }
 
     // contract: 6.1 The complete payload of DATA, padding included, counts for windows
-    /// How many octets of the windows the last DATA took that came: its payload, with the padding
-    /// (section 6.1). After [`Event::Data`](crate::Event::Data) it is the event's `flow`, which is
-    /// released ([`Conn::release`]) once its octets are used. It is 0 before any DATA, works after
-    /// a failure too, and has no errors.
+    /// How many octets the payload of the last DATA frame had, padding included (section 6.1), also
+    /// of one that was ignored or at fault. After [`Event::Data`](crate::Event::Data) it is the
+    /// event's `flow`, which is released ([`Conn::release`]) once its octets are used, where it is
+    /// not 0 and the stream is active still. It is 0 before any DATA, works after a failure too,
+    /// and has no errors.
     pub fn last_flow(&self) -> u32
         ensures { (values : Values) (log : Log) → ConnRepresents values self.now log
             → result ≡ last_flow log.frames }

@@ -10,6 +10,8 @@ ghost use Rattle.h2_conn.specs.Loans.{LiesThere, IsBodyOf};
 
 use crate::counts::Counts;
 use crate::taken::Progress;
+use crate::why::Why;
+use crate::why_of_frame::Before;
 use h2_core::Endpoint;
 use h2_frame::Code;
 use h2_wire::Cutter;
@@ -18,11 +20,12 @@ use h2_wire::Cutter;
 // rule: calls (own) take uses octets up to one frame's end, and answers one event at most
 // rule: 5.4 (own) A frame whole in its piece that needs no memory is never refused any
 /// Cuts the piece, and takes and counts the frame that it completes, which may change the limit of
-/// payloads.
+/// payloads. It keeps why the connection fails, where it does.
 pub(crate) fn take_piece(
     cutter: &mut Cutter,
     end: &mut Endpoint,
     counts: &mut Counts,
+    why: &mut Option<Why>,
     piece: &[u8],
 ) -> Result<Progress, Code>
     requires up { end.old.failed ≡ None }
@@ -35,14 +38,15 @@ pub(crate) fn take_piece(
     ensures cuts { end.new.failed ≡ None → cutter.new.fault ≡ None }
     ensures lies { LiesThere cutter.new piece.now result }
     ensures takes { (octets : List ℕ) → IsBodyOf cutter.new piece.now octets result
-        → PartsTake cutter.old counts.old (end_of end.old) piece.now end.new.list octets result
-        cutter.new counts.new (end_of end.new) }
+        → PartsTake cutter.old counts.old why.old (end_of end.old) piece.now end.new.list octets
+        result cutter.new counts.new why.new (end_of end.new) }
 {
     let advance = match cutter.advance(piece) {
         Ok(advance) => advance,
         Err(fault) => {
             let code = fault.code();
             end.fail_with(code);
+            *why = Some(Why::of_octets(fault));
             return Err(code);
         }
     };
@@ -55,12 +59,16 @@ pub(crate) fn take_piece(
     };
     let frame = cutter.frame(piece, complete);
     let counted = counts.with(frame);
+    let before = Before::of(end);
     let event = match end.take_frame(frame) {
         Ok(event) => event,
         Err(code) => {
             // A frame for which memory was refused was not taken.
-            if code != Code::InternalError {
+            if code == Code::InternalError {
+                *why = Some(Why::OutOfMemory);
+            } else {
                 *counts = counted;
+                *why = Some(before.rule_of_frame(frame, code, end));
             }
             return Err(code);
         }

@@ -132,11 +132,11 @@ table_sound e octets fields after sound says =
 
 -- What fails with the code and the last stream, and keeps what counts, fails alike.
 pub alike : (e new : End) (code : Code) (last : ℕ) → new.role ≡ e.role → new.failed ≡ Some code
-    → new.streams ≡ e.streams → new.windows ≡ e.windows
+    → new.streams ≡ e.streams → new.windows ≡ e.windows → new.peer ≡ e.peer
     → new.output.waiting ≡ e.output.waiting ++ encoding_of (GoAway last (code_number code) [])
     → FailsAlike (fail code last e) new
 unfolding encoding_of_items encoding_of_item
-alike e new code last role failed streams windows waiting = search rules
+alike e new code last role failed streams windows peer waiting = search rules
 
 -- A failure at another table is alike.
 pub table_alike : (e : End) (table : Entries) (code : Code) (last : ℕ)

@@ -1,7 +1,7 @@
 -- DATA: its verdict, by what the code asks, and what is made of it.
 use Rattle.h2_core.proofs.Names.{◌≡◌, ◌⊎◌, ℕ, ◌<◌, ◌≤◌, ◌+◌, true, false, ℤ, pos, ◌-ℤ◌, List}
-use Rattle.h2_core.proofs.Names.{length, Option, Some, None, refl, sym, ap, ◌∙◌, arith, inl, inr}
-use Rattle.h2_core.proofs.Names.{nat_tests, ints, Field, ProtocolError, FlowControlError}
+use Rattle.h2_core.proofs.Names.{length, Option, Some, None, refl, sym, ap, ◌∙◌, inl, inr}
+use Rattle.h2_core.proofs.Names.{Field, ProtocolError, FlowControlError}
 use Rattle.h2_core.proofs.Names.{StreamClosed, payload_of, alone, StreamView, ended_in, State, Idle}
 use Rattle.h2_core.proofs.Names.{Active, ConnectionFault, StreamFault, NoEvent, Reported}
 use Rattle.h2_core.proofs.Names.{verdict_of, exceeds, returns_credit, End, end_view, state_at}
@@ -14,6 +14,7 @@ use Rattle.h2_spec_log.specs.States.{ClosedByUs, Closed}
 use Rattle.h2_spec_log.specs.Verdicts.{data_verdict}
 use Rattle.h2_core.specs.declared.receive.DataFrame.{DataFrame}
 use Rattle.h2_core.specs.Items.{DiscardsData}
+use Rattle.h2_core.proofs.DataFlow.{exceeds_connection, within_connection}
 use Rattle.h2_core.proofs.ItemStatuses.{active_state}
 use Rattle.h2_core.proofs.ItemVerdicts.{quiet_verdict, fault_stands, report_stands, ignored_taken}
 use Rattle.h2_core.proofs.ItemVerdicts.{lacks_memory}
@@ -23,13 +24,6 @@ use Rattle.h2_core.proofs.Names.{rules}
 -- The flow is the octets of the payload.
 abbrev pub HasFlow : DataFrame → Option ℕ → Type 0
 HasFlow one pad = one.flow ≡ length (payload_of (frame_of_data one pad))
-
--- Whether it exceeds the connection's window.
-exceeds_connection : (flow window : ℕ) → window < flow → exceeds flow (pos window) ≡ true
-exceeds_connection flow window much = grind (arith, ints, nat_tests)
-
-within_connection : (flow window : ℕ) → flow ≤ window → exceeds flow (pos window) ≡ false
-within_connection flow window few = grind (arith, ints, nat_tests)
 
 module _ (e : End) (one : DataFrame) (pad : Option ℕ) where
   -- The verdict goes by the state of its stream.

@@ -19,8 +19,10 @@ mod ItemWindows
 mod ItemUpdates
 mod ItemResets
 mod ItemData
+-- What DATA takes of the windows.
+pub mod DataFlow
 -- Field blocks and frames that are received.
-mod FrameFailures
+pub mod FrameFailures
 mod FrameGroups
 mod FrameMemory
 mod FrameTables

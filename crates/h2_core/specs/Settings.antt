@@ -1,5 +1,5 @@
 -- SETTINGS that are checked before they are applied.
-use Rattle.std.specs.Prelude.{◌≡◌, ℕ, ℤ, List, [], ◌∷◌, Option, Some, None, Result, Ok, Err}
+use Rattle.std.specs.Prelude.{◌≡◌, ℕ, ℤ, Bool, List, [], ◌∷◌, Option, Some, None, Result, Ok, Err}
 use Rattle.std.specs.FinMap as map
 use Rattle.h2_flow.specs.declared.settings.Settings.{Settings}
 use Rattle.h2_flow.specs.Settings.{with_value}
@@ -8,6 +8,7 @@ use Rattle.h2_spec_machine.specs.End.{end_view, any_above}
 use Rattle.h2_streams.specs.Streams.{is_above_by_shift}
 use Rattle.h2_streams.specs.Table.{TableState}
 use Rattle.h2_core.specs.declared.endpoint.Endpoint.{Endpoint}
+use Rattle.h2_core.specs.declared.receive_settings.GreatestWindow.{GreatestWindow}
 use Rattle.h2_core.specs.declared.step_error.StepError.{StepError}
 use Rattle.h2_core.specs.declared.step_error.StepError.TheVariants.{Fault, OutOfMemory}
 use Rattle.h2_core.specs.Endpoint.{end_of}
@@ -32,3 +33,8 @@ KnowsGreatest table None = Unit {0}
 KnowsGreatest table (Some greatest) = (initial : ℕ)
     → any_above table.send_initial initial (map.entries table.entries)
     ≡ is_above_by_shift table.send_initial initial greatest
+
+-- whether another initial window brings the greatest of the send windows above 2^31 - 1 (section
+-- 6.9.2)
+abbrev pub shifts_too_far : GreatestWindow → (initial : ℕ) → Bool
+shifts_too_far greatest initial = is_above_by_shift greatest.initial initial greatest.window

@@ -26,3 +26,4 @@ mod unprocessed;
 
 pub use endpoint::Endpoint;
 pub use event::Event;
+pub use receive_settings::GreatestWindow;

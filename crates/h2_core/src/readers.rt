@@ -1,14 +1,17 @@
 //! The readers of an end.
 
-ghost use Rattle.std.specs.Prelude.{◌≡◌, ◌<◌, is_some, if◌then◌else◌, IfSome};
+ghost use Rattle.std.specs.Prelude.{◌≡◌, ◌<◌, is_some, if◌then◌else◌, IfSome, length};
 ghost use Rattle.std.specs.FinMap as map;
+ghost use Rattle.std.specs.Option.{option_map, option_map_or};
 ghost use Rattle.h2_streams.specs.Streams.{number_or_none};
-ghost use Rattle.h2_spec_machine.specs.End.{payload_limit_of, stream_at};
+ghost use Rattle.h2_spec_log.specs.ItemRules.{is_idle};
+ghost use Rattle.h2_spec_machine.specs.End.{payload_limit_of, state_at, stream_at};
 ghost use Rattle.h2_spec_machine.specs.Machine.{first_active};
 ghost use Rattle.h2_core.specs.Endpoint.{end_of};
 ghost use Rattle.h2_core.specs.Readers.{room_of, owed_of};
 
 use crate::endpoint::Endpoint;
+use crate::status::Status;
 use h2_flow::Settings;
 use h2_frame::Code;
 use h2_spec_log::Role;
@@ -43,6 +46,54 @@ impl Endpoint {
         ensures frame { result.max_frame_size ≡ (end_of self.now).peer.max_frame }
     {
         self.peer
+    }
+
+    /// Whether a first frame was taken without a fault (RFC 9113, section 3.4). It takes no memory.
+    pub fn has_started(&self) -> bool
+        ensures { result ≡ (end_of self.now).reading.started }
+    {
+        self.started
+    }
+
+    /// The stream of the field block that has begun (section 6.10), if one has. It takes no memory.
+    pub fn block_stream(&self) -> Option<u32>
+        ensures { result ≡ option_map (λ begun. begun.stream) (end_of self.now).reading.begun }
+    {
+        self.gather.stream()
+    }
+
+    /// The number of octets of that block that have come, or 0. It takes no memory.
+    pub fn block_len(&self) -> usize
+        ensures { result
+            ≡ option_map_or (λ begun. length begun.octets) (end_of self.now).reading.begun 0 }
+    {
+        self.gather.held()
+    }
+
+    /// Whether a stream's number is idle (section 5.1). That does not end with the connection. It
+    /// takes no memory.
+    pub fn is_idle(&self, id: u32) -> bool
+        ensures { result ≡ is_idle (state_at (end_of self.now) id) }
+    {
+        match self.status(id) {
+            Status::Idle => true,
+            Status::Active(_) | Status::ClosedByUs | Status::Closed => false,
+        }
+    }
+
+    /// The number of octets that the peer may send on the connection (section 6.9.1). It takes no
+    /// memory.
+    pub fn recv_window(&self) -> u32
+        ensures { result ≡ (end_of self.now).windows.recv }
+    {
+        self.recv_window
+    }
+
+    /// The number of streams that this end has reset. It takes no memory.
+    pub fn resets(&self) -> u32
+        ensures { result ≡ (end_of self.now).streams.resets }
+    {
+        self.resets
     }
 
     /// The fields of the block that was reported last. It takes no memory.

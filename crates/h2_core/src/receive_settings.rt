@@ -8,10 +8,10 @@ ghost use Rattle.h2_frame.specs.Pairs.{lent_pairs};
 ghost use Rattle.h2_spec_log.specs.Settings.{peer_of};
 ghost use Rattle.h2_spec_log.specs.ItemEffects.{encoder_after_settings};
 ghost use Rattle.h2_streams.specs.Streams.{is_above_by_shift};
-ghost use Rattle.h2_spec_machine.specs.End.{any_above};
+ghost use Rattle.h2_spec_machine.specs.End.{any_above, end_view};
 ghost use Rattle.h2_core.specs.Endpoint.{end_of, IsSoundEnd};
 ghost use Rattle.h2_core.specs.Items.{TakesItem};
-ghost use Rattle.h2_core.specs.Settings.{AppliesSettings, KnowsGreatest};
+ghost use Rattle.h2_core.specs.Settings.{AppliesSettings, KnowsGreatest, shifts_too_far};
 
 use crate::endpoint::Endpoint;
 use crate::event::Event;
@@ -22,6 +22,24 @@ use h2_frame::limits::{GREATEST_WINDOW, MAX_ENCODER_TABLE, MAX_OUTPUT};
 use h2_frame::{Code, HEAD_LEN, Pairs};
 use h2_spec_log::Role;
 use hpack::Encoder;
+
+/// The greatest send window of an end's active streams, and the initial window in force.
+#[derive(Clone, Copy, Debug, PartialEq, Eq)]
+pub struct GreatestWindow {
+    /// `None` where no stream is active.
+    window: Option<i64>,
+    /// The peer's initial window.
+    initial: u32,
+}
+
+impl GreatestWindow {
+    /// Whether another initial window brings it above 2<sup>31</sup> - 1 (RFC 9113, section 6.9.2).
+    pub fn shifts_too_far(self, initial: u32) -> bool
+        ensures { result ≡ shifts_too_far self initial }
+    {
+        is_above(self.window, self.initial, initial)
+    }
+}
 
 impl Endpoint {
     // contract: 4.3.1 The encoder follows each HEADER_TABLE_SIZE, up to 4,096 (own)
@@ -75,9 +93,9 @@ impl Endpoint {
         Ok(settings)
     }
 
-    /// The role of the other end.
-    fn peer_role(&self) -> Role
-        ensures { result ≡ peer_of self.now.role }
+    /// The role of the other end. It takes no memory.
+    pub fn peer_role(&self) -> Role
+        ensures { result ≡ peer_of (end_of self.now).role }
     {
         match self.role {
             Role::Client => Role::Server,
@@ -102,6 +120,19 @@ impl Endpoint {
         };
         *greatest = Some(window);
         is_above(window, self.peer.initial_window_size, value)
+    }
+
+    /// The greatest send window of the active streams, by which it is decided for each initial
+    /// window whether it brings one of them above 2<sup>31</sup> - 1 (section 6.9.2). It goes over
+    /// the active streams, and takes no memory.
+    pub fn greatest_send_window(&self) -> GreatestWindow
+        ensures { (initial : ℕ) → shifts_too_far result initial
+            ≡ (end_view (end_of self.now)).overflows initial }
+    {
+        GreatestWindow {
+            window: self.streams.greatest_send_window(),
+            initial: self.peer.initial_window_size,
+        }
     }
 
     // rule: 4.2 The limit of an end is its greatest MAX_FRAME_SIZE of those in force

@@ -48,8 +48,8 @@ IsReadableWith end id part = IsReadable (reads_on end id) (parts_on id end.hande
 -- what was read of the stream with it begins a message that breaks no rule. Else the stream is
 -- refused with PROTOCOL_ERROR, and the answer is that this end has reset it (which the last octet
 -- of the part may have closed already: then no RST_STREAM is sent); or the connection has failed.
--- The rule that the part breaks is kept. At a server the first field block of a stream takes memory, and where that is refused the
--- connection fails.
+-- The rule that the part breaks is kept. At a server the first field block of a stream takes
+-- memory, and where that is refused the connection fails.
 -- rule: 8.1.1 A malformed message is a stream error PROTOCOL_ERROR
 -- rule: 8.1.1 (own) How the connection takes a refusal is what is answered
 -- rule: 8.1 (own) A server without memory for a first block fails with INTERNAL_ERROR

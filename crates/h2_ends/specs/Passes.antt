@@ -1,10 +1,8 @@
 -- One pass over the streams on which something waits, each of which gets a share (RFC 9113,
--- sections
--- 5.2.1 and 8.1).
+-- sections 5.2.1 and 8.1).
 use Rattle.std.specs.Prelude.{◌≡◌, ◌≢◌, ◌⊎◌, ◌≤◌, ◌<◌, ◌^◌, ℕ, suc, ◌+◌, Bool, true, false, ◌&&◌}
 use Rattle.std.specs.Prelude.{nat_le, nat_lt, ◌==◌, ◌-◌, min, if◌then◌else◌, max, List, [], length}
-use Rattle.std.specs.Prelude.{take, Option, Some, None, Result, Ok}
-use Rattle.std.specs.Prelude.{Err}
+use Rattle.std.specs.Prelude.{take, Option, Some, None, Result, Ok, Err}
 use Rattle.hpack.specs.declared.types.field.Field.{Field}
 use Rattle.h2_spec_log.specs.declared.refusal.Refusal.{Refusal}
 use Rattle.h2_spec_log.specs.declared.refusal.Refusal.TheVariants.{Closed, OutputFull, Memory}
@@ -28,15 +26,14 @@ pub record Waits (end : EndLog) (i : ℕ) : Type 0 where
   pub active : active end.log i ≡ true
   pub some : tokens_waiting end i ≢ []
 
--- How many octets of a body the share of a stream has at most: where a share of it was cut short,
--- no
+-- How many octets of a body the share of a stream has at most: where a share of it was cut short, no
 -- more than that had left; otherwise as many as this.
 abbrev pub sizes_by : Turn → (most : ℕ) → ℕ → ℕ
 sizes_by turn most i =
     if i == turn.id && nat_lt 0 turn.rest then min turn.rest most else most
 
--- how many octets a share has at most by what was asked for: one at least, and no more than fill
--- the output, so that a share is given in two passes
+-- how many octets a share has at most by what was asked for: one at least, and no more than go with
+-- one call, so that a share that windows let through is not cut
 -- rule: 8.1 (own) pump_some gives each stream a share, in turn
 abbrev pub share_most : (most : ℕ) → ℕ
 share_most most = max (min most full_output) 1
@@ -52,8 +49,8 @@ abbrev pub share_act : (most id : ℕ) → List ℕ → (ends : Bool) → Act
 share_act most id octets ends =
     SendData id (take most octets) (ends && nat_le (length octets) most)
 
--- No more octets could go on any stream now: the output is full, or the connection's window is used
--- up.
+-- No more octets could go on any stream now: the output is full, or the connection's window is
+-- used up.
 abbrev pub IsSpent : Log → Type 0
 IsSpent log = (full_output ≤ waiting log) ⊎ (HasRoom (reader_room (log_view log) 0) → ⊥)
 

@@ -31,7 +31,7 @@ mod taking;
 
 pub use client::Client;
 pub use event::{EndEvent, EndTaken};
-pub use h2_conn::{BadConfig, Config, Conn, ConnFault, Refusal};
+pub use h2_conn::{BadConfig, Config, Conn, ConnFault, Refusal, Why};
 pub use h2_frame::Code;
 pub use h2_message::{
     BodyLength, Field, FieldList, FieldRef, Malformed, Message, Octets, check_request,

@@ -170,8 +170,8 @@ impl Server {
     /// share; otherwise it begins where this one did. So no long body keeps the others waiting:
     /// between two shares of one stream, of which one that was cut short and its rest are one, each
     /// other stream on which something waited gets one. With [`Server::pump`] lower streams go
-    /// first; and where the connection's window is used up, it alone sends trailers on streams
-    /// above one whose body waits.
+    /// first; it also sends trailers that come behind a body for which the connection's window
+    /// leaves no room.
     ///
     /// # Errors
     ///
@@ -208,8 +208,10 @@ impl Server {
     }
 
     // contract: 6.1 The complete payload of DATA, padding included, counts for windows
-    /// How many octets of the windows the last DATA took, its padding included: after
-    /// [`EndEvent::Body`](crate::EndEvent::Body) what its octets are released with. See [`Conn::last_flow`].
+    /// How many octets the payload of the last DATA frame had, padding included: after
+    /// [`EndEvent::Body`](crate::EndEvent::Body) what is released of its stream once they are used
+    /// ([`Server::release`]), where it is not 0 and the stream is active still. See
+    /// [`Conn::last_flow`].
     pub fn last_flow(&self) -> u32
         ensures { (values : Values) (log : Log) → ConnRepresents values self.now.end.conn log
             → result ≡ last_flow log.frames }

@@ -6,6 +6,9 @@ use Rattle.std.specs.Prelude.{Option, Some, None}
 use Rattle.byteorder.specs.Endian.{big_number, big_bytes}
 use Rattle.h2_frame.specs.declared.code.Code.{Code}
 use Rattle.h2_frame.specs.declared.code.Code.TheVariants.{ProtocolError, FrameSizeError}
+use Rattle.h2_frame.specs.declared.head_faults.HeadFault.{HeadFault}
+use Rattle.h2_frame.specs.declared.head_faults.HeadFault.TheVariants.{TooLong, IsPushPromise}
+use Rattle.h2_frame.specs.declared.head_faults.HeadFault.TheVariants.{WrongStream, WrongLength}
 use Rattle.h2_frame.specs.declared.kind.Kind.{Kind}
 use Rattle.h2_frame.specs.declared.kind.Kind.TheVariants.{Data, Headers, Priority, RstStream}
 use Rattle.h2_frame.specs.declared.kind.Kind.TheVariants.{Settings, PushPromise, Ping, GoAway}
@@ -128,11 +131,11 @@ is_push_promise _ = false
 -- rule (law): 4.1 Octets encode a frame exactly where they have no fault
 -- rule: 4.2 A length that the type and flags cannot have is FRAME_SIZE_ERROR
 -- rule: 6.6 PUSH_PROMISE is PROTOCOL_ERROR, since no end here allows push
-unfoldable pub form_fault : Head → Option Code
+unfoldable pub form_fault : Head → Option HeadFault
 form_fault head =
-    if is_push_promise head.kind then Some ProtocolError
-    else if not (fits_stream head.kind head.stream) then Some ProtocolError
-    else if not (fits_length head.kind head.flags head.length) then Some FrameSizeError
+    if is_push_promise head.kind then Some IsPushPromise
+    else if not (fits_stream head.kind head.stream) then Some WrongStream
+    else if not (fits_length head.kind head.flags head.length) then Some WrongLength
     else None
 
 -- Whether a head's length is above the limit of payloads (section 4.2).
@@ -144,5 +147,14 @@ exceeds_limit head limit = nat_lt limit head.length
 -- rule: 4.2 A length above the limit is FRAME_SIZE_ERROR (of the connection: own)
 -- rule: 4.2 A payload as long as the limit is received
 -- rule: 4.2 Of the faults of a head a length above the limit is the first
-unfoldable pub head_fault : Head → ℕ → Option Code
-head_fault head limit = if exceeds_limit head limit then Some FrameSizeError else form_fault head
+unfoldable pub head_fault : Head → ℕ → Option HeadFault
+head_fault head limit = if exceeds_limit head limit then Some TooLong else form_fault head
+
+-- the code with which the connection ends for it
+-- rule: 4.2 A length above the limit is FRAME_SIZE_ERROR (of the connection: own)
+-- rule: 6.6 PUSH_PROMISE is PROTOCOL_ERROR, since no end here allows push
+abbrev pub head_fault_code : HeadFault → Code
+head_fault_code TooLong = FrameSizeError
+head_fault_code IsPushPromise = ProtocolError
+head_fault_code WrongStream = ProtocolError
+head_fault_code WrongLength = FrameSizeError

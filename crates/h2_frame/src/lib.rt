@@ -11,6 +11,7 @@ mod appending;
 mod code;
 mod frame;
 mod frame_parts;
+mod head_faults;
 mod heads;
 mod kind;
 mod laws;
@@ -23,6 +24,7 @@ mod writing;
 
 pub use code::Code;
 pub use frame::{FrameRef, PayloadError};
+pub use head_faults::HeadFault;
 pub use heads::{HEAD_LEN, Head};
 pub use kind::Kind;
 pub use laws::{nine_octets, one_frame, within_limit, written_frame_is_read};

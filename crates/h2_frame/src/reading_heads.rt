@@ -5,7 +5,7 @@ ghost use Rattle.h2_frame.specs.Heads.{head_of, head_fault as fault_of, form_fau
 ghost use Rattle.h2_frame.specs.Heads.{fits_stream as stream_fits, fits_length as length_fits};
 ghost use Rattle.h2_frame.specs.Heads.{octets_of_flags as flag_octets};
 
-use crate::code::Code;
+use crate::head_faults::HeadFault;
 use crate::heads::{HEAD_LEN, Head};
 use crate::kind::Kind;
 use byteorder::{BigEndian, ByteOrder};
@@ -65,7 +65,7 @@ pub fn head(octets: &[u8; HEAD_LEN]) -> Head
 /// 3. A stream that the kind can't be on: PROTOCOL_ERROR.
 /// 4. A length that the kind can't have: FRAME_SIZE_ERROR.
 #[tactic(auto, unfolding(crate::specs::Heads::head_fault, crate::specs::Heads::form_fault))]
-pub fn head_fault(head: &Head, limit: u32) -> Option<Code>
+pub fn head_fault(head: &Head, limit: u32) -> Option<HeadFault>
     ensures value { result ≡ fault_of head.now limit }
 
     // Where it is none, the length is within the limit, and the head has no fault of its form, but
@@ -74,13 +74,16 @@ pub fn head_fault(head: &Head, limit: u32) -> Option<Code>
     ensures form { result ≡ None → form_fault head.now ≡ None }
 {
     if head.length > limit {
-        return Some(Code::FrameSizeError);
+        return Some(HeadFault::TooLong);
     }
-    if head.kind == Kind::PushPromise || !fits_stream(head.kind, head.stream) {
-        return Some(Code::ProtocolError);
+    if head.kind == Kind::PushPromise {
+        return Some(HeadFault::IsPushPromise);
+    }
+    if !fits_stream(head.kind, head.stream) {
+        return Some(HeadFault::WrongStream);
     }
     if !fits_length(head.kind, head.flags, head.length) {
-        return Some(Code::FrameSizeError);
+        return Some(HeadFault::WrongLength);
     }
     None
 }

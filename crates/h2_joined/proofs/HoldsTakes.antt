@@ -268,8 +268,9 @@ module _ (around : Around) (end : EndLog) (piece later : List ℕ) where
       (leads_handed around end piece later count event log id part order is may of readable)
   take_leads answer after order is
       (refuses count event log may id part of stops refused answers_it up answers same) =
-      rw (answers, same) (holds_named around _ _ _ (leads_reset around end (with_call log (Refuse id 1) refused) piece later
-      count id is.lost is.other_lost
+      rw (answers, same) (holds_named around _ _ _
+      (leads_reset around end (with_call log (Refuse id 1) refused) piece later count
+      id is.lost is.other_lost
       (refused_in around end piece later count event log id part 1 refused is may of (omega arith)
       answers_it)
       (λ had. stops (readable_in around end piece later count event log id part order is may of

@@ -23,8 +23,8 @@ end_called end act answer accepted = record end {
   accepted = accepted;
 }
 
--- The call does not refuse a stream; where it ends the connection, an act has; and where it resets a
--- stream, that is an act.
+-- The call does not refuse a stream; where it ends the connection, an act has; and where it resets
+-- a stream, that is an act.
 pub record IsOfAct (made : List Made) (side : Side) (act : Act) (answer : Answer) : Type 0 where
   pub no_refusal : (id code : ℕ) → act ≢ Refuse id code
   pub no_end : (code : Code) → act ≡ Fail code → AllHadMemory made → ⊥

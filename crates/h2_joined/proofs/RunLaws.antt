@@ -46,13 +46,13 @@ module _ (client_values server_values : Values) (made : List Made) (client serve
 
   pub client_no_fault : MemorySufficed client server → NoneWasEnded made
       → ReportsNoFault made client.happened sides.Server
-  client_no_fault had none = faultless_end sides.Client client_values server_values made client server
-      at_client (had_memory client_values server_values made client server joint had none)
+  client_no_fault had none =
+      faultless_end sides.Client client_values server_values made client server at_client (had_memory client_values server_values made client server joint had none)
 
   pub server_no_fault : MemorySufficed client server → NoneWasEnded made
       → ReportsNoFault made server.happened sides.Client
-  server_no_fault had none = faultless_end sides.Server client_values server_values made server client
-      at_server (had_memory client_values server_values made client server joint had none)
+  server_no_fault had none =
+      faultless_end sides.Server client_values server_values made server client at_server (had_memory client_values server_values made client server joint had none)
 
   -- No DATA of either end passes its windows.
   client_keeps : KeepsWindows client.happened.log

@@ -259,8 +259,8 @@ pub data IsJoint (client_values server_values : Values) : (history : List Made)
       → IsNextAct client server act new_client new_server
       → IsJoint client_values server_values (act ∷ history) new_client new_server
 
--- Memory was not refused where it counts: neither connection has failed since memory was refused as
--- it took octets.
+-- Memory was not refused where it counts: neither connection has failed with INTERNAL_ERROR, with
+-- which it does where memory is refused as it takes octets.
 -- rule: joined (own) What one end has handed out is a prefix of what the other accepted
 pub record MemorySufficed (client server : JointEnd) : Type 0 where
   pub client_went_on : client.happened.log.failed ≢ Some InternalError
@@ -269,7 +269,8 @@ pub record MemorySufficed (client server : JointEnd) : Type 0 where
 -- No end was ended by its caller: no `fail` was made.
 -- rule: joined (own) What one end has handed out is a prefix of what the other accepted
 abbrev pub NoneWasEnded : List Made → Type 0
-NoneWasEnded history = AllByRecursion (λ made. (code : Code) → made.doing ≢ Calls (Fail code)) history
+NoneWasEnded history =
+    AllByRecursion (λ made. (code : Code) → made.doing ≢ Calls (Fail code)) history
 
 -- an end as half of a pair; `lost`: octets that were delivered once it had failed, and not used
 abbrev pub half_of : JointEnd → (lost : List ℕ) → Half

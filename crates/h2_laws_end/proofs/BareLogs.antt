@@ -35,7 +35,7 @@ bare_by : (change : Log → Log) → ((log : Log) → bare (change (bare log)) �
 bare_by change = part_same (λ log. bare (change log))
 
 -- The view, the last stream that was processed and the next unprocessed one.
-view_same : (log other : Log) → AreSameBare log other → log_view log ≡ log_view other
+pub view_same : (log other : Log) → AreSameBare log other → log_view log ≡ log_view other
 unfolding overflows next_number active_count last_processed max_streams waiting output unreleased
 view_same = part_same (λ log. log_view log) (λ log. refl)
 

@@ -2,7 +2,7 @@
 use Rattle.h2_laws_end.proofs.Names
 use Names.{◌≡◌, ◌≤◌, ℕ, ◌&&◌, not, max, Bool, true, false, List, [], ◌∷◌, ◌++◌, Option, Some, None}
 use Names.{refl, sym, ap, ◌∙◌, inl, inr, arith, subst, ◌+◌, both_ways, Code, InternalError, Frame}
-use Names.{wire_fault_code, none_some, one_code, Item, Role, Event, Values, Act, Answer, Refuse}
+use Names.{wire_fault_code, none_some, one_some, Item, Role, Event, Values, Act, Answer, Refuse}
 use Names.{PutOut, Count, OutOfMemory, Refused, Log, Verdict, ConnectionFault, View, log_view}
 use Names.{Decoded, FrameStep, fails_with, begins_block, completes, frame_step, refusal_of}
 use Names.{refuse_fault, with_unreturned, with_failure, called, MayAnswer, accepts, refuses, lacks}
@@ -66,7 +66,7 @@ fails_ends : (fault : Code) (last : ℕ) (log : Log) → last_processed log ≤ 
     → EndsInGoAway (with_failure fault last log) code
 unfolding with_sent encoding_of_items encoding_of_item last_processed
 fails_ends fault last log processed exact code is =
-    subst (λ (c : Code). EndsInGoAway (with_failure fault last log) c) (one_code fault code is)
+    subst (λ (c : Code). EndsInGoAway (with_failure fault last log) c) (one_some fault code is)
     (record {
       last = last;
       earlier = log.sent;

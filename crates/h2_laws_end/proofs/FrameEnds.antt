@@ -178,13 +178,13 @@ module _ (expects : Bool) (limits : Limits) (frames : List Frame) where
   no_frame_at_fault frame octets another beyond end faults.BadPreface made again joined =
       let complete = all_sound frame another again in
       sound_no_wrong expects limits _ frames another end octets beyond complete made (sym joined)
-  no_frame_at_fault frame octets another beyond end (faults.HeadFault code) made again joined =
+  no_frame_at_fault frame octets another beyond end (faults.HeadFault head) made again joined =
       let complete = all_sound frame another again in
       let line : made.part ++ (made.last ++ beyond) ≡ another ++ end =
       sym (append_assoc made.part made.last beyond)
       ∙ ap (λ (line : List ℕ). line ++ beyond) (sym made.joined) ∙ joined in
       let more = one_more frame made.part another _ end made.sound complete line in
-      wrong_head_stops _ made.last beyond code made.nine made.faulty frame more.last end
+      wrong_head_stops _ made.last beyond head made.nine made.faulty frame more.last end
       more.tail_is more.framed
   no_frame_at_fault frame octets another beyond end (faults.PayloadFault code) made again joined =
       let complete = all_sound frame another again in

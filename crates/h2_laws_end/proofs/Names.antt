@@ -120,7 +120,7 @@ pub use Rattle.h2_spec_log.specs.declared.refusal.Refusal.TheVariants.{Memory}
 pub use Rattle.h2_spec_log.specs.declared.role.Role.{Role}
 pub use Rattle.h2_spec_log.specs.declared.role.Role.TheVariants.{Client, Server}
 pub use Rattle.h2_wire.proofs.FaultLemmas.{one_reading_lem}
-pub use Rattle.h2_wire.proofs.ReadingLemmas.{none_some, one_code, same_following, same_prefix}
+pub use Rattle.h2_wire.proofs.ReadingLemmas.{none_some, one_some, same_following, same_prefix}
 pub use Rattle.h2_wire.specs.Faults.{wire_fault_code}
 pub use Rattle.h2_wire.specs.Streams.{AreFrames, EndsWithFault, expected_preface, Frames, IsFrame}
 pub use Rattle.h2_wire.specs.Streams.{IsPartial, Limits, WireFaultAt}

@@ -2,7 +2,7 @@
 use Rattle.h2_laws_end.proofs.Names
 use Names.{◌≡◌, ◌≢◌, ◌∙◌, ℕ, Bool, true, false, if◌then◌else◌, List, [], ◌∷◌, Option, Some, None}
 use Names.{length, nat_lt, sym, ap, refl, ◌==◌, ◌+◌, ◌++◌, not, subst, InternalError, Frame}
-use Names.{Headers, Continuation, BlockFault, Item, Begun, next_fault, none_some, one_code, Verdict}
+use Names.{Headers, Continuation, BlockFault, Item, Begun, next_fault, none_some, one_some, Verdict}
 use Names.{ConnectionFault, View, Decoded, FrameStep, fails_with, begins_block, completes}
 use Names.{verdict_of, Log, log_view, took_frame, cond_both, fault_codes, ProtocolError}
 use Names.{fault_outside, fault_inside, max_block_octets, block_fault_code, grouped, grouping_step}
@@ -73,7 +73,7 @@ verdict_up : (log : Log) (decoded : Option Decoded) (item : Item) (verdict : Ver
     → (with_verdict log decoded item verdict).failed ≢ Some InternalError
 unfolding with_verdict
 verdict_up log decoded item (ConnectionFault code) up other = λ is.
-    let same : code ≡ InternalError = one_code code InternalError is in
+    let same : code ≡ InternalError = one_some code InternalError is in
     other (ap ConnectionFault same)
 verdict_up log decoded item another up other =
     still_up log.failed _ InternalError up (replied_failed log _ _ _ _ refl)
@@ -83,7 +83,7 @@ step_up : (log : Log) (decoded : Option Decoded) (step : FrameStep) → log.fail
     → (with_step log decoded step).failed ≢ Some InternalError
 unfolding with_step
 step_up log decoded (fails_with code) up other = λ is.
-    let same : code ≡ InternalError = one_code code InternalError is in
+    let same : code ≡ InternalError = one_some code InternalError is in
     other (ap fails_with same)
 step_up log decoded (begins_block begun) up other = λ is. none_some InternalError (sym up ∙ is)
 step_up log decoded (completes item) up other =

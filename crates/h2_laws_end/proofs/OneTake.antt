@@ -6,7 +6,7 @@ use Names.{◌≢◌, ℕ, [], sym, ap, ◌∙◌, Code, Log, Took}
 use Names.{List, ◌++◌, Option, Some, None, refl, Frame, Event, log_view, Decoded, Failed, MayTake}
 use Names.{length, EndsWithFault, wire_fault_code, one_reading_lem, events_answered, same_following}
 use Names.{subst, append_assoc, IsDecodedFor, AnswersFrame, ends_no_frame, meets_fault, same_prefix}
-use Names.{WireFault, none_some, one_code, is_server, took_none, TakesPart, TakesFrame, TakesFault}
+use Names.{WireFault, none_some, one_some, is_server, took_none, TakesPart, TakesFrame, TakesFault}
 use Names.{UnprocessedEvent, next_unprocessed, limits_from, reports_unprocessed, runs_out_of_memory}
 use Rattle.std.proofs.Math.Seq.{take-length}
 use Rattle.h2_wire.proofs.FaultLemmas.{one_making, no_reading}
@@ -35,7 +35,7 @@ one_answer log after count (Took n event) (Took m other) is again =
 one_answer log after count (Took n event) (Failed code) is again = none_some code (sym is.1 ∙ again)
 one_answer log after count (Failed code) (Took n event) is again = none_some code (sym again.1 ∙ is)
 one_answer log after count (Failed code) (Failed other) is again =
-    ap Failed (one_code code other (sym is ∙ again))
+    ap Failed (one_some code other (sym is ∙ again))
 
 -- The line of what was used before and a piece.
 line : (before piece octets unused : List ℕ) → piece ≡ octets ++ unused

@@ -144,7 +144,7 @@ no_fault_before_last expects limits frames stream last faults.BadPreface made =
         all = refl;
       }),
     )
-no_fault_before_last expects limits frames stream last (faults.HeadFault code) made =
+no_fault_before_last expects limits frames stream last (faults.HeadFault head) made =
     let nine = made.nine in
     let fewer = one_fewer stream last made.part made.last made.joined (omega (arith, nine)) in
     let counted = simp length-append at (ap length fewer.2) in (

@@ -57,7 +57,7 @@ one_last (first ∷ frames) frame other line =
     one_last frames frame other line_on
 
 -- A block says one thing.
-one_decoded : (log : Log) (octets : List ℕ) (decoded other : Option Decoded)
+pub one_decoded : (log : Log) (octets : List ℕ) (decoded other : Option Decoded)
     → IsDecoded log octets decoded → IsDecoded log octets other → decoded ≡ other
 one_decoded log octets None None is again = refl
 one_decoded log octets None (Some other) is again = absurd (is other.fields other.after again)
@@ -92,7 +92,7 @@ module _ (role : Role) (limits : Limits) (stream : List ℕ) where
       (frames ++ frame ∷ []) unparsed [] read ends).0
 
   -- One fault is made.
-  one_fault : (frames : List Frame) (fault other : WireFault)
+  pub one_fault : (frames : List Frame) (fault other : WireFault)
       → WireFaultAt (is_server role) limits stream frames (length stream) fault
       → WireFaultAt (is_server role) limits stream frames (length stream) other → fault ≡ other
   one_fault frames fault other at again =
@@ -103,7 +103,7 @@ module _ (role : Role) (limits : Limits) (stream : List ℕ) where
 
 module _ (role : Role) (octet : ℕ) (before log other : Log) where
   -- An octet makes one log of a log.
-  one_use : Uses role octet before log → Uses role octet before other → log ≡ other
+  pub one_use : Uses role octet before log → Uses role octet before other → log ≡ other
   one_use (uses_part unparsed read is) (uses_part left again same) =
       is ∙ ap (λ (line : List ℕ). without_turns (used before (octet ∷ []) line))
       (one_reading_lem (is_server role) (limits_from before) (before.input ++ octet ∷ [])

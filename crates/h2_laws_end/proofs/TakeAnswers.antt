@@ -2,7 +2,7 @@
 use Rattle.h2_laws_end.proofs.Names
 use Names.{◌≡◌, ◌⊎◌, ℕ, List, [], ◌∷◌, ◌++◌, length, Option, Some, None, refl, sym, ap, ◌∙◌, subst}
 use Names.{inl, inr, append-nil, Code, Frame, Data, Reset, Settings, Ping, GoAway, none_some}
-use Names.{one_code, Item, alone, block, Role, Event, UnprocessedEvent, Values, Log}
+use Names.{one_some, Item, alone, block, Role, Event, UnprocessedEvent, Values, Log}
 use Names.{next_unprocessed, View, log_view, Verdict, StreamFault, Reported, Decoded}
 use Names.{with_unreturned, took_frame, took_none, IsLog, took_some, took_one, met_fault}
 use Names.{ran_out_of_memory, reported_one, IsDecodedFor, stream_of_log, holds_unreturned}
@@ -196,7 +196,7 @@ pub failed_take : (log after : Log) (piece : List ℕ) (answer : TakeAnswer) (co
     → log.failed ≡ Some code → MayTake log piece answer after
     → (after ≡ log) × (answer ≡ Failed code)
 failed_take log after piece answer code down (has_failed other failed answers same) =
-    (same, answers ∙ ap Failed (one_code other code (sym failed ∙ down)))
+    (same, answers ∙ ap Failed (one_some other code (sym failed ∙ down)))
 failed_take log after piece answer code down (reports_unprocessed up some answers same) =
     none_some code (sym up ∙ down)
 failed_take log after piece answer code down

@@ -41,11 +41,11 @@ both_pass p [] turns here there = there
 both_pass p (turn ∷ more) turns here there = (here.0, both_pass p more turns here.1 there)
 
 -- A log that adds no turn.
-adds_none : (p : Turn → Bool) (log next : Log) → next.turns ≡ log.turns → Adds p log next
+pub adds_none : (p : Turn → Bool) (log next : Log) → next.turns ≡ log.turns → Adds p log next
 adds_none p log next same = record { news = []; turns = same; pass = tt }
 
 -- A log that adds one.
-adds_one : (p : Turn → Bool) (turn : Turn) (log next : Log) → next.turns ≡ turn ∷ log.turns
+pub adds_one : (p : Turn → Bool) (turn : Turn) (log next : Log) → next.turns ≡ turn ∷ log.turns
     → p turn ≡ true → Adds p log next
 adds_one p turn log next same passes =
     record { news = turn ∷ []; turns = same; pass = (passes, tt) }
@@ -83,7 +83,7 @@ adds_call log act answer =
     }) log act answer
 
 -- Events all happen inside of `take`.
-events_pass : (events : List Event) → AllPass is_of_take (map Happened events)
+pub events_pass : (events : List Event) → AllPass is_of_take (map Happened events)
 events_pass [] = tt
 events_pass (event ∷ events) = (refl, events_pass events)
 

@@ -3,9 +3,11 @@ use Rattle.h2_laws_machine.proofs.Names.{◌≡◌, ℕ, ◌∷◌, ap, sym, ◌
 use Rattle.h2_laws_machine.proofs.Names.{List, ◌++◌, None, refl, Frame, GoAway, Item, alone, Values}
 use Rattle.h2_laws_machine.proofs.Names.{[], Option, Decoded, log_view, Verdict, Reported, end_view}
 use Rattle.h2_laws_machine.proofs.Names.{events_of, frame_step, verdict_of, with_begun, Represents}
-use Rattle.h2_laws_machine.proofs.LogCore.{going}
+use Rattle.h2_laws_machine.proofs.Names.{state, state_at}
+use Rattle.h2_laws_machine.proofs.LogCore.{core, going}
 use Rattle.h2_laws_machine.proofs.RecvFrames.{going_begun, sound_begun}
-use Rattle.h2_laws_machine.proofs.RecvVerdictLimits.{over_limits_same}
+use Rattle.h2_laws_machine.proofs.RecvVerdict.{state_same}
+use Rattle.h2_laws_machine.proofs.RecvVerdictLimits.{above_same, over_limits_same}
 use Rattle.h2_laws_machine.proofs.SoundLogs.{sound_log}
 use Rattle.h2_laws_machine.proofs.WaitingOutput.{waits_of}
 
@@ -27,6 +29,21 @@ verdict_alike values e log decoded item represents up =
     (sound_begun log None (sound_log e.role values log represents.came
     (sym represents.failed ∙ up)))
     (going_begun e log None (going e log represents.streams (represents.running up)))
+
+-- So is the state of a stream's number.
+pub state_alike : (values : Values) (e : End) (log : Log) (id : ℕ) → Represents values e log
+    → e.failed ≡ None → state_at e id ≡ state log id
+state_alike values e log id represents up =
+    state_same e (core log) id represents.role
+    (sound_log e.role values log represents.came (sym represents.failed ∙ up))
+    (going e log represents.streams (represents.running up))
+
+-- So it is whether an initial window brings some stream's above the greatest.
+pub overflows_alike : (values : Values) (e : End) (log : Log) (initial : ℕ)
+    → Represents values e log → e.failed ≡ None
+    → (end_view e).overflows initial ≡ (log_view log).overflows initial
+overflows_alike values e log initial represents up =
+    above_same e log initial (going e log represents.streams (represents.running up))
 
 -- Events look at nothing of a view but the least last stream of the GOAWAYs that were received.
 events_by : (view other : View) (decoded : Option Decoded) (verdict : Verdict) (item : Item)

@@ -74,8 +74,8 @@ kept_is_active false true s x old new is above =
 kept_is_active false false s x old new is above = absurd (cc)
 
 -- Some stream is brought above the greatest window at an end just where it is at its log.
-above_same : (e : End) (log : Log) (new : ℕ) → Going e (core log) → any_above e.peer.initial_window
-    new (map.entries e.streams.entries) ≡ overflows log new
+pub above_same : (e : End) (log : Log) (new : ℕ) → Going e (core log)
+    → any_above e.peer.initial_window new (map.entries e.streams.entries) ≡ overflows log new
 unfolding overflows
 above_same e log new g =
     both_same _ _ (λ some.

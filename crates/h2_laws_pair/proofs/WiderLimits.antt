@@ -1,6 +1,7 @@
 -- Limits of payloads with which both what an end has read and what its peer has written are read.
 -- A fault is one with them too, or a head that is too long for the end.
 use Rattle.std.proofs.Common.{max}
+use Rattle.h2_frame.specs.declared.head_faults.HeadFault.{HeadFault}
 use Rattle.h2_frame.specs.Heads.{head_fault, form_fault}
 use Rattle.h2_frame.proofs.HeadLemmas.{form_fault-head_fault, length-head_fault}
 use Rattle.h2_wire.specs.Streams.{IsAfterPreface, IsWrongHead, IsWrongPayload, EndsWithFault}
@@ -51,12 +52,12 @@ sound_wider expects limits others frames part wider sound =
     ]
 
 -- A head at fault for its length alone has a greater one than the limit.
-too_long : (head : Head) (limit : ℕ) (code : Code) → head_fault head limit ≡ Some code
+too_long : (head : Head) (limit : ℕ) (fault : HeadFault) → head_fault head limit ≡ Some fault
     → form_fault head ≡ None → limit < head.length
 unfolding head_fault
-too_long head limit code faulty sound = elim (cases_lt limit head.length) [
+too_long head limit fault faulty sound = elim (cases_lt limit head.length) [
   | inl longer ↦ longer
-  | inr within ↦ none_some code (sym sound ∙ rw (le-ltb limit head.length within) at faulty)
+  | inr within ↦ none_some fault (sym sound ∙ rw (le-ltb limit head.length within) at faulty)
 ]
 
 -- After the frames the octets end in a head whose length is above the limit and within the others.
@@ -78,11 +79,11 @@ IsFaultOrLong expects limits others frames octets =
 
 module _ (expects : Bool) (limits others : Limits) (frames : List Frame) (octets : List ℕ) where
   -- A head at fault, by whether it is so with the other limits.
-  head_wider : (code : Code) (wrong : IsWrongHead expects limits frames octets code)
-      → IsSound expects others frames wrong.part → (seen : Option Code)
+  head_wider : (fault : HeadFault) (wrong : IsWrongHead expects limits frames octets fault)
+      → IsSound expects others frames wrong.part → (seen : Option HeadFault)
       → head_fault (head_of wrong.last) (others (length wrong.part + 9)) ≡ seen
       → IsFaultOrLong expects limits others frames octets
-  head_wider code wrong sound (Some other) is = inl (
+  head_wider fault wrong sound (Some other) is = inl (
     faults.HeadFault other,
     record {
       part = wrong.part;
@@ -93,7 +94,7 @@ module _ (expects : Bool) (limits others : Limits) (frames : List Frame) (octets
       faulty = is;
     },
   )
-  head_wider code wrong sound None is =
+  head_wider fault wrong sound None is =
       let head = head_of wrong.last in
       let place = length wrong.part + 9 in
       inr (record {
@@ -103,7 +104,7 @@ module _ (expects : Bool) (limits others : Limits) (frames : List Frame) (octets
         sound = sound;
         nine = wrong.nine;
         sound_head = is;
-        long = too_long head (limits place) code wrong.faulty
+        long = too_long head (limits place) fault wrong.faulty
             (form_fault-head_fault head (others place) is);
       })
 
@@ -134,9 +135,9 @@ module _ (expects : Bool) (limits others : Limits) (frames : List Frame) (octets
       → EndsWithFault expects limits frames octets fault
       → IsFaultOrLong expects limits others frames octets
   fault_wider faults.BadPreface wider made = inl (faults.BadPreface, made)
-  fault_wider (faults.HeadFault code) wider made =
+  fault_wider (faults.HeadFault head) wider made =
       let counted = simp length-append at (ap length made.joined) in
-      head_wider code made (sound_wider expects limits others frames made.part
+      head_wider head made (sound_wider expects limits others frames made.part
       (λ place within. wider place (omega (arith, counted, within))) made.sound)
       (head_fault (head_of made.last) (others (length made.part + 9))) refl
   fault_wider (faults.PayloadFault code) wider made =

@@ -146,14 +146,14 @@ module _ (expects : Bool) (limits : Limits) (stream more octets beyond : List �
       absurd (sound_no_wrong expects limits frames others past.part (unparsed ++ more) octets beyond
       past.sound made (sym (append_assoc past.part unparsed more)
       ∙ ap (λ (line : List ℕ). line ++ more) (sym past.joined) ∙ joined))
-  before_a_fault (faults.HeadFault code) (inr past) made joined =
+  before_a_fault (faults.HeadFault head) (inr past) made joined =
       let line : past.part ++ (unparsed ++ more) ≡ made.part ++ (made.last ++ beyond) =
       sym (append_assoc past.part unparsed more) ∙ ap (λ (line : List ℕ). line ++ more)
       (sym past.joined) ∙ joined ∙ ap (λ (line : List ℕ). line ++ beyond) made.joined ∙ append_assoc
       made.part made.last beyond in
       sounds_continue expects limits frames others past.part made.part (unparsed ++ more)
       (made.last ++ beyond) past.sound made.sound line
-      (wrong_head_stops _ made.last beyond code made.nine made.faulty)
+      (wrong_head_stops _ made.last beyond head made.nine made.faulty)
   before_a_fault (faults.PayloadFault code) (inr past) made joined =
       let line : past.part ++ (unparsed ++ more) ≡ made.part ++ (made.last ++ beyond) =
       sym (append_assoc past.part unparsed more) ∙ ap (λ (line : List ℕ). line ++ more)

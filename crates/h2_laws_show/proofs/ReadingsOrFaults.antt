@@ -4,7 +4,6 @@ use Rattle.std.proofs.Common.{length, take, drop, Option, None, Some, refl, ap, 
 use Rattle.std.proofs.Common.{arith, subst, append_assoc, length-append, length-take, rules}
 use Rattle.std.proofs.lemmas.List.{take-append-drop}
 use Rattle.std.proofs.lemmas.Bool.{cases_lt, cases_eq}
-use Rattle.h2_frame.specs.declared.code.Code.{Code}
 use Rattle.h2_frame.specs.Heads.{head_of, head_fault}
 use Rattle.h2_frame.specs.Frames.{Frame, payload_fault}
 use Rattle.h2_frame.proofs.HeadLemmas.{form_fault-head_fault}
@@ -17,16 +16,17 @@ use Rattle.h2_wire.proofs.ReadingLemmas.{nine_in_frame}
 use Rattle.h2_laws_show.proofs.SoundFrames.{sound_octets_encode}
 use Rattle.std.proofs.lemmas.Grind.{common_steps}
 
--- A code is none, or some.
-code_cases : (known : Option Code) → (known ≡ None) ⊎ ((code : Code) × (known ≡ Some code))
-code_cases None = inl refl
-code_cases (Some code) = inr (code, refl)
+-- A fault is none, or some.
+fault_cases : {A : Type 0} (known : Option A) → (known ≡ None)
+    ⊎ ((fault : A) × (known ≡ Some fault))
+fault_cases None = inl refl
+fault_cases (Some fault) = inr (fault, refl)
 
 -- The octets are a head, or a frame, that makes this fault where payloads have this limit.
 abbrev IsWrong : ℕ → List ℕ → WireFault → Type 0
 IsWrong limit last faults.BadPreface = ⊥
-IsWrong limit last (faults.HeadFault code) =
-    (length last ≡ 9) × (head_fault (head_of last) limit ≡ Some code)
+IsWrong limit last (faults.HeadFault head) =
+    (length last ≡ 9) × (head_fault (head_of last) limit ≡ Some head)
 IsWrong limit last (faults.PayloadFault code) =
     (length last ≡ 9 + (head_of last).length) × (head_fault (head_of last) limit ≡ None)
     × (payload_fault (head_of last) (drop 9 last) ≡ Some code)
@@ -72,7 +72,7 @@ complete_begins limit octets sound enough =
     let split : octets ≡ take (9 + (head_of octets).length) octets
     ++ drop (9 + (head_of octets).length) octets =
     sym (take-append-drop (9 + (head_of octets).length) octets) in
-    elim (code_cases (payload_fault (head_of (take (9 + (head_of octets).length) octets))
+    elim (fault_cases (payload_fault (head_of (take (9 + (head_of octets).length) octets))
     (drop 9 (take (9 + (head_of octets).length) octets)))) [
       | inl payload_sound ↦
           let (frame, encodes) = sound_octets_encode (take (9 + (head_of octets).length) octets)
@@ -104,14 +104,14 @@ head_begins : (limit : ℕ) (octets : List ℕ) → 9 ≤ length octets → Begi
 head_begins limit octets nine =
     let same : head_of (take 9 octets) ≡ head_of octets =
     head_of-take octets 9 (omega arith) nine in
-    elim (code_cases (head_fault (head_of octets) limit)) [
+    elim (fault_cases (head_fault (head_of octets) limit)) [
       | inl sound ↦ elim (cases_lt (length octets) (9 + (head_of octets).length)) [
         | inl few ↦ inl (λ enough. (sound, few))
         | inr enough ↦ complete_begins limit octets sound enough
       ]
-      | inr (code, faulty) ↦
+      | inr (head, faulty) ↦
           inr (inr (record {
-            fault = faults.HeadFault code;
+            fault = faults.HeadFault head;
             last = take 9 octets;
             beyond = drop 9 octets;
             joined = sym (take-append-drop 9 octets);
@@ -314,7 +314,7 @@ module _ (expects : Bool) (limits : Limits) where
       → IsWrong (limits (length (expected_preface expects) + length body + 9)) last fault
       → EndsWithFault expects limits frames ((expected_preface expects ++ body) ++ last) fault
   wrong_ends frames body last faults.BadPreface framed wrong = absurd wrong
-  wrong_ends frames body last (faults.HeadFault code) framed wrong = grind (arith, common_steps)
+  wrong_ends frames body last (faults.HeadFault head) framed wrong = grind (arith, common_steps)
   wrong_ends frames body last (faults.PayloadFault code) framed wrong = grind (arith, common_steps)
   wrong_ends frames body last faults.Memory framed wrong = absurd wrong
 

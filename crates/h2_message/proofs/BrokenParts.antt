@@ -123,7 +123,7 @@ head_names (Responses to_head) list end =
 
 -- Trailers.
 trailers_test : (end short : Bool)
-    → NamesRefusal (first_broken ((short, BadLength) ∷ (not end, BadOrder) ∷ []))
+    → NamesRefusal (first_broken ((end && short, BadLength) ∷ (not end, BadOrder) ∷ []))
     (if not end || short || false then None else Some AtEnd)
 unfolding first_broken
 trailers_test true true = refl
@@ -142,7 +142,8 @@ trailers_names : (reads : Reads) (left : Option ℕ) (list : List Field) (end : 
     (phase_after reads (InBody left) (FieldsPart list, end))
 unfolding rules_of_part phase_after
 trailers_names reads left list end =
-    let rest : List (Bool × Malformed) = (is_short left, BadLength) ∷ (not end, BadOrder) ∷ [] in
+    let rest : List (Bool × Malformed) =
+    (end && is_short left, BadLength) ∷ (not end, BadOrder) ∷ [] in
     elim (first_broken (trailer_rules list)) as (λ (found : Option Malformed).
     first_broken (trailer_rules list) ≡ found
     → NamesRefusal (first_broken (trailer_rules list ++ rest))
@@ -184,7 +185,8 @@ octets_test number count true false is =
 octets_names : (reads : Reads) (left : Option ℕ) (octets : List ℕ) (end : Bool)
     → NamesRefusal (broken_at reads (InBody left) (OctetsPart octets, end))
     (phase_after reads (InBody left) (OctetsPart octets, end))
-unfolding rules_of_part phase_after phase_after_data breaks_length first_broken phase_in_body is_short
+unfolding rules_of_part phase_after phase_after_data breaks_length first_broken phase_in_body
+    is_short
 octets_names reads None octets true = refl
 octets_names reads None octets false = refl
 octets_names reads (Some number) octets end =
@@ -257,18 +259,18 @@ module _ (reads : Reads) (list : List Field) (end : Bool) where
       → Some rule ≡ broken_at reads (InBody left) (FieldsPart list, end)
   unfolding rules_of_part
   rule_of_trailers left rule is =
-      let rest : List (Bool × Malformed) = (is_short left, BadLength) ∷ (not end, BadOrder) ∷ [] in
+      let rest : List (Bool × Malformed) =
+      (end && is_short left, BadLength) ∷ (not end, BadOrder) ∷ [] in
       sym (broken_first (trailer_rules list) rest rule is)
 
   pub rule_of_order : (left : Option ℕ) → first_broken (trailer_rules list) ≡ None
-      → first_broken ((nat_lt 0 (unwrap_or left 0), BadLength) ∷ (not end, BadOrder) ∷ [])
+      → first_broken ((end && is_short left, BadLength) ∷ (not end, BadOrder) ∷ [])
       ≡ broken_at reads (InBody left) (FieldsPart list, end)
   unfolding rules_of_part
   rule_of_order left none =
-      let rest : List (Bool × Malformed) = (is_short left, BadLength) ∷ (not end, BadOrder) ∷ [] in
-      ap (λ (short : Bool). first_broken ((short, BadLength) ∷ (not end, BadOrder) ∷ []))
-      (sym (short_is left))
-      ∙ sym (broken_second (trailer_rules list) rest none)
+      let rest : List (Bool × Malformed) =
+      (end && is_short left, BadLength) ∷ (not end, BadOrder) ∷ [] in
+      sym (broken_second (trailer_rules list) rest none)
 
 pub rule_at_end : (reads : Reads) (part : Part × Bool)
     → Some BadOrder ≡ broken_at reads AtEnd part

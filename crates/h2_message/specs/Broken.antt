@@ -36,15 +36,16 @@ rules_of_head (Responses to_head) list end =
     else rules_of_final (Responses to_head) list end
 
 -- The rules of a part that comes in this phase, in order. Before the head DATA breaks M12. After it
--- a field block has the rules of trailers (M1, M2, M3 and M10), M11 where octets of the body are
--- still to come, and M12 without END_STREAM; and DATA breaks M11 that is longer than what is to
--- come, or, with END_STREAM, shorter. After the end any part breaks M12.
+-- a field block has the rules of trailers (M1, M2, M3 and M10), M11 where it ends the message and
+-- octets of the body are still to come, and M12 without END_STREAM; and DATA breaks M11 that is
+-- longer than what is to come, or, with END_STREAM, shorter. After the end any part breaks M12, and
+-- nothing else of it is looked at.
 -- rule: 8.1.1 (own) A part that is refused breaks a rule, the least of which is named
 unfoldable pub rules_of_part : Reads → Phase → (Part × Bool) → List (Bool × Malformed)
 rules_of_part reads AtHead (FieldsPart list, end) = rules_of_head reads list end
 rules_of_part reads AtHead (OctetsPart octets, end) = (true, BadOrder) ∷ []
 rules_of_part reads (InBody left) (FieldsPart list, end) =
-    trailer_rules list ++ (is_short left, BadLength) ∷ (not end, BadOrder) ∷ []
+    trailer_rules list ++ (end && is_short left, BadLength) ∷ (not end, BadOrder) ∷ []
 rules_of_part reads (InBody left) (OctetsPart octets, end) =
     (breaks_length left (length octets) end, BadLength) ∷ []
 rules_of_part reads AtEnd part = (true, BadOrder) ∷ []

@@ -44,7 +44,7 @@ pub enum Malformed {
     BadLength,
     /// M12: the parts of a message come in another order than its own (section 8.1). A message that
     /// is to be sent has its order, so no check answers it; [`Reading`](crate::Reading) refuses
-    /// such a part, and names this rule where the part breaks no other.
+    /// such a part, and names this rule where the part breaks no other, or comes after END_STREAM.
     #[error("M12 BadOrder: the parts of the message are out of order")]
     BadOrder,
 }

@@ -205,7 +205,7 @@ impl Reading {
     // contract: 8.1.1 (own) A part that is refused breaks a rule, the least of which is named
     // rule: 8.1.1 (own) A part that is refused breaks a rule, the least of which is named
     /// The least rule that a field block breaks after what was read, for which [`Reading::fields`]
-    /// refuses it; none where it is taken.
+    /// refuses it; none where it is taken. After END_STREAM it is M12, whatever the fields are.
     pub fn broken_by_fields(&self, list: &FieldList, end: bool) -> Option<Malformed>
         ensures { (reads : Reads) (parts : List (Part × Bool)) → Follows reads parts self.now
             → result ≡ broken_after reads parts (FieldsPart list.now, end) }
@@ -214,7 +214,7 @@ impl Reading {
             Phase::AtHead => self.broken_by_head(list, end),
             Phase::InBody { left } => {
                 let trailers = scan_list(Kind::Request, list);
-                let short = left.unwrap_or(0) > 0;
+                let short = end && left.unwrap_or(0) > 0;
                 match trailers.broken_by_trailers() {
                     Some(rule) => Some(rule),
                     None => first_broken(&[
@@ -265,12 +265,12 @@ impl Reading {
             → length octets ≡ count → Follows reads parts self.now
             → result ≡ broken_after reads parts (OctetsPart octets, end) }
     {
-        let Phase::InBody { left } = self.phase else {
-            return Some(Malformed::BadOrder);
-        };
-        match (BodyLength { left }).check(count, end) {
-            Ok(()) => None,
-            Err(rule) => Some(rule),
+        match self.phase {
+            Phase::InBody { left } => match (BodyLength { left }).check(count, end) {
+                Ok(()) => None,
+                Err(rule) => Some(rule),
+            },
+            _ => Some(Malformed::BadOrder),
         }
     }
 

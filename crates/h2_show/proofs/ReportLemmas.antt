@@ -61,8 +61,8 @@ fault_reports : (expects : Bool) (limits : Limits) (stream more : List ℕ) (err
     → IsStreamFault error → IsAtFault expects limits (stream ++ more)
 fault_reports expects limits stream more (Wire faults.BadPreface) cutter (place, found, at) is =
     wire_fault place faults.BadPreface (wire_fault-append _ _ _ _ place faults.BadPreface found)
-fault_reports expects limits stream more (Wire (faults.HeadFault code)) cutter (place, found, at)
-    is = wire_fault place (faults.HeadFault code) (wire_fault-append _ _ _ _ place _ found)
+fault_reports expects limits stream more (Wire (faults.HeadFault head)) cutter (place, found, at)
+    is = wire_fault place (faults.HeadFault head) (wire_fault-append _ _ _ _ place _ found)
 fault_reports expects limits stream more (Wire (faults.PayloadFault code)) cutter
     (place, found, at) is =
     wire_fault place (faults.PayloadFault code) (wire_fault-append _ _ _ _ place _ found)

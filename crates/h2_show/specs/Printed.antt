@@ -6,6 +6,7 @@ use Rattle.hpack.specs.declared.types.field.Decoded.{Decoded}
 use Rattle.hpack.specs.declared.types.field.Field.{Field}
 use Rattle.h2_frame.specs.declared.code.Code.TheVariants.{ProtocolError}
 use Rattle.h2_frame.specs.Frames.{Frame}
+use Rattle.h2_frame.specs.Heads.{head_fault_code}
 use Rattle.h2_wire.specs.declared.fault.WireFault.TheVariants as faults
 use Rattle.h2_wire.specs.Cutter.{CutterState, CutterRepresents}
 use Rattle.h2_wire.specs.Streams.{Limits}
@@ -71,7 +72,8 @@ ViewerPrints cutter blocks due octets new_cutter new_blocks new_due printed =
 -- it, and the line of the fault
 abbrev pub error_lines : ShowError → (place : ℕ) → (due : Bool) → List ℕ
 error_lines (Wire faults.BadPreface) place due = fault_line ProtocolError place
-error_lines (Wire (faults.HeadFault code)) place due = due_line due ++ fault_line code place
+error_lines (Wire (faults.HeadFault fault)) place due =
+    due_line due ++ fault_line (head_fault_code fault) place
 error_lines (Wire (faults.PayloadFault code)) place due = due_line due ++ fault_line code place
 error_lines (Wire faults.Memory) place due = []
 error_lines (Block (errors.Fault code)) place due = due_line due ++ fault_line code place

@@ -45,8 +45,8 @@ BlockErrorReportsAt expects limits stream code cutter =
 abbrev pub ShowErrorReports : Bool → Limits → List ℕ → ShowError → CutterState → Type 0
 ShowErrorReports expects limits stream (Wire faults.BadPreface) cutter =
     WireFaultReports expects limits stream faults.BadPreface cutter
-ShowErrorReports expects limits stream (Wire (faults.HeadFault code)) cutter =
-    WireFaultReports expects limits stream (faults.HeadFault code) cutter
+ShowErrorReports expects limits stream (Wire (faults.HeadFault fault)) cutter =
+    WireFaultReports expects limits stream (faults.HeadFault fault) cutter
 ShowErrorReports expects limits stream (Wire (faults.PayloadFault code)) cutter =
     WireFaultReports expects limits stream (faults.PayloadFault code) cutter
 ShowErrorReports expects limits stream (Wire faults.Memory) cutter = Unit {0}
@@ -65,7 +65,7 @@ ViewerFails cutter blocks octets error new_cutter =
 -- The error is a fault of the stream: neither out of memory nor a failed write.
 abbrev pub IsStreamFault : ShowError → Type 0
 IsStreamFault (Wire faults.BadPreface) = Unit {0}
-IsStreamFault (Wire (faults.HeadFault code)) = Unit {0}
+IsStreamFault (Wire (faults.HeadFault fault)) = Unit {0}
 IsStreamFault (Wire (faults.PayloadFault code)) = Unit {0}
 IsStreamFault (Wire faults.Memory) = ⊥
 IsStreamFault (Block (errors.Fault code)) = Unit {0}

@@ -180,7 +180,11 @@ impl Viewer {
                 Err(io::Error::from(ErrorKind::OutOfMemory))
             }
             ShowError::Wire(WireFault::BadPreface) => self.show_fault(Code::ProtocolError, out),
-            ShowError::Wire(WireFault::HeadFault(code) | WireFault::PayloadFault(code))
+            ShowError::Wire(WireFault::HeadFault(fault)) => {
+                self.preface.advance(true, out)?;
+                self.show_fault(fault.code(), out)
+            }
+            ShowError::Wire(WireFault::PayloadFault(code))
             | ShowError::Block(BlockError::Fault(code)) => {
                 self.preface.advance(true, out)?;
                 self.show_fault(code, out)

@@ -36,7 +36,8 @@ pub use Rattle.h2_frame.specs.Frames.{Continuation, Data, Frame, GoAway, Headers
 pub use Rattle.h2_frame.specs.Frames.{Reset, Settings, WindowUpdate, Unknown}
 pub use Rattle.h2_frame.specs.declared.code.Code.TheVariants.{EnhanceYourCalm, FlowControlError}
 pub use Rattle.h2_frame.specs.declared.code.Code.TheVariants.{InternalError, NoError, ProtocolError}
-pub use Rattle.h2_frame.specs.declared.code.Code.TheVariants.{StreamClosed, FrameSizeError}
+pub use Rattle.h2_frame.specs.declared.code.Code.TheVariants.{StreamClosed}
+pub use Rattle.h2_frame.specs.declared.head_faults.HeadFault.TheVariants.{WrongLength}
 pub use Rattle.h2_spec_log.specs.Acts.{Act, ChangeSettings, Count, Done, Number, Open, OutOfMemory}
 pub use Rattle.h2_spec_log.specs.Acts.{PutOut, Refuse, Refused, Release, ResetStream, SendData}
 pub use Rattle.h2_spec_log.specs.Acts.{SendFields, SendGoAway, SendPing, Values, Answer, Fail}

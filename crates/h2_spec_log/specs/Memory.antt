@@ -4,7 +4,7 @@
 -- contract: h2_conn::Conn::take
 use Rattle.std.specs.Prelude.{◌≡◌, ◌≢◌, ◌&&◌, nat_lt, Bool, true, false, ℕ, List, [], ◌++◌}
 use Rattle.std.specs.Prelude.{length, None, ◌+◌}
-use Rattle.h2_frame.specs.declared.code.Code.{Code}
+use Rattle.h2_frame.specs.declared.head_faults.HeadFault.{HeadFault}
 use Rattle.h2_frame.specs.Frames.{Frame, Data, Reset, Settings, Ping}
 use Rattle.h2_frame.specs.Encoding.{payload_of}
 use Rattle.h2_wire.specs.Streams.{preface, GoesPastPreface}
@@ -83,5 +83,5 @@ cutter_of log =
 pub record KeepsOctets (log : Log) (octets : List ℕ) : Type 0 where
   pub some : octets ≢ []
   pub past_preface : (cutter_of log).in_preface ≡ true → GoesPastPreface (log.unparsed ++ octets)
-  pub no_faulty_head : (code : Code) → FaultsAtHead (cutter_of log) octets code → ⊥
+  pub no_faulty_head : (fault : HeadFault) → FaultsAtHead (cutter_of log) octets fault → ⊥
   pub cut_in_two : BeginsWithFrame (cutter_of log) octets → ⊥

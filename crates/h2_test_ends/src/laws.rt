@@ -1,12 +1,14 @@
 //! Laws are functions that do nothing: each is called.
 
 use h2_ends::{parts_are_sent_at_once, sent_parts_are_readable, shares_are_given_in_turn};
+use h2_laws_why::one_reason;
 use h2_message::sent_messages_are_well_read;
 use h2_replay::{
     calls_of_a_replay, events_of_a_replay, fault_of_a_replay, output_of_a_replay,
     turns_are_of_the_log, windows_of_a_replay,
 };
 
+// rule: 5.4.1 (own) A connection that has failed says why
 // rule: 8.1 (own) A message that breaks no rule as sent breaks none as read
 // rule: 8.1 (own) What has come of a message that breaks no rule can be read
 // rule: 8.1 (own) A part of a message is sent where one was begun, and is checked
@@ -17,6 +19,7 @@ fn laws_are_called() {
     sent_parts_are_readable();
     parts_are_sent_at_once();
     shares_are_given_in_turn();
+    one_reason();
     turns_are_of_the_log();
     output_of_a_replay();
     events_of_a_replay();

@@ -5,7 +5,7 @@ use crate::lists::{answer, request};
 use crate::prefix::are_prefixes;
 use crate::record::{Record, Scenario, holds};
 use crate::walk::{Seen, note_seen, seen_of, without_goaway};
-use h2_ends::{Code, Conn, Message};
+use h2_ends::{Code, Conn, Message, Why};
 use h2_joined::{Acted, Config, EndEvent, Joined, JointAct, Side};
 use std::alloc::{AllocError, Global};
 
@@ -100,6 +100,7 @@ fn check_told(joined: &mut Joined, from: Side, record: &mut Record) {
 /// A connection has failed with INTERNAL_ERROR: GOAWAY is the last of its output.
 fn check_output(conn: &Conn, record: &mut Record) {
     record.check(conn.failed() == Some(Code::InternalError));
+    record.check(conn.why() == Some(Why::OutOfMemory));
     let (first, second) = conn.waiting_octets();
     let mut out = Vec::new(record.alloc);
     record.check(out.extend_from_slice(first).is_ok() && out.extend_from_slice(second).is_ok());

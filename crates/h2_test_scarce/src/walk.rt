@@ -4,7 +4,7 @@ use crate::call::{CLOSED, Call, Given, MEMORY, is_done_in_parts, is_refuse, make
 use crate::end::{End, Kind, new_end};
 use crate::lists::Lists;
 use crate::record::{Record, Scenario, holds};
-use h2_ends::{Code, Conn, Message};
+use h2_ends::{Code, Conn, Message, Why};
 use std::alloc::{AllocError, Global};
 
 /// What can be read of a connection.
@@ -16,6 +16,7 @@ pub(crate) struct Seen {
     next_live: Option<u32>,
     next_number: Option<u32>,
     failed: Option<Code>,
+    why: Option<Why>,
     /// Of streams 1, 3 and 5.
     room: [Option<i64>; 3],
     owed: [u32; 3],
@@ -30,6 +31,7 @@ pub(crate) fn seen_of(conn: &Conn) -> Seen {
         next_live: conn.next_live(0),
         next_number: conn.next_number(),
         failed: conn.failed(),
+        why: conn.why(),
         room: [conn.room(1), conn.room(3), conn.room(5)],
         owed: [conn.owed(1), conn.owed(3), conn.owed(5)],
     }
@@ -69,6 +71,7 @@ fn check_failed(end: &mut End, waiting: usize, record: &mut Record) {
     record.fail();
     let all = waiting.saturating_add(GOAWAY);
     record.check(end.conn().waiting() == all);
+    record.check(end.conn().why() == Some(Why::OutOfMemory));
     record.check(end.ping() == Err(CLOSED));
     record.check(end.go_away() == Err(CLOSED));
     let taken = end.take(b"", record);
@@ -89,6 +92,7 @@ fn check_failed(end: &mut End, waiting: usize, record: &mut Record) {
     };
     record.check(given == Ok(all) && out.len() == all && end.conn().waiting() == 0);
     record.check(without_goaway(&out).is_some());
+    record.check(end.conn().why() == Some(Why::OutOfMemory));
 }
 
 /// Takes all octets of a piece.

@@ -44,8 +44,8 @@ pub fn read_frame<'a>(nine: &[u8; 9], payload: &'a [u8]) -> Result<Option<FrameR
         Carries (head_of nine.now) payload.now (frame_of frame))) }
 {
     let head = head(nine);
-    if let Some(code) = head_fault(&head, 16_384) {
-        return Err(code);
+    if let Some(fault) = head_fault(&head, 16_384) {
+        return Err(fault.code());
     }
     if payload.len() != head.length as usize {
         return Ok(None);
@@ -92,8 +92,8 @@ pub fn read_on<'a>(
         Carries (head_of nine.now) payload.now (frame_of frame))) }
 {
     let head = head(nine);
-    if let Some(code) = head_fault(&head, 16_384) {
-        return Err(code);
+    if let Some(fault) = head_fault(&head, 16_384) {
+        return Err(fault.code());
     }
     if payload.len() != head.length as usize {
         return Ok(None);

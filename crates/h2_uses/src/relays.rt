@@ -297,8 +297,8 @@ impl Passage {
 }
 
 // calling: h2_ends trailers
-/// Ends a message with trailers, whose body has gone. Returns whether that is done: where the output
-/// is full it is written, and the call made again.
+/// Ends a message with trailers, whose body has gone. Returns whether that is done: where the
+/// output is full it is written, and the call made again.
 fn end_with<S: Side>(to: &mut S, id: u32, trailers: &[Field]) -> Result<bool, EndRefusal> {
     match to.send_trailers(id, trailers) {
         Ok(()) => Ok(true),

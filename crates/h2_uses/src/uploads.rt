@@ -38,9 +38,9 @@ struct Sending<S> {
 }
 
 /// Posts what a source gives, whose length need not be known, on a new connection, and returns the
-/// answer, whose body has at most `limit` octets. The source is read no faster than the server takes
-/// it, and what comes is read where nothing can go. A server may answer before it has read all
-/// (RFC 9113, section 8.1): then the rest is not sent.
+/// answer, whose body has at most `limit` octets. The source is read no faster than the server
+/// takes it, and what comes is read where nothing can go. A server may answer before it has read
+/// all (RFC 9113, section 8.1): then the rest is not sent.
 ///
 /// # Errors
 ///

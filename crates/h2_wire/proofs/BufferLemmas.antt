@@ -4,6 +4,7 @@ use Names.{◌≡◌, ◌≢◌, ℕ, ◌+◌, ◌-◌, ◌<◌, ◌≤◌, Bool
 use Names.{Option, None, Some, MatchOption, Result, Ok, Err, refl, arith, length-append}
 use Names.{length-take, length-drop, append_assoc, subst, ap, sym, ◌∙◌, take_rest, take-append-drop}
 use Names.{drop-append_seam, Code, WireFault, Buffer, Phase, Head, head_of, head_fault, Frame}
+use Names.{HeadFault}
 use Names.{Encodes, payload_fault, pad_of, head_of-append, Limits, IsAfterPreface, IsPartial}
 use Names.{CutterState, saturated, CutterRepresents, CutterFaults, CutterFails, CutterPasses}
 use Names.{CutterCompletes, octets_of, octets_at, Source, Complete, Advance, state_of, unparsed_of}
@@ -36,11 +37,11 @@ fails_preface old piece new sound failed_now =
     if_first old.fault (CutterFaults old piece faults.BadPreface new)
     (λ known. new ≡ old) sound failed_now
 
-pub fails_head : (old : CutterState) (piece : List ℕ) (code : Code) (new : CutterState)
-    → old.fault ≡ None → CutterFaults old piece (faults.HeadFault code) new
-    → CutterFails old piece (faults.HeadFault code) new
-fails_head old piece code new sound failed_now =
-    if_first old.fault (CutterFaults old piece (faults.HeadFault code) new)
+pub fails_head : (old : CutterState) (piece : List ℕ) (fault : HeadFault) (new : CutterState)
+    → old.fault ≡ None → CutterFaults old piece (faults.HeadFault fault) new
+    → CutterFails old piece (faults.HeadFault fault) new
+fails_head old piece fault new sound failed_now =
+    if_first old.fault (CutterFaults old piece (faults.HeadFault fault) new)
     (λ known. new ≡ old) sound failed_now
 
 pub fails_payload : (old : CutterState) (piece : List ℕ) (code : Code) (new : CutterState)

@@ -2,8 +2,8 @@
 use Rattle.h2_wire.proofs.Names.{◌≡◌, ℕ, ◌+◌, ◌<◌, length, length-drop, Bool, true, false, List, []}
 use Rattle.h2_wire.proofs.Names.{drop, Option, None, Some, IfSome, Result, Ok, Err, refl, ap, arith}
 use Rattle.h2_wire.proofs.Names.{inl, inr, take_all, Head, head_of, Frame, frame_of, Carries}
-use Rattle.h2_wire.proofs.Names.{Encodes, Complete, Code, WireFault, CutterState, CutterRepresents}
-use Rattle.h2_wire.proofs.Names.{CutterPasses, CutterCompletes, octets_of}
+use Rattle.h2_wire.proofs.Names.{Encodes, Complete, HeadFault, WireFault, CutterState}
+use Rattle.h2_wire.proofs.Names.{CutterRepresents, CutterPasses, CutterCompletes, octets_of}
 use Rattle.h2_wire.specs.Streams.{preface, expected_preface}
 use Rattle.std.proofs.Common.{◌^◌, lit<}
 use Rattle.h2_frame.specs.declared.frame.FrameRef.{FrameRef}
@@ -55,21 +55,21 @@ failed_again A B None fault failed = tt
 failed_again A B (Some first) fault failed = let same : fault ≡ first = cc in ap Err same
 
 -- Where a call answered otherwise than by a fault no head was at fault.
-pub not_checked : {A B : Type 0} (Checked : Code → Type 0) (one : A) (other : B)
-    → ((code : Code) → Checked code
-    → ◌≡◌ {A = Result A WireFault} (Ok one) (Err (faults.HeadFault code)))
-    → (code : Code) → Checked code
-    → ◌≡◌ {A = Result B WireFault} (Ok other) (Err (faults.HeadFault code))
-not_checked Checked one other checked code faulty = let never = checked code faulty in (cc)
+pub not_checked : {A B : Type 0} (Checked : HeadFault → Type 0) (one : A) (other : B)
+    → ((head : HeadFault) → Checked head
+    → ◌≡◌ {A = Result A WireFault} (Ok one) (Err (faults.HeadFault head)))
+    → (head : HeadFault) → Checked head
+    → ◌≡◌ {A = Result B WireFault} (Ok other) (Err (faults.HeadFault head))
+not_checked Checked one other checked head faulty = let never = checked head faulty in (cc)
 
 -- a head at fault that was reported below is reported above
-pub checked_again : (A B : Type 0) (Checked : Code → Type 0) (fault : WireFault)
-    → ((code : Code) → Checked code
-    → ◌≡◌ {A = Result A WireFault} (Err fault) (Err (faults.HeadFault code)))
-    → (code : Code) → Checked code
-    → ◌≡◌ {A = Result B WireFault} (Err fault) (Err (faults.HeadFault code))
-checked_again A B Checked fault checked code faulty =
-    let reported = checked code faulty in let same : fault ≡ faults.HeadFault code = cc in
+pub checked_again : (A B : Type 0) (Checked : HeadFault → Type 0) (fault : WireFault)
+    → ((head : HeadFault) → Checked head
+    → ◌≡◌ {A = Result A WireFault} (Err fault) (Err (faults.HeadFault head)))
+    → (head : HeadFault) → Checked head
+    → ◌≡◌ {A = Result B WireFault} (Err fault) (Err (faults.HeadFault head))
+checked_again A B Checked fault checked head faulty =
+    let reported = checked head faulty in let same : fault ≡ faults.HeadFault head = cc in
     ap Err same
 
 -- what is known where memory was refused below is known above

@@ -4,6 +4,7 @@ use Rattle.h2_wire.proofs.Names.{Option, Some, refl, ap, sym, ◌∙◌, inl, in
 use Rattle.h2_wire.proofs.Names.{length-append, length-take, take-append-drop, Code, head_of}
 use Rattle.h2_wire.proofs.Names.{head_fault, Frame, head_of-append, WireFault, Limits, IsSound}
 use Rattle.h2_wire.proofs.Names.{IsPartial, IsInsidePreface, IsAfterPreface, Frames, EndsWithFault}
+use Rattle.h2_wire.proofs.Names.{HeadFault}
 use Rattle.std.proofs.Common.{suc}
 use Rattle.h2_wire.specs.Streams.{IsWrongPreface, WireFaultAt}
 use Rattle.h2_wire.proofs.ReadingLemmas.{none_some, same_prefix, same_following, same_head}
@@ -12,14 +13,14 @@ use Rattle.h2_wire.proofs.ReadingLemmas.{one_past}
 use Rattle.h2_wire.specs.declared.fault.WireFault.TheVariants as faults
 
 -- no head at fault begins a partial frame
-pub partial_no_head : (limit : ℕ) (prefix more : List ℕ) (code : Code)
+pub partial_no_head : (limit : ℕ) (prefix more : List ℕ) (fault : HeadFault)
     → IsPartial limit (prefix ++ more) → length prefix ≡ 9
-    → head_fault (head_of prefix) limit ≡ Some code → ⊥
-partial_no_head limit prefix more code partial nine faulty =
+    → head_fault (head_of prefix) limit ≡ Some fault → ⊥
+partial_no_head limit prefix more fault partial nine faulty =
     let sound = (partial (omega (arith, length-append prefix more))).0 in
     let same : head_of (prefix ++ more) ≡ head_of prefix =
     head_of-append prefix more (omega arith) in
-    none_some code (sym (rw same at sound) ∙ faulty)
+    none_some fault (sym (rw same at sound) ∙ faulty)
 
 -- no complete frame begins a partial frame
 pub partial_no_frame : (limit : ℕ) (prefix more : List ℕ) → IsPartial limit (prefix ++ more)
@@ -135,7 +136,7 @@ module _ (expects : Bool) (limits : Limits) (frames afters : List Frame)
       let ours = simp length-append at (ap length made.reads) in
       let theirs = simp length-append at (ap length again.reads) in
       (made.none ∙ sym again.none, omega (arith, ours, theirs, prefixes), refl)
-  one_making faults.BadPreface (faults.HeadFault code) made again joined =
+  one_making faults.BadPreface (faults.HeadFault head) made again joined =
       absurd (sound_no_wrong expects limits afters frames again.part
       (again.last ++ following) octets beyond again.sound made
       (sym (joined ∙ ap (λ (w : List ℕ). w ++ following) again.joined
@@ -146,45 +147,45 @@ module _ (expects : Bool) (limits : Limits) (frames afters : List Frame)
       (sym (joined ∙ ap (λ (w : List ℕ). w ++ following) again.joined
       ∙ append_assoc again.part again.last following)))
   one_making faults.BadPreface faults.Memory made again joined = absurd again
-  one_making (faults.HeadFault code) faults.BadPreface made again joined =
+  one_making (faults.HeadFault head) faults.BadPreface made again joined =
       absurd (sound_no_wrong expects limits frames afters made.part
       (made.last ++ beyond) others following made.sound again
       (sym (sym joined ∙ ap (λ (w : List ℕ). w ++ beyond) made.joined
       ∙ append_assoc made.part made.last beyond)))
-  one_making (faults.HeadFault code) (faults.HeadFault other) made again joined =
+  one_making (faults.HeadFault head) (faults.HeadFault other) made again joined =
       let one = one_past expects limits (octets ++ beyond) frames afters made.part again.part
       (made.last ++ beyond) (again.last ++ following)
       (ap (λ (w : List ℕ). w ++ beyond) made.joined ∙ append_assoc made.part made.last beyond)
       (joined ∙ ap (λ (w : List ℕ). w ++ following) again.joined
       ∙ append_assoc again.part again.last following) made.sound again.sound
-      (wrong_head_stops _ made.last beyond code made.nine made.faulty)
+      (wrong_head_stops _ made.last beyond head made.nine made.faulty)
       (wrong_head_stops _ again.last following other again.nine again.faulty) in
       let same : head_of made.last ≡ head_of again.last =
       same_head made.last again.last beyond following (omega (arith, made.nine))
       (omega (arith, again.nine)) one.2 in
-      let codes : ◌≡◌ {A = Option Code} (Some code) (Some other) = sym made.faulty
+      let heads : ◌≡◌ {A = Option HeadFault} (Some head) (Some other) = sym made.faulty
       ∙ rw (one.1, same) again.faulty in
       let parts : length made.part ≡ length again.part = ap length one.1 in
       let ours = simp length-append at (ap length made.joined) in
       let theirs = simp length-append at (ap length again.joined) in
-      let code_same : code ≡ other = cc in (
+      let head_same : head ≡ other = cc in (
         one.0,
         omega (arith, ours, theirs, parts, made.nine, again.nine),
-        ap faults.HeadFault code_same,
+        ap faults.HeadFault head_same,
       )
-  one_making (faults.HeadFault code) (faults.PayloadFault other) made again joined =
+  one_making (faults.HeadFault head) (faults.PayloadFault other) made again joined =
       let one = one_past expects limits (octets ++ beyond) frames afters made.part again.part
       (made.last ++ beyond) (again.last ++ following)
       (ap (λ (w : List ℕ). w ++ beyond) made.joined ∙ append_assoc made.part made.last beyond)
       (joined ∙ ap (λ (w : List ℕ). w ++ following) again.joined
       ∙ append_assoc again.part again.last following) made.sound again.sound
-      (wrong_head_stops _ made.last beyond code made.nine made.faulty)
+      (wrong_head_stops _ made.last beyond head made.nine made.faulty)
       (wrong_payload_stops _ again.last following other again.complete again.faulty) in
       let same : head_of made.last ≡ head_of again.last =
       same_head made.last again.last beyond following (omega (arith, made.nine))
       (omega (arith, again.complete)) one.2 in
-      none_some code (sym (rw (one.1, same) again.sound_head) ∙ made.faulty)
-  one_making (faults.HeadFault code) faults.Memory made again joined = absurd again
+      none_some head (sym (rw (one.1, same) again.sound_head) ∙ made.faulty)
+  one_making (faults.HeadFault head) faults.Memory made again joined = absurd again
   one_making (faults.PayloadFault code) faults.BadPreface made again joined =
       absurd (sound_no_wrong expects limits frames afters made.part
       (made.last ++ beyond) others following made.sound again
@@ -237,19 +238,19 @@ module _ (expects : Bool) (limits : Limits) (octets beyond stream unparsed : Lis
   no_reading faults.BadPreface made joined (inr past) =
       sound_no_wrong expects limits frames preceding past.part unparsed octets beyond past.sound
       made (sym past.joined ∙ joined)
-  no_reading (faults.HeadFault code) made joined (inl short) =
+  no_reading (faults.HeadFault head) made joined (inl short) =
       let counted =
       simp length-append at (ap length (joined ∙ ap (λ (w : List ℕ). w ++ beyond) made.joined
       ∙ ap (λ (w : List ℕ). (w ++ made.last) ++ beyond) made.sound.opened)) in
       let few = short.short in
       omega (arith, counted, few)
-  no_reading (faults.HeadFault code) made joined (inr past) =
+  no_reading (faults.HeadFault head) made joined (inr past) =
       let one = one_past expects limits stream preceding frames made.part past.part
       (made.last ++ beyond) unparsed (joined ∙ ap (λ (w : List ℕ). w ++ beyond) made.joined
       ∙ append_assoc made.part made.last beyond) past.joined made.sound past.sound
-      (wrong_head_stops _ made.last beyond code made.nine made.faulty)
+      (wrong_head_stops _ made.last beyond head made.nine made.faulty)
       (partial_stops _ unparsed past.partial) in
-      partial_no_head (limits (length made.part + 9)) made.last beyond code
+      partial_no_head (limits (length made.part + 9)) made.last beyond head
       (rw (one.1, one.2) past.partial) made.nine made.faulty
   no_reading (faults.PayloadFault code) made joined (inl short) =
       let counted =

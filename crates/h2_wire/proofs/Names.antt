@@ -3,6 +3,7 @@ pub use Rattle.h2_frame.proofs.HeadLemmas.{form_fault-head_fault, head_of-append
 pub use Rattle.h2_frame.specs.Frames.{Carries, Encodes, Frame, frame_of, pad_of, payload_fault}
 pub use Rattle.h2_frame.specs.Heads.{head_fault, head_of}
 pub use Rattle.h2_frame.specs.declared.code.Code.{Code}
+pub use Rattle.h2_frame.specs.declared.head_faults.HeadFault.{HeadFault}
 pub use Rattle.h2_frame.specs.declared.heads.Head.{Head}
 pub use Rattle.h2_wire.specs.Buffer.{fault_of, FitsPhase, is_in_preface, IsPartialPayload, state_of}
 pub use Rattle.h2_wire.specs.Buffer.{unparsed_of}

@@ -4,6 +4,7 @@ use Rattle.h2_wire.proofs.Names.{drop, Option, None, Some, refl, ap, sym, ◌∙
 use Rattle.h2_wire.proofs.Names.{append_assoc, length-append, drop-append_seam, Code, head_of}
 use Rattle.h2_wire.proofs.Names.{head_fault, Frame, Encodes, payload_fault, head_of-append}
 use Rattle.h2_wire.proofs.Names.{expected_preface, Limits, IsFrame, AreFrames, IsSound, IsPartial}
+use Rattle.h2_wire.proofs.Names.{HeadFault}
 use Rattle.std.proofs.Math.Seq.{take-append_seam}
 use Rattle.h2_frame.proofs.FrameLemmas.{one_frame_lem}
 
@@ -12,13 +13,14 @@ pub some_frames : (frames : List Frame) (last : Frame) → frames ++ last ∷ []
 some_frames [] last none = cc
 some_frames (frame ∷ frames) last none = cc
 
--- none is no code
-pub none_some : {Goal : Type 0} (code : Code) → ◌≡◌ {A = Option Code} None (Some code) → Goal
-none_some code e = (cc)
+-- none is no fault
+pub none_some : {A Goal : Type 0} (fault : A) → ◌≡◌ {A = Option A} None (Some fault) → Goal
+none_some fault e = (cc)
 
--- some code is one code
-pub one_code : (code other : Code) → ◌≡◌ {A = Option Code} (Some code) (Some other) → code ≡ other
-one_code code other e = cc
+-- some fault is one fault
+pub one_some : {A : Type 0} (fault other : A) → ◌≡◌ {A = Option A} (Some fault) (Some other)
+    → fault ≡ other
+one_some fault other e = cc
 
 module _ (xs ys unparsed others : List ℕ) where
   -- Two prefixes of one length of one list are one.
@@ -62,15 +64,15 @@ partial_stops limit unparsed partial frame prefix more joined sound =
     absurd (omega arith)
 
 -- a head at fault stops
-pub wrong_head_stops : (limit : ℕ) (last more : List ℕ) (code : Code) → length last ≡ 9
-    → head_fault (head_of last) limit ≡ Some code → Stops limit (last ++ more)
-wrong_head_stops limit last more code nine faulty frame prefix others joined sound =
+pub wrong_head_stops : (limit : ℕ) (last more : List ℕ) (fault : HeadFault) → length last ≡ 9
+    → head_fault (head_of last) limit ≡ Some fault → Stops limit (last ++ more)
+wrong_head_stops limit last more fault nine faulty frame prefix others joined sound =
     let same : head_of last ≡ head_of prefix =
     same_head last prefix more others (omega arith)
     (nine_in_frame limit frame prefix sound) joined in
     let none : head_fault (head_of last) limit ≡ None = ap (λ head. head_fault head limit) same
     ∙ sound.sound_head in
-    none_some code (sym none ∙ faulty)
+    none_some fault (sym none ∙ faulty)
 
 -- a payload at fault stops
 pub wrong_payload_stops : (limit : ℕ) (last more : List ℕ) (code : Code)

@@ -7,6 +7,7 @@ use Rattle.h2_wire.proofs.Names.{length-take, take-append-drop, Code, Head, head
 use Rattle.h2_wire.proofs.Names.{Frame, payload_fault, head_of-append, Limits, IsFrame, IsPartial}
 use Rattle.h2_wire.proofs.Names.{IsAfterPreface, EndsWithFault, CutterState, saturated}
 use Rattle.h2_wire.proofs.Names.{CutterRepresents, CutterContinues, Opens}
+use Rattle.h2_wire.proofs.Names.{HeadFault}
 use Rattle.h2_wire.specs.Streams.{preface, expected_preface}
 use Rattle.std.proofs.Common.{get_or}
 use Rattle.std.proofs.lemmas.Bool.{lt-ltb, false≢true}
@@ -225,15 +226,15 @@ head_of-take octets count nine enough =
     ∙ ap head_of (take-append-drop count octets)
 
 -- A head is at fault.
-pub wrong_head : (old : CutterState) (piece partial : List ℕ) (start : ℕ) (code : Code)
+pub wrong_head : (old : CutterState) (piece partial : List ℕ) (start : ℕ) (fault : HeadFault)
     → Opens old (take start piece) partial → length partial < 9
     → 9 ≤ length partial + length (drop start piece)
-    → head_fault (head_of (partial ++ drop start piece)) old.limit ≡ Some code
+    → head_fault (head_of (partial ++ drop start piece)) old.limit ≡ Some fault
     → (expects : Bool) (limits : Limits) (stream : List ℕ) (so_far : List Frame)
     → CutterRepresents old expects limits stream so_far
     → EndsWithFault expects limits so_far (stream ++ take (start + (9 - length partial)) piece)
-    (faults.HeadFault code)
-wrong_head old piece partial start code opens few enough faulty expects limits stream so_far
+    (faults.HeadFault fault)
+wrong_head old piece partial start fault opens few enough faulty expects limits stream so_far
     represented =
     let past = opens expects limits stream so_far represented in
     let missing : ℕ = 9 - length partial in

@@ -5,7 +5,7 @@ use Rattle.std.specs.Prelude.{◌≡◌, ℕ, ◌+◌, ◌-◌, ◌^◌, ◌<◌
 use Rattle.std.specs.Prelude.{List, [], ◌∷◌}
 use Rattle.std.specs.Prelude.{◌++◌, length, take, drop, Option, None, Some, MatchOption, IsSome}
 use Rattle.std.specs.Prelude.{Result, Ok, Err, true, false, ◌≤◌, if◌then◌else◌}
-use Rattle.h2_frame.specs.declared.code.Code.{Code}
+use Rattle.h2_frame.specs.declared.head_faults.HeadFault.{HeadFault}
 use Rattle.h2_frame.specs.Heads.{head_of, form_fault, head_fault}
 use Rattle.h2_frame.specs.Frames.{Frame, Data, Encodes, frame_of, payload_fault, pad_of}
 use Rattle.h2_wire.specs.declared.fault.WireFault.{WireFault}
@@ -98,9 +98,9 @@ pub record CutterLimited (old : CutterState) (limit : ℕ) (new : CutterState) :
 
 -- These octets begin with a head with this fault.
 -- rule: 4.2 A fault of a head is known at its ninth octet, whatever memory is
-pub record IsFaultyHead (octets : List ℕ) (limit : ℕ) (code : Code) : Type 0 where
+pub record IsFaultyHead (octets : List ℕ) (limit : ℕ) (fault : HeadFault) : Type 0 where
   pub nine : 9 ≤ length octets
-  pub faulty : head_fault (head_of octets) limit ≡ Some code
+  pub faulty : head_fault (head_of octets) limit ≡ Some fault
 
 -- The octets of frames that a call looks at: what is unparsed, and the piece; where the preface is
 -- expected, what follows it.
@@ -111,11 +111,11 @@ frame_octets old piece =
 -- With no fault so far, and with the preface, where it is expected, complete in the piece: the
 -- ninth octet of a head is in the piece, and the head is at fault.
 -- rule: 4.2 A fault of a head is known at its ninth octet, whatever memory is
-pub record FaultsAtHead (old : CutterState) (piece : List ℕ) (code : Code) : Type 0 where
+pub record FaultsAtHead (old : CutterState) (piece : List ℕ) (fault : HeadFault) : Type 0 where
   pub sound : old.fault ≡ None
   pub with_preface : old.in_preface ≡ true → BeginsWithPreface (old.unparsed ++ piece)
   pub begun : old.in_preface ≡ false → length old.unparsed < 9
-  pub head : IsFaultyHead (frame_octets old piece) old.limit code
+  pub head : IsFaultyHead (frame_octets old piece) old.limit fault
 
 -- With no fault so far, nothing unparsed, and with the preface, where it is expected, complete in
 -- the piece: a frame follows in the piece, a head and as many octets as it asks for.
@@ -188,8 +188,8 @@ abbrev pub CutterFails : CutterState → List ℕ → WireFault → CutterState 
 CutterFails old piece faults.Memory new = new ≡ record old { kept = new.kept }
 CutterFails old piece faults.BadPreface new =
     MatchOption old.fault (CutterFaults old piece faults.BadPreface new) (λ known. new ≡ old)
-CutterFails old piece (faults.HeadFault code) new =
-    MatchOption old.fault (CutterFaults old piece (faults.HeadFault code) new) (λ known. new ≡ old)
+CutterFails old piece (faults.HeadFault fault) new =
+    MatchOption old.fault (CutterFaults old piece (faults.HeadFault fault) new) (λ known. new ≡ old)
 CutterFails old piece (faults.PayloadFault code) new =
     MatchOption old.fault (CutterFaults old piece (faults.PayloadFault code) new)
     (λ known. new ≡ old)

@@ -4,6 +4,7 @@
 use Rattle.std.specs.Prelude.{◌≡◌, ◌≢◌, ◌⊎◌, ℕ, ◌+◌, ◌<◌, ◌≤◌, Bool, if◌then◌else◌, List, [], ◌∷◌}
 use Rattle.std.specs.Prelude.{◌++◌, length, take, drop, None, Some}
 use Rattle.h2_frame.specs.declared.code.Code.{Code}
+use Rattle.h2_frame.specs.declared.head_faults.HeadFault.{HeadFault}
 use Rattle.h2_frame.specs.Heads.{head_of, head_fault}
 use Rattle.h2_frame.specs.Frames.{Frame, Encodes, payload_fault}
 use Rattle.h2_wire.specs.declared.fault.WireFault.{WireFault}
@@ -110,13 +111,13 @@ pub record IsWrongPreface (expects : Bool) (frames : List Frame) (octets : List 
 -- The octets are a sound part with the frames, and then the nine octets of a head with this fault.
 -- rule: 4.2 A fault of a head is known at its ninth octet, whatever memory is
 pub record IsWrongHead (expects : Bool) (limits : Limits) (frames : List Frame) (octets : List ℕ)
-    (code : Code) : Type 0 where
+    (fault : HeadFault) : Type 0 where
   pub part : List ℕ
   pub last : List ℕ
   pub joined : octets ≡ part ++ last
   pub sound : IsSound expects limits frames part
   pub nine : length last ≡ 9
-  pub faulty : head_fault (head_of last) (limits (length part + 9)) ≡ Some code
+  pub faulty : head_fault (head_of last) (limits (length part + 9)) ≡ Some fault
 
 -- The octets are a sound part with the frames, and then a frame with a sound head and this fault of
 -- its payload.
@@ -136,8 +137,8 @@ pub record IsWrongPayload (expects : Bool) (limits : Limits) (frames : List Fram
 -- rule: 4.2 A fault of a head is known at its ninth octet, whatever memory is
 abbrev pub EndsWithFault : Bool → Limits → List Frame → List ℕ → WireFault → Type 0
 EndsWithFault expects limits frames octets faults.BadPreface = IsWrongPreface expects frames octets
-EndsWithFault expects limits frames octets (faults.HeadFault code) =
-    IsWrongHead expects limits frames octets code
+EndsWithFault expects limits frames octets (faults.HeadFault fault) =
+    IsWrongHead expects limits frames octets fault
 EndsWithFault expects limits frames octets (faults.PayloadFault code) =
     IsWrongPayload expects limits frames octets code
 EndsWithFault expects limits frames octets faults.Memory = ⊥

@@ -3,7 +3,7 @@
 ghost use Rattle.std.specs.Prelude.{◌≡◌, ◌≢◌, ◌+◌, ◌<◌, ◌≤◌, ◌++◌, [], length, take, drop};
 ghost use Rattle.std.specs.Prelude.{IfSome};
 ghost use Rattle.std.specs.Prelude.{IfErr, OnOk, IsOk, None, Some, not, true, false};
-ghost use Rattle.h2_frame.specs.declared.code.Code.{Code as AnyCode};
+ghost use Rattle.h2_frame.specs.declared.head_faults.HeadFault.{HeadFault as AnyFault};
 ghost use Rattle.h2_frame.specs.Heads.{head_of, form_fault};
 ghost use Rattle.h2_wire.specs.Cutter.{saturated, IsFaultyHead, FaultsAtHead, BeginsWithFrame};
 ghost use Rattle.h2_wire.specs.Cutter.{octets_at};
@@ -81,8 +81,8 @@ impl Buffer {
     pub(crate) fn take(&mut self, piece: &[u8]) -> Result<Advance, WireFault>
         requires { BufferInvariant self.old }
         ensures failed { IfSome (fault_of self.old.phase) (λ fault. result ≡ Err fault) }
-        ensures checked { (code : AnyCode) → FaultsAtHead (state_of self.old) piece.now code
-            → result ≡ Err (WireFault.HeadFault code) }
+        ensures checked { (fault : AnyFault) → FaultsAtHead (state_of self.old) piece.now fault
+            → result ≡ Err (WireFault.HeadFault fault) }
         ensures preface { is_in_preface self.old.phase ≡ true → result ≡ Err WireFault.Memory
             → GoesPastPreface (unparsed_of self.old.phase self.old.octets.items ++ piece.now) }
         ensures lent { BeginsWithFrame (state_of self.old) piece.now
@@ -137,10 +137,10 @@ impl Buffer {
     fn take_preface(&mut self, matched: usize, piece: &[u8]) -> Result<Advance, WireFault>
         requires phase { self.old.phase ≡ Phase.Preface matched }
         requires invariant { BufferInvariant self.old }
-        ensures checked { (code : AnyCode)
+        ensures checked { (fault : AnyFault)
             → BeginsWithPreface (take matched preface ++ piece.now)
             → IsFaultyHead (drop (length preface) (take matched preface ++ piece.now))
-            self.old.limit code → result ≡ Err (WireFault.HeadFault code) }
+            self.old.limit fault → result ≡ Err (WireFault.HeadFault fault) }
         ensures preface { result ≡ Err WireFault.Memory
             → GoesPastPreface (unparsed_of self.old.phase self.old.octets.items ++ piece.now) }
         ensures lent { BeginsWithPreface (take matched preface ++ piece.now)
@@ -170,9 +170,9 @@ impl Buffer {
     #[inline(always)]
     fn take_head(&mut self, piece: &[u8], start: usize) -> Result<Advance, WireFault>
         requires starts { StartsFrame self.old piece.now start }
-        ensures checked { (code : AnyCode)
-            → IsFaultyHead (self.old.octets.items ++ drop start piece.now) self.old.limit code
-            → result ≡ Err (WireFault.HeadFault code) }
+        ensures checked { (fault : AnyFault)
+            → IsFaultyHead (self.old.octets.items ++ drop start piece.now) self.old.limit fault
+            → result ≡ Err (WireFault.HeadFault fault) }
         ensures lent { self.old.octets.items ≡ [] → 9 ≤ length (drop start piece.now)
             → 9 + (head_of (drop start piece.now)).length ≤ length (drop start piece.now)
             → result ≢ Err WireFault.Memory }
@@ -194,8 +194,8 @@ impl Buffer {
         octets[..kept].copy_from_slice(&self.octets);
         octets[kept..].copy_from_slice(&following[..lacking]);
         let head = head(&octets);
-        if let Some(code) = head_fault(&head, self.limit) {
-            return Err(self.fail(WireFault::HeadFault(code), start + lacking));
+        if let Some(fault) = head_fault(&head, self.limit) {
+            return Err(self.fail(WireFault::HeadFault(fault), start + lacking));
         }
         self.take_payload(piece, start, head)
     }

@@ -5,7 +5,7 @@ ghost use Rattle.std.specs.Prelude.{None, Some, IfOk};
 ghost use Rattle.std.specs.Prelude.{IsSome, IfSome, MatchOption};
 ghost use Rattle.std.specs.Borrow.{sem};
 ghost use Rattle.std.specs.Io.BufRead.{Rests};
-ghost use Rattle.h2_frame.specs.declared.code.Code.{Code};
+ghost use Rattle.h2_frame.specs.declared.head_faults.HeadFault.{HeadFault};
 ghost use Rattle.h2_frame.specs.Frames.{frame_of, Encodes};
 ghost use Rattle.h2_frame.specs.Encoding.{refusal};
 ghost use Rattle.h2_wire.specs.Cutter.{CutterRepresents, Cuts, FaultsAtHead, BeginsWithFrame};
@@ -75,8 +75,8 @@ impl Cutter {
         ensures failed { IfSome self.old.fault (λ fault. result ≡ Err fault) }
 
         // A head at fault is reported with its ninth octet, whatever memory there is.
-        ensures checked { (code : Code) → FaultsAtHead self.old piece.now code
-            → result ≡ Err (WireFault.HeadFault code) }
+        ensures checked { (fault : HeadFault) → FaultsAtHead self.old piece.now fault
+            → result ≡ Err (WireFault.HeadFault fault) }
 
         // Memory is refused inside the preface only where more than its octets has come.
         ensures preface { self.old.in_preface ≡ true → result ≡ Err WireFault.Memory
@@ -168,8 +168,8 @@ impl Cutter {
         ensures failed { IfSome self.old.fault (λ fault. result ≡ Err fault) }
 
         // A head at fault is reported with its ninth octet, whatever memory there is.
-        ensures checked { (code : Code) → FaultsAtHead self.old piece.now code
-            → result ≡ Err (WireFault.HeadFault code) }
+        ensures checked { (fault : HeadFault) → FaultsAtHead self.old piece.now fault
+            → result ≡ Err (WireFault.HeadFault fault) }
 
         // Memory is refused inside the preface only where more than its octets has come.
         ensures preface { self.old.in_preface ≡ true → result ≡ Err WireFault.Memory

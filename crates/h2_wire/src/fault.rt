@@ -3,7 +3,7 @@
 ghost use Rattle.std.specs.Prelude.{◌≡◌};
 ghost use Rattle.h2_wire.specs.Faults.{wire_fault_code};
 
-use h2_frame::Code;
+use h2_frame::{Code, HeadFault};
 use std::alloc::AllocError;
 use thiserror::Error;
 
@@ -14,8 +14,8 @@ pub enum WireFault {
     #[error("V1 BadPreface: the stream doesn't begin with the preface")]
     BadPreface,
     /// A head is at fault, known at its ninth octet.
-    #[error("V2 HeadFault: {0}")]
-    HeadFault(Code),
+    #[error("V2 HeadFault: {code}", code = .0.code())]
+    HeadFault(HeadFault),
     /// A payload is at fault, known at its last octet.
     #[error("V3 PayloadFault: {0}")]
     PayloadFault(Code),
@@ -44,7 +44,8 @@ impl WireFault {
     {
         match self {
             WireFault::BadPreface => Code::ProtocolError,
-            WireFault::HeadFault(code) | WireFault::PayloadFault(code) => code,
+            WireFault::HeadFault(fault) => fault.code(),
+            WireFault::PayloadFault(code) => code,
             WireFault::Memory => Code::InternalError,
         }
     }

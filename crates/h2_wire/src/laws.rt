@@ -2,6 +2,7 @@
 
 ghost use Rattle.std.specs.Prelude.{◌≡◌, ℕ, ◌+◌, ◌≤◌, ◌++◌, Bool, List, length, drop, Some};
 ghost use Rattle.h2_frame.specs.declared.code.Code.{Code};
+ghost use Rattle.h2_frame.specs.declared.head_faults.HeadFault.{HeadFault};
 ghost use Rattle.h2_frame.specs.Heads.{head_of, head_fault};
 ghost use Rattle.h2_frame.specs.Frames.{Frame, payload_fault};
 ghost use Rattle.h2_wire.specs.declared.fault.WireFault.{WireFault as Fault};
@@ -51,9 +52,9 @@ pub fn no_reading_past_a_fault()
 pub fn nothing_in_a_partial_frame()
     ensures frame { (limit : ℕ) (prefix more : List ℕ) (frame : Frame)
         → IsPartial limit (prefix ++ more) → IsFrame limit frame prefix → ⊥ }
-    ensures head { (limit : ℕ) (prefix more : List ℕ) (code : Code)
+    ensures head { (limit : ℕ) (prefix more : List ℕ) (fault : HeadFault)
         → IsPartial limit (prefix ++ more) → length prefix ≡ 9
-        → head_fault (head_of prefix) limit ≡ Some code → ⊥ }
+        → head_fault (head_of prefix) limit ≡ Some fault → ⊥ }
     ensures payload { (limit : ℕ) (prefix more : List ℕ) (code : Code)
         → IsPartial limit (prefix ++ more) → length prefix ≡ 9 + (head_of prefix).length
         → payload_fault (head_of prefix) (drop 9 prefix) ≡ Some code → ⊥ }

@@ -18,7 +18,7 @@ use crate::octets::{add_frames, marked, read_octets, written_after};
 use crate::text::Text;
 use crate::words::Words;
 use h2_frame::{
-    Code, FrameRef, Head, Kind, Unwritable, head, head_fault, pad_length, payload_frame,
+    Code, FrameRef, Head, HeadFault, Kind, Unwritable, head, head_fault, pad_length, payload_frame,
     read_payload, write, write_ref,
 };
 use std::alloc::Global;
@@ -59,7 +59,7 @@ fn add_head_fault(words: &mut Words<'_>, text: &mut Text) {
         flags,
         stream,
     };
-    add_code(text, head_fault(&read, LIMIT));
+    add_code(text, head_fault(&read, LIMIT).map(HeadFault::code));
 }
 
 // Adds the name of a code.
@@ -135,8 +135,8 @@ fn add_read_frame(text: &mut Text, read: &Head, frame: FrameRef<'_>) {
 
 // Adds the frame of a payload, or its fault.
 fn add_payload(text: &mut Text, words: &mut Words<'_>, read: &Head, payload: &[u8]) {
-    if let Some(code) = head_fault(read, LIMIT) {
-        text.push_labeled("fault of a head: ", code);
+    if let Some(fault) = head_fault(read, LIMIT) {
+        text.push_labeled("fault of a head: ", fault.code());
         return;
     }
     if payload.len() != read.length as usize {

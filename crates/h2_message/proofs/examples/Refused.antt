@@ -29,14 +29,14 @@ of_heads : rules_after Requests [] (
 unfolding computing
 of_heads = refl
 
--- After the head: a field block breaks the rules of trailers, then M11 where octets are missing,
--- then M12 without END_STREAM; DATA breaks M11.
+-- After the head: a field block breaks the rules of trailers, then M11 where octets are missing at
+-- END_STREAM, then M12 without it; DATA breaks M11.
 of_bodies : rules_after Requests (block (r ++ five) false ∷ data_of 4 false ∷ []) (
     data_of 1 true ∷ data_of 1 false ∷ data_of 0 false ∷ data_of 2 false ∷ data_of 2 true
     ∷ data_of 0 true ∷ block trailer true ∷ block trailer false ∷ block r true
     ∷ block (field "te" "x" ∷ []) false ∷ [])
     ≡ None ∷ None ∷ None ∷ Some BadLength ∷ Some BadLength ∷ Some BadLength ∷ Some BadLength
-    ∷ Some BadLength ∷ Some PseudoPlace ∷ Some ConnectionField ∷ []
+    ∷ Some BadOrder ∷ Some PseudoPlace ∷ Some ConnectionField ∷ []
 unfolding computing
 of_bodies = refl
 

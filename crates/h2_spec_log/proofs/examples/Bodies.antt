@@ -6,7 +6,7 @@ use Names.{arith, List, None, Some, [], codes, false, negsuc, pos, refl, replica
 use Names.{◌∷◌, ◌≡◌, empty_table, Data, Settings, FlowControlError, ProtocolError, Item, alone}
 use Names.{DataEvent, FieldsEvent, ResetEvent, Log, recv_window, send_window, opened, log_view}
 use Names.{ConnectionFault, NoEvent, Reported, StreamFault, takes, takes_block, Server, ℤ}
-use Names.{FrameSizeError, StreamClosed, WireFaultAt, AckedEvent, StreamView}
+use Names.{WrongLength, StreamClosed, WireFaultAt, AckedEvent, StreamView}
 use Rattle.h2_spec_log.proofs.Computing.{computing}
 use Rattle.h2_spec_log.proofs.examples.Blocks.{resetting_server, server_with_third}
 use Rattle.h2_spec_log.proofs.examples.Ends.{active_octets, active_output, active_server}
@@ -164,7 +164,7 @@ no_pad_length = octets (codes "000000 00 08 00000001")
 -- rule: 6.1 Padding as long as the payload of DATA, or longer, is PROTOCOL_ERROR
 faults_of_padding :
     WireFaultAt false (λ place. 16384) long_pad [] 14 (PayloadFault ProtocolError)
-    × WireFaultAt false (λ place. 16384) no_pad_length [] 9 (HeadFault FrameSizeError)
+    × WireFaultAt false (λ place. 16384) no_pad_length [] 9 (HeadFault WrongLength)
 unfolding computing
 faults_of_padding = (
   record {

@@ -9,7 +9,7 @@ use Names.{Some, None, [], false, map, refl, replicate, true, ◌++◌, ◌∷�
 use Names.{ap, InternalError, NoError, Continuation, Data, GoAway, Headers, Ping, Priority, Reset}
 use Names.{Settings, WindowUpdate, Done, Open, OutOfMemory, PutOut, Refuse, Refused, ResetStream}
 use Names.{SendData, SendFields, SendPing, DataEvent, FieldsEvent, with_call, log_view, alone}
-use Names.{completes, Log, NoEvent, Reported, ◌≤◌, ◌<◌, FrameSizeError, Unknown, preface}
+use Names.{completes, Log, NoEvent, Reported, ◌≤◌, ◌<◌, WrongLength, Unknown, preface}
 use Names.{may_fail_for_memory, may_lack_memory, fails, lacks, took_out_of_memory, Memory}
 use Rattle.h2_spec_log.proofs.Computing.{computing}
 use Rattle.h2_spec_log.proofs.examples.Blocks.{resetting_server}
@@ -207,7 +207,7 @@ unfolding computing
 part_of_a_frame_is_kept = record {
   some = λ none. cc;
   past_preface = λ inside. cc;
-  no_faulty_head = λ code faulty. let is : None ≡ Some code = faulty.head.faulty in cc;
+  no_faulty_head = λ fault faulty. let is : None ≡ Some fault = faulty.head.faulty in cc;
   cut_in_two = λ begins. let whole : 10 ≤ 9 = begins.whole in omega (arith, whole);
 }
 
@@ -226,7 +226,7 @@ whole_frame_is_not_kept keeps =
 faulty_head_is_not_kept : KeepsOctets active_server (0 ∷ 0 ∷ 1 ∷ 6 ∷ 0 ∷ 0 ∷ 0 ∷ 0 ∷ 0 ∷ []) → ⊥
 unfolding computing
 faulty_head_is_not_kept keeps =
-    keeps.no_faulty_head FrameSizeError (record {
+    keeps.no_faulty_head WrongLength (record {
       sound = refl;
       with_preface = λ inside. cc;
       begun = λ past. omega arith;

@@ -8,9 +8,11 @@ use Rattle.h2_conn.proofs.SetLimits.{body_limited}
 use Rattle.h2_conn.proofs.TakeFrames.{HasBody, located, lies_there, frame_happens}
 use Rattle.h2_conn.proofs.TakeParts.{no_frame_taken, takes_octets, frame_taken, frame_stops}
 use Rattle.h2_conn.proofs.TakeParts.{cut_stopped, is_internal, not_internal}
-use Rattle.std.proofs.lemmas.Bool.{not-true, not-false}
 use Rattle.h2_conn.proofs.TakeMemory.{cutter_lacks}
 use Rattle.h2_conn.proofs.TakeSound.{frame_sound}
+use Rattle.h2_conn.proofs.Names.{log_view, Why}
+use Rattle.h2_conn.proofs.WhySeen.{before_seen, after_seen}
+use Rattle.h2_conn.proofs.PartsFit.{fit_of}
 use Rattle.h2_conn.proofs.taking.take_piece.Goals.{in-Some-event, in-None}
 use Rattle.h2_conn.proofs.taking.take_piece.Goals as goal
 
@@ -18,7 +20,8 @@ pub returns-in-Err-clause-takes : goal.returns-in-Err-clause-takes
 returns-in-Err-clause-takes c = λ octets body values log p.
     let fails = c.in-Err.ensures.advances in
     let code : c.code-code.result ≡ wire_fault_code c.in-Err.fault = c.code-code.ensures in
-    rw code (cut_stopped values _ _ _ _ log c.args.piece.now c.in-Err.fault p
+    rw (code, c.of_octets.ensures) (cut_stopped values _ _ _ _ log c.args.piece.now c.in-Err.fault
+    (fit_of values _ _ _ _ log p)
     (takes_octets values _ log p.machine c.requires.up c.requires.reported) fails
     (λ memory. cutter_lacks _ c.args.piece.now _ (ap Err memory) c.requires.cuts
     c.in-Err.ensures.checked c.in-Err.ensures.preface c.in-Err.ensures.lent c.in-Err.ensures.none)
@@ -93,13 +96,14 @@ returns-clause-takes c = λ octets body values log p.
     }) happens set (limit_in_range e sound.ranges) c.with-counted.ensures)
 
 -- A frame at fault is counted, and one for which memory was refused is not.
-pub returns-then-ne-clause-takes : goal.returns-then-ne-clause-takes
-returns-then-ne-clause-takes c = λ octets body values log p.
+pub returns-else-eq-clause-takes : goal.returns-else-eq-clause-takes
+returns-else-eq-clause-takes c = λ octets body values log p.
     let ends = rw c.in-Some.is at c.in-Ok.ensures.advances in
     let other : c.in-Err-take_frame.code ≢ InternalError =
-    not_internal _ (not-true _ (sym c.ne.ensures ∙ c.if-ne.true)) in
+    not_internal _ (sym c.eq.ensures ∙ c.if-eq.false) in
     frame_stops values _ _ _ _ log c.args.piece.now c.in-Ok.advance.used
-    (frame_of c.frame-frame.result) c.in-Err-take_frame.code p
+    (frame_of c.frame-frame.result) c.in-Err-take_frame.code
+    (fit_of values _ _ _ _ log p)
     (takes_octets values _ log p.machine c.requires.up c.requires.reported) c.requires.up
     (record {
       continues = ends.continues (frame_of c.frame-frame.result) c.frame-frame.ensures.value;
@@ -107,21 +111,27 @@ returns-then-ne-clause-takes c = λ octets body values log p.
       none = ends.none_unparsed;
     }) c.in-Err-take_frame.ensures c.with-counted.ensures (λ fault. refl)
     (λ same. absurd (other same))
+    (λ fault fails. ap (λ (why : Why). Some why) (c.rule_of_frame.ensures (log_view log)
+    (before_seen values _ log c.of-before.result p.machine c.requires.up c.of-before.ensures)
+    (after_seen values _ _ log (frame_of c.frame-frame.result) c.in-Err-take_frame.code p.machine
+    c.requires.up fails)))
+    (λ same. absurd (other same))
 
-pub returns-else-ne-clause-takes : goal.returns-else-ne-clause-takes
-returns-else-ne-clause-takes c = λ octets body values log p.
+pub returns-then-eq-clause-takes : goal.returns-then-eq-clause-takes
+returns-then-eq-clause-takes c = λ octets body values log p.
     let ends = rw c.in-Some.is at c.in-Ok.ensures.advances in
     let same : c.in-Err-take_frame.code ≡ InternalError =
-    is_internal _ (not-false _ (sym c.ne.ensures ∙ c.if-ne.false)) in
+    is_internal _ (sym c.eq.ensures ∙ c.if-eq.true) in
     frame_stops values _ _ _ _ log c.args.piece.now c.in-Ok.advance.used
-    (frame_of c.frame-frame.result) c.in-Err-take_frame.code p
+    (frame_of c.frame-frame.result) c.in-Err-take_frame.code
+    (fit_of values _ _ _ _ log p)
     (takes_octets values _ log p.machine c.requires.up c.requires.reported) c.requires.up
     (record {
       continues = ends.continues (frame_of c.frame-frame.result) c.frame-frame.ensures.value;
       within = ends.within;
       none = ends.none_unparsed;
     }) c.in-Err-take_frame.ensures c.with-counted.ensures (λ fault. absurd (fault same))
-    (λ lacks. refl)
+    (λ lacks. refl) (λ fault fails. absurd (fault same)) (λ lacks. refl)
 
 pub returns-in_default-clause-cuts : goal.returns-in_default-clause-cuts
 returns-in_default-clause-cuts c = λ up.

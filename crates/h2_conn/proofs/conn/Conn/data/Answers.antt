@@ -6,6 +6,7 @@ use Rattle.std.proofs.lemmas.Bool.{false_from_ne_true}
 use Rattle.h2_conn.proofs.AskCalls.{answers_by, value_as}
 use Rattle.h2_conn.proofs.AskMemory.{nothing_taken}
 use Rattle.h2_conn.proofs.AskSound.{call_kept, beside_value}
+use Rattle.h2_conn.proofs.WhyCalls.{represented, plain}
 use Rattle.h2_conn.proofs.conn.Conn.data.Goals as goal
 
 pub invariant_of-self : goal.invariant_of-self
@@ -20,11 +21,14 @@ invariant_of-self c =
 pub returns-clause-answers : goal.returns-clause-answers
 unfolding IsTypedAct may_lack_memory
 returns-clause-answers c =
-    answers_by Count _ _ _ _ _ refl refl
+    represented (plain (SendData c.args.id c.args.octets.now c.args.end) Count c.send_data.result
+    (λ count. refl))
+    (c.ranges.id.fits, all_octets c.args.octets.now c.type_inv.octets)
+    (answers_by Count _ _ _ _ _ refl refl
     (c.ranges.id.fits, all_octets c.args.octets.now c.type_inv.octets)
     (λ lacks. ap not (false_from_ne_true _ (λ none. c.send_data.ensures.nothing none lacks)))
     (value_as _ _ _ c.send_data.result (λ value is. ap Count is)
-    c.send_data.ensures.ok) c.send_data.ensures.err
+    c.send_data.ensures.ok) c.send_data.ensures.err)
 
 pub returns-clause-octets : goal.returns-clause-octets
 returns-clause-octets c = all_octets c.args.octets.now c.type_inv.octets

@@ -1,8 +1,9 @@
 -- By the lemmas on a call's answer.
-use Rattle.h2_conn.proofs.Names.{refl, Done, IsTypedAct}
+use Rattle.h2_conn.proofs.Names.{◌∙◌, ap, Err, refl, IsTypedAct, err_from_is_err_and}
 use Rattle.h2_spec_log.specs.Acts.{Fail}
-use Rattle.h2_conn.proofs.AskCalls.{done_by}
+use Rattle.h2_conn.proofs.AskCalls.{refused_answers}
 use Rattle.h2_conn.proofs.AskSound.{call_kept}
+use Rattle.h2_conn.proofs.WhyCalls.{represented, end_represented}
 use Rattle.h2_conn.proofs.conn.Conn.fail.Goals as goal
 
 pub invariant_of-self : goal.invariant_of-self
@@ -13,9 +14,16 @@ invariant_of-self c =
     c.args.self.now.inner.sound c.args.self.now.inner.cuts
     c.fail_on_request.ensures.ok c.fail_on_request.ensures.err)
 
-pub returns : goal.returns
+pub returns-in_err-fail_on_request : goal.returns-in_err-fail_on_request
 unfolding IsTypedAct
-returns c =
-    done_by Done c.fail_on_request.result _ _ _ _ refl refl
-    tt (λ lacks. absurd (c.fail_on_request.ensures.memory lacks)) refl
-    c.fail_on_request.ensures.ok c.fail_on_request.ensures.err
+returns-in_err-fail_on_request c =
+    let answer = err_from_is_err_and c.from_residual.result c.from_residual.ensures.1 in
+    rw (answer.1, answer.2) (represented {act = Fail c.args.code} refl tt
+    (refused_answers _ _ _ (Fail c.args.code)
+    c.in_err-fail_on_request.field-0.0 refl tt
+    (λ memory. absurd (c.fail_on_request.ensures.memory
+    (c.in_err-fail_on_request.was ∙ ap Err memory)))
+    c.in_err-fail_on_request.ensures.err))
+
+pub returns : goal.returns
+returns c = end_represented c.in_ok-fail_on_request.ensures.ok

@@ -3,6 +3,7 @@ use Rattle.h2_conn.proofs.Names.{refl, Done, IsTypedAct, may_lack_memory}
 use Rattle.h2_spec_log.specs.Acts.{SendGoAway}
 use Rattle.h2_conn.proofs.AskCalls.{done_by}
 use Rattle.h2_conn.proofs.AskSound.{call_kept}
+use Rattle.h2_conn.proofs.WhyCalls.{represented, plain}
 use Rattle.h2_conn.proofs.conn.Conn.go_away.Goals as goal
 
 pub invariant_of-self : goal.invariant_of-self
@@ -16,6 +17,8 @@ invariant_of-self c =
 pub returns : goal.returns
 unfolding IsTypedAct may_lack_memory
 returns c =
-    done_by Done c.go_away.result _ _ _ _ refl refl
+    represented (plain (SendGoAway) (λ done. Done) c.go_away.result (λ done. refl))
+    tt
+    (done_by Done c.go_away.result _ _ _ _ refl refl
     tt (λ lacks. refl) refl
-    c.go_away.ensures.ok c.go_away.ensures.err
+    c.go_away.ensures.ok c.go_away.ensures.err)

@@ -3,6 +3,7 @@ use Rattle.h2_conn.proofs.Names.{refl, Done, IsTypedAct, may_lack_memory}
 use Rattle.h2_spec_log.specs.Acts.{Release}
 use Rattle.h2_conn.proofs.AskCalls.{done_by}
 use Rattle.h2_conn.proofs.AskSound.{call_kept}
+use Rattle.h2_conn.proofs.WhyCalls.{represented, plain}
 use Rattle.h2_conn.proofs.conn.Conn.release.Goals as goal
 
 pub invariant_of-self : goal.invariant_of-self
@@ -16,6 +17,9 @@ invariant_of-self c =
 pub returns : goal.returns
 unfolding IsTypedAct may_lack_memory
 returns c =
-    done_by Done c.release.result _ _ _ _ refl refl
+    represented (plain (Release c.args.id c.args.count) (λ done. Done) c.release.result
+    (λ done. refl))
+    (c.ranges.id.fits, c.ranges.count.fits)
+    (done_by Done c.release.result _ _ _ _ refl refl
     (c.ranges.id.fits, c.ranges.count.fits) (λ lacks. refl) refl
-    c.release.ensures.ok c.release.ensures.err
+    c.release.ensures.ok c.release.ensures.err)

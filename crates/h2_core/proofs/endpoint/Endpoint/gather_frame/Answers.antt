@@ -46,7 +46,7 @@ returns-in-Err c =
     let waits = c.end_with_goaway.ensures.waiting
     ∙ ap (λ (n : ℕ). e.output.waiting ++ encoding_of (GoAway e.streams.last_processed n []))
     c.number.ensures in
-    let failed = alike e _ code e.streams.last_processed refl refl refl refl waits in
+    let failed = alike e _ code e.streams.last_processed refl refl refl refl refl waits in
     elim (gather_fault c.args.self.now.gather c.take.new.self frame c.in-Err.fault
     (c.args.self.now.gathers c.requires.up) c.in-Err.ensures.takes) [
       | inl m ↦

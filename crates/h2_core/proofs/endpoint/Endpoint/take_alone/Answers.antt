@@ -1,8 +1,7 @@
-use Rattle.h2_core.proofs.Names.{length-append, ℕ, List, Some, ◌≡◌, ◌≤◌, ◌+◌, length, true, ap, inl}
+use Rattle.h2_core.proofs.Names.{◌≡◌, ◌≤◌, ◌+◌, length, true, ap, inl}
 use Rattle.h2_core.proofs.Names.{inr, arith, frame_of, FrameRef, end_of, payload_of}
 use Rattle.h2_frame.specs.Encoding.{padded}
-use Rattle.std.proofs.lemmas.List.{length-replicate}
-use Rattle.std.proofs.Common.{replicate}
+use Rattle.h2_core.proofs.DataFlow.{flow_with}
 use Rattle.h2_core.proofs.FrameWritable.{writable, data_number, update_number, update_increment}
 use Rattle.h2_core.proofs.FrameWritable.{is_quiet, quiet_taken}
 use Rattle.h2_core.proofs.endpoint.Endpoint.take_alone.Goals.{Joined-pad, in-Some, in-None}
@@ -38,15 +37,6 @@ returns-in-Headers c =
       ]
     ] in
     quiet_taken (end_of c.args.self.now) (frame_of c.args.frame) c.args.self.now.list quiet
-
-flow_with : (count : ℕ) (octets : List ℕ)
-    → length octets + (1 + count) ≡ length (padded octets (Some count))
-flow_with count octets =
-    omega (
-      arith,
-      length-append octets (replicate {A = ℕ} count 0),
-      length-replicate {A = ℕ} count 0,
-    )
 
 -- What DATA takes of the windows is its payload.
 counted : (c : Joined-pad) → length c.in-Data.octets.now + c.match-pad.padding

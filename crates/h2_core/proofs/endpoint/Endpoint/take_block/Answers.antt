@@ -15,7 +15,7 @@ returns-in-Err c =
     ∙ ap (λ (n : ℕ). e.output.waiting ++ encoding_of (GoAway e.streams.last_processed n []))
     c.number.ensures in
     let code = c.code_of_fault-code.result in
-    let failed = alike e _ code e.streams.last_processed refl refl refl refl waits in
+    let failed = alike e _ code e.streams.last_processed refl refl refl refl refl waits in
     undecoded_fails e _ c.args.id c.args.end c.args.octets.now c.in-Err.fault code
     c.code_of_fault-code.ensures (c.in-Err.ensures.fault (c.args.self.now.decodes c.requires.up))
     failed

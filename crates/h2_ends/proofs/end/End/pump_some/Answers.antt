@@ -15,7 +15,8 @@ returns-in_err-pass_over c =
     let made = err_from_is_err_and c.from_residual.result c.from_residual.ensures.1 in
     rw (made.1, made.2) (stops_above c.args.self.now c.args.most c.args.self.now.spans.turn.id refl
     c.split.result.0 c.split.result.1
-    c.split.ensures.highest c.split.ensures.above c.split.ensures.below _ (rw c.min.ensures at c.max.ensures) refl refl
+    c.split.ensures.highest c.split.ensures.above c.split.ensures.below _
+    (rw c.min.ensures at c.max.ensures) refl refl
     c.pass_over.new.self
     c.pass_over.new.pass c.failed.result c.failed.ensures c.if-is_some.ensures _
     c.in_err-pass_over.ensures)
@@ -26,7 +27,8 @@ returns-in_err-pass_over-2 c =
     c.from_residual-in_err-pass_over-2.ensures.1 in
     rw (made.1, made.2) (stops_below c.args.self.now c.args.most c.args.self.now.spans.turn.id refl
     c.split.result.0 c.split.result.1
-    c.split.ensures.highest c.split.ensures.above c.split.ensures.below _ (rw c.min.ensures at c.max.ensures) refl refl
+    c.split.ensures.highest c.split.ensures.above c.split.ensures.below _
+    (rw c.min.ensures at c.max.ensures) refl refl
     c.pass_over.new.self
     c.pass_over.new.pass c.failed.result c.failed.ensures c.if-is_some.ensures
     (rw c.if-branch.true at c.in_ok-pass_over.ensures) c.pass_over-then-branch.new.self
@@ -36,7 +38,8 @@ pub returns-then-branch-2 : goal.returns-then-branch-2
 returns-then-branch-2 c =
     pass_round c.args.self.now c.args.most c.args.self.now.spans.turn.id refl c.split.result.0
     c.split.result.1
-    c.split.ensures.highest c.split.ensures.above c.split.ensures.below _ (rw c.min.ensures at c.max.ensures) refl refl
+    c.split.ensures.highest c.split.ensures.above c.split.ensures.below _
+    (rw c.min.ensures at c.max.ensures) refl refl
     c.pass_over.new.self
     c.pass_over.new.pass c.failed.result c.failed.ensures c.if-is_some.ensures
     (rw c.if-branch.true at c.in_ok-pass_over.ensures) c.pass_over-then-branch.new.self
@@ -48,7 +51,8 @@ returns-else-branch c =
       | else-branch-via-then-branch+in_ok-pass_over-2+else-branch-2 w ↦
           rw (w.self-is, w.pass-is) (halts_below c.args.self.now c.args.most
           c.args.self.now.spans.turn.id refl c.split.result.0 c.split.result.1
-          c.split.ensures.highest c.split.ensures.above c.split.ensures.below _ (rw c.min.ensures at c.max.ensures) refl
+          c.split.ensures.highest c.split.ensures.above c.split.ensures.below _
+          (rw c.min.ensures at c.max.ensures) refl
           refl c.pass_over.new.self
           c.pass_over.new.pass c.failed.result c.failed.ensures c.if-is_some.ensures
           (rw w.if-branch.true at c.in_ok-pass_over.ensures) w.pass_over-then-branch.new.self
@@ -57,7 +61,8 @@ returns-else-branch c =
       | else-branch-via-else-branch w ↦
           rw (w.self-is, w.pass-is) (halts_above c.args.self.now c.args.most
           c.args.self.now.spans.turn.id refl c.split.result.0 c.split.result.1
-          c.split.ensures.highest c.split.ensures.above c.split.ensures.below _ (rw c.min.ensures at c.max.ensures) refl
+          c.split.ensures.highest c.split.ensures.above c.split.ensures.below _
+          (rw c.min.ensures at c.max.ensures) refl
           refl c.pass_over.new.self
           c.pass_over.new.pass c.failed.result c.failed.ensures c.if-is_some.ensures _
           (ap Ok w.if-branch.false) c.in_ok-pass_over.ensures)

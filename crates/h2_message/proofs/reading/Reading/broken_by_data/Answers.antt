@@ -12,7 +12,8 @@ unfolding first_broken
 returns-in-Ok c reads parts octets counted follows =
     let left = c.in-InBody.left in
     let end = c.args.end in
-    named_at reads parts (OctetsPart octets, end) (InBody left) _ (rw c.in-InBody.is at follows.phase)
+    named_at reads parts (OctetsPart octets, end) (InBody left) _
+    (rw c.in-InBody.is at follows.phase)
     (rw (counted, c.in-Ok.ensures.ok) refl ∙ rule_of_octets reads left octets end)
 
 pub returns-in-Err : goal.returns-in-Err
@@ -20,6 +21,7 @@ unfolding first_broken
 returns-in-Err c reads parts octets counted follows =
     let left = c.in-InBody.left in
     let end = c.args.end in
-    named_at reads parts (OctetsPart octets, end) (InBody left) _ (rw c.in-InBody.is at follows.phase)
+    named_at reads parts (OctetsPart octets, end) (InBody left) _
+    (rw c.in-InBody.is at follows.phase)
     (rw (c.in-Err.ensures.err.0, counted, c.in-Err.ensures.err.1) refl
     ∙ rule_of_octets reads left octets end)

@@ -5,7 +5,7 @@ use Rattle.h2_wire.proofs.Names.{head_of, head_fault, form_fault-head_fault, len
 use Rattle.h2_wire.proofs.Names.{Buffer, state_of}
 use Rattle.h2_wire.proofs.BufferLemmas.{keeps_piece, fails_head, read_head}
 use Rattle.h2_wire.proofs.CallLemmas.{fails_at}
-use Rattle.h2_wire.proofs.ReadingLemmas.{none_some, one_code}
+use Rattle.h2_wire.proofs.ReadingLemmas.{none_some, one_some}
 use Rattle.h2_wire.proofs.StepLemmas.{wrong_head, limit_ahead}
 use Rattle.h2_wire.specs.declared.buffer.Phase.TheVariants as phases
 use Rattle.h2_wire.specs.declared.fault.WireFault.TheVariants as faults
@@ -51,7 +51,7 @@ returns-in-Some-clause-takes c =
     let few : length old.octets.items < 9 = starts.few in
     let within : c.args.start ≤ length piece = starts.within in
     let faulty : head_fault (head_of (old.octets.items ++ drop c.args.start piece)) old.limit
-    ≡ Some c.in-Some.code =
+    ≡ Some c.in-Some.fault =
     ap (λ (head : Head). head_fault head old.limit) (sym is_head) ∙ sym c.head_fault.ensures.value
     ∙ c.in-Some.is in
     let used : c.args.start + (9 - c.len-kept.result)
@@ -61,11 +61,11 @@ returns-in-Some-clause-takes c =
       invariant =
           rw c.fail.ensures.after (record { within = starts.invariant.within; fits = tt });
       makes = rw (c.fail.ensures.fault, c.fail.ensures.after, used)
-          (fails_head (state_of old) piece c.in-Some.code _ starts.sound
-          (fails_at (state_of old) _ piece (faults.HeadFault c.in-Some.code)
+          (fails_head (state_of old) piece c.in-Some.fault _ starts.sound
+          (fails_at (state_of old) _ piece (faults.HeadFault c.in-Some.fault)
           (c.args.start + (9 - length old.octets.items)) refl refl refl refl refl
           (omega (arith, nine, within, length-drop c.args.start piece)) refl
-          (wrong_head (state_of old) piece old.octets.items c.args.start c.in-Some.code
+          (wrong_head (state_of old) piece old.octets.items c.args.start c.in-Some.fault
           starts.opens few nine faulty)));
     }
 
@@ -103,7 +103,7 @@ take_payload-requires c =
     }
 
 pub returns-in-Some-clause-checked : goal.returns-in-Some-clause-checked
-returns-in-Some-clause-checked c = λ code faulty.
+returns-in-Some-clause-checked c = λ fault faulty.
     let old = c.args.self.now in
     let is_head =
     (read_head old.octets.items c.deref.result.now c.args.piece.now _ _ _ c.len-kept.result
@@ -111,15 +111,15 @@ returns-in-Some-clause-checked c = λ code faulty.
     c.requires.starts.few (omega (arith, c.if-following-lacking.false)) c.deref.ensures.value
     c.copy_from_slice.ensures.after c.copy_from_slice-2.ensures.after c.head-head.ensures.value).1
     in
-    let reported : head_fault c.head-head.result old.limit ≡ Some c.in-Some.code =
+    let reported : head_fault c.head-head.result old.limit ≡ Some c.in-Some.fault =
     sym c.head_fault.ensures.value ∙ c.in-Some.is in
-    let found : head_fault c.head-head.result old.limit ≡ Some code =
+    let found : head_fault c.head-head.result old.limit ≡ Some fault =
     ap (λ (head : Head). head_fault head old.limit) is_head ∙ faulty.faulty in
-    let same : c.in-Some.code ≡ code = one_code _ _ (sym reported ∙ found) in
+    let same : c.in-Some.fault ≡ fault = one_some _ _ (sym reported ∙ found) in
     rw (c.fail.ensures.fault, same) refl
 
 pub returns-clause-checked : goal.returns-clause-checked
-returns-clause-checked c = λ code faulty.
+returns-clause-checked c = λ fault faulty.
     let old = c.args.self.now in
     let is_head =
     (read_head old.octets.items c.deref.result.now c.args.piece.now _ _ _ c.len-kept.result
@@ -127,9 +127,9 @@ returns-clause-checked c = λ code faulty.
     c.requires.starts.few (omega (arith, c.if-following-lacking.false)) c.deref.ensures.value
     c.copy_from_slice.ensures.after c.copy_from_slice-2.ensures.after c.head-head.ensures.value).1
     in
-    let found : head_fault c.head-head.result old.limit ≡ Some code =
+    let found : head_fault c.head-head.result old.limit ≡ Some fault =
     ap (λ (head : Head). head_fault head old.limit) is_head ∙ faulty.faulty in
-    none_some code (sym (sym c.head_fault.ensures.value ∙ c.in_default.is) ∙ found)
+    none_some fault (sym (sym c.head_fault.ensures.value ∙ c.in_default.is) ∙ found)
 
 pub returns-clause-lent : goal.returns-clause-lent
 returns-clause-lent c = λ none nine enough.
