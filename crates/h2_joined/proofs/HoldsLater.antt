@@ -31,7 +31,7 @@ is_unfinished (Stops unused) = true
 module _ (side : Side) (client_values server_values : Values) (made : List Made)
     (one other : JointEnd) (holds : HoldsAt side client_values server_values made one other) where
   -- the delivery at this end
-  abbrev around : Around
+  abbrev pub around : Around
   around = record {
     side = side;
     client_values = client_values;
@@ -41,7 +41,7 @@ module _ (side : Side) (client_values server_values : Values) (made : List Made)
   }
 
   -- What holds at the start of a delivery.
-  starts : (count : ℕ)
+  pub starts : (count : ℕ)
       → HoldsIn around one.happened (take count one.incoming ++ drop count one.incoming)
   starts count =
       let stays = holds.stays in

@@ -39,7 +39,7 @@ faultless_end side client_values server_values made one other holds had =
     (half_of other stays.other_lost) (AllHadMemory made) stays.pair had)
 
 -- Two quiet ends are a quiet pair.
-quiet_pair : (client_values server_values : Values) (made : List Made)
+pub quiet_pair : (client_values server_values : Values) (made : List Made)
     (client server : JointEnd) (holds : JointHolds client_values server_values made client server)
     → AllHadMemory made → AreQuiet client server
     → IsQuiet (half_of client holds.stays.lost) (half_of server holds.stays.other_lost)

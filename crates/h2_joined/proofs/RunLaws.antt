@@ -18,7 +18,7 @@ use Rattle.h2_joined.proofs.JointHolds.{log_of, turned, HoldsAt, JointHolds}
 use Rattle.h2_joined.specs.declared.act.Side.TheVariants as sides
 
 -- Two quiet ends are up, so that memory was not refused to their connections.
-quiet_had_memory : (client server : JointEnd) → AreQuiet client server
+pub quiet_had_memory : (client server : JointEnd) → AreQuiet client server
     → MemorySufficed client server
 quiet_had_memory client server quiet =
     let client_up = quiet.quiet_client.up in

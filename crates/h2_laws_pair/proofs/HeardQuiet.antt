@@ -37,7 +37,7 @@ window_after role received sent (alone (Settings false pairs)) allowed some =
     rw (allowed.1.changed, changed_window _ _ allowed.1.values _) allowed.1.in_range.least_window
 window_after role received sent item allowed some = some
 
-some_window : (role : Role) (received sent : List Item) → AllowedHistory role received sent
+pub some_window : (role : Role) (received sent : List Item) → AllowedHistory role received sent
     → 1 ≤ value_read 4 first_window sent
 unfolding value_read
 some_window role _ _ (starts values ok) = rw (opening_window role values first_window)
@@ -47,7 +47,7 @@ some_window role received _ (writes {sent = sent} item history allowed) =
     window_after role received sent item allowed (some_window role received sent history)
 
 -- A window is what it is with nothing more.
-plain_window : (window : ℤ) (under_way back owes value : ℕ) → under_way ≡ 0 → back ≡ 0 → owes ≡ 0
+pub plain_window : (window : ℤ) (under_way back owes value : ℕ) → under_way ≡ 0 → back ≡ 0 → owes ≡ 0
     → (window +ℤ pos under_way) +ℤ pos (back + owes) ≡ pos value → window ≡ pos value
 plain_window window under_way back owes value none nothing paid is = omega (arith, ints)
 
@@ -56,7 +56,7 @@ above_none : (window : ℤ) (value : ℕ) → window ≡ pos value → 1 ≤ val
 above_none window value is some = rw is (grind (arith, nat_tests, ints))
 
 -- A sum of nothing is nothing.
-none_sum : (n : ℕ) (f : ℕ → ℕ) → ((j : ℕ) → f j ≡ 0) → sum_below n f ≡ 0
+pub none_sum : (n : ℕ) (f : ℕ → ℕ) → ((j : ℕ) → f j ≡ 0) → sum_below n f ≡ 0
 unfolding sum_below
 none_sum zero f none = refl
 none_sum (suc n) f none = omega (arith, none n, none_sum n f none)
@@ -119,7 +119,7 @@ spoken_by role values log i is some = elim (cases_Bool (list_any (speaks i) log.
 ]
 
 -- As long as something waits of a message, the stream wasn't ended.
-goes_on_by : (role : Role) (values : Values) (log : Log) (i : ℕ) (said : Said)
+pub goes_on_by : (role : Role) (values : Values) (log : Log) (i : ℕ) (said : Said)
     (token : Token) (others : List Token) → IsLog role values log
     → said_tokens said ≡ tokens_sent i log.calls ++ token ∷ others
     → list_any (ends i) log.sent ≡ false

@@ -49,7 +49,7 @@ nothing_sent i received sent lists history none =
     both_ways _ none (spoken_opened Client i received sent history spoken).opened))
 
 -- A GOAWAY below a number brings the least last stream below it.
-least_below : (i : ℕ) (items : List Item) → list_any (is_goaway_below i) items ≡ true
+pub least_below : (i : ℕ) (items : List Item) → list_any (is_goaway_below i) items ≡ true
     → least_goaway items < i
 unfolding least_goaway is_goaway_below
 least_below i [] here = absurd (both_ways false refl here)

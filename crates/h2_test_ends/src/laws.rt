@@ -1,6 +1,11 @@
 //! Laws are functions that do nothing: each is called.
 
 use h2_ends::{parts_are_sent_at_once, sent_parts_are_readable, shares_are_given_in_turn};
+use h2_laws_quiet::{
+    driven_ends_get_quiet, driven_messages_arrive, driving_makes_no_work,
+    nothing_waits_at_a_quiet_pair, pump_sends_what_could_go, quiet_ends_have_no_work,
+    quiet_ends_have_the_same_streams, rounds_lead_to_quiet, windows_of_a_quiet_pair,
+};
 use h2_laws_why::one_reason;
 use h2_message::sent_messages_are_well_read;
 use h2_replay::{
@@ -26,4 +31,18 @@ fn laws_are_called() {
     fault_of_a_replay();
     calls_of_a_replay();
     windows_of_a_replay();
+}
+
+// rule: joined (own) Two ends that are driven get quiet, and all that was accepted arrives
+#[test]
+fn laws_of_driven_ends_are_called() {
+    quiet_ends_have_the_same_streams();
+    windows_of_a_quiet_pair();
+    nothing_waits_at_a_quiet_pair();
+    pump_sends_what_could_go();
+    driving_makes_no_work();
+    rounds_lead_to_quiet();
+    quiet_ends_have_no_work();
+    driven_ends_get_quiet();
+    driven_messages_arrive();
 }

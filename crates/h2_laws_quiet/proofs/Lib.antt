@@ -1,0 +1,26 @@
+-- The lemmas of quiet ends.
+pub mod QuietStreams
+pub mod QuietWindows
+pub mod QuietMessages
+mod CallsOfPumps
+mod PumpFirst
+pub mod PumpGoes
+pub mod PumpCounts
+pub mod WorkOfItems
+pub mod WorkOfLogs
+pub mod WorkOfTakes
+pub mod WorkOfTokens
+pub mod WorkOfEnds
+mod WorkOfPasses
+mod FailedDeliveries
+pub mod WorkOfDeliveries
+pub mod WorkOfActs
+mod OutputGiven
+mod RoundSides
+mod RoundWork
+mod RoundActs
+mod RoundSteps
+pub mod RoundQuiet
+pub mod ManyRounds
+pub mod Arrivals
+mod Examples

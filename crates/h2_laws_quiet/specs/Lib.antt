@@ -1,0 +1,6 @@
+pub mod OpenWindows
+pub mod Arrived
+pub mod Going
+pub mod Work
+pub mod Driving
+pub mod Rounds

@@ -1,0 +1,66 @@
+//! Rounds bring two joined ends nearer to quiet, and then they are quiet.
+
+ghost use Rattle.std.specs.Prelude.{◌≡◌, ◌⊎◌, ◌<◌, ℕ, List, None};
+ghost use Rattle.h2_spec_log.specs.Acts.{Values};
+ghost use Rattle.h2_joined.specs.Joints.{JointEnd, Made, IsJoint};
+ghost use Rattle.h2_joined.specs.Headline.{AreQuiet, WasResetIn};
+ghost use Rattle.h2_laws_quiet.specs.Arrived.{HasArrived};
+ghost use Rattle.h2_laws_quiet.specs.Rounds.{IsRound, AreRounds};
+ghost use Rattle.h2_laws_quiet.specs.Work.{work_left};
+
+// contract: joined (own) Two ends that are driven get quiet, and all that was accepted arrives
+/// After a round in which memory sufficed and neither end failed, the two ends are quiet, or less
+/// work is left than before.
+pub fn rounds_lead_to_quiet()
+    ensures { (client_values server_values : Values) (made : List Made)
+        (client server new_client new_server : JointEnd)
+        → IsJoint client_values server_values made client server
+        → IsRound client server new_client new_server
+        → new_client.happened.log.failed ≡ None → new_server.happened.log.failed ≡ None
+        → AreQuiet new_client new_server
+        ⊎ (work_left new_client.happened new_server.happened
+        < work_left client.happened server.happened) }
+{}
+
+// contract: joined (own) Two ends that are driven get quiet, and all that was accepted arrives
+/// At two quiet ends no work is left.
+pub fn quiet_ends_have_no_work()
+    ensures { (client_values server_values : Values) (made : List Made)
+        (client server : JointEnd) → IsJoint client_values server_values made client server
+        → AreQuiet client server → work_left client.happened server.happened ≡ 0 }
+{}
+
+// contract: joined (own) Two ends that are driven get quiet, and all that was accepted arrives
+/// Two joined ends that are driven get quiet: after more rounds than the work that was left they
+/// are, whatever acts were made before, where memory sufficed and neither end has failed.
+pub fn driven_ends_get_quiet()
+    ensures { (client_values server_values : Values) (made : List Made) (count : ℕ)
+        (client server new_client new_server : JointEnd)
+        → IsJoint client_values server_values made client server
+        → AreRounds client server count new_client new_server
+        → new_client.happened.log.failed ≡ None → new_server.happened.log.failed ≡ None
+        → work_left client.happened server.happened < count → AreQuiet new_client new_server }
+{}
+
+// contract: joined (own) Two ends that are driven get quiet, and all that was accepted arrives
+/// All that two joined ends have accepted has arrived after more rounds than the work that was
+/// left, on each stream that was not reset, whatever acts were made before: flow control leaves
+/// nothing stuck. Memory sufficed in these rounds, and neither end has failed.
+pub fn driven_messages_arrive()
+    ensures at_client { (client_values server_values : Values) (made : List Made) (count : ℕ)
+        (client server new_client new_server : JointEnd) (i : ℕ)
+        → IsJoint client_values server_values made client server
+        → AreRounds client server count new_client new_server
+        → new_client.happened.log.failed ≡ None → new_server.happened.log.failed ≡ None
+        → work_left client.happened server.happened < count
+        → (WasResetIn made new_client i → ⊥)
+        → HasArrived new_client.happened new_server.happened i }
+    ensures at_server { (client_values server_values : Values) (made : List Made) (count : ℕ)
+        (client server new_client new_server : JointEnd) (i : ℕ)
+        → IsJoint client_values server_values made client server
+        → AreRounds client server count new_client new_server
+        → new_client.happened.log.failed ≡ None → new_server.happened.log.failed ≡ None
+        → work_left client.happened server.happened < count
+        → (WasResetIn made new_client i → ⊥)
+        → HasArrived new_server.happened new_client.happened i }
+{}
