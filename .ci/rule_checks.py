@@ -5,7 +5,7 @@ import re
 from collections import defaultdict
 
 import edits
-from rule_lists import API, BY_NAME, EXEMPT, FAULT_DEFINITIONS, FAULT_RESULTS
+from rule_lists import API, BY_NAME, EXEMPT, EXPORTS, FAULT_DEFINITIONS, FAULT_RESULTS
 from rule_tags import BEST, DEFINITION, ROOT, is_test, read
 
 
@@ -94,6 +94,8 @@ def unused(table):
     def is_live(own, seen):
         crate, (type, _, name) = own.file.split("/")[0], own.name.rpartition("::")
         if name in BY_NAME or type.endswith("*"):
+            return True
+        if crate in EXPORTS and name.startswith(EXPORTS[crate]):
             return True
         users = [it for it in names[name] if it != own and it.file.split("/")[0] in above[crate]]
         if any(it.file != own.file and (not type or knows(it.file, type)) for it in users):

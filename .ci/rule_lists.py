@@ -33,6 +33,7 @@ FAULTS = {
     "h2_cli/specs/Hexadecimal.antt": "IsBadHex",
     "h2_show/specs/Report.antt": "EndsInsideFrame EndsInsideBlock HasWireFaultAt HasBlockErrorAt IsAtFault",
     "h2_cli/specs/Status.antt": "failure_status",
+    "h2_follow/specs/FollowText.antt": "IsRefusedLine HasBadLine",
 }
 FAULT_DEFINITIONS = {(file, name) for file, names in FAULTS.items() for name in names.split()}
 
@@ -44,6 +45,9 @@ EXEMPT = {"h2_spec_machine/specs/End.antt", "h2_spec_machine/specs/Machine.antt"
 TESTS = {"h2_cases", "h2_case", "h2_case_conn", "h2_case_ends", "h2_test_ends", "h2_test_layers",
          "h2_test_parts", "h2_test_scarce", "h2_test_tool"}
 TESTS |= {"h2_measure", "h2_uses"}
+
+# Crates whose functions C calls, and how the names of those begin.
+EXPORTS = {"belkjoef": "bj_"}
 
 # Functions that the language calls, or a macro of a library.
 BY_NAME = {"main", "fmt", "from", "drop", "clone", "eq", "next", "debug", "display"}
@@ -72,6 +76,7 @@ API = {
     "h2_message::Reading::is_over": "an end knows from its stream's state that a message is over",
     "h2_message::names_user": "a server that minds asks, before it answers with status 400",
     "h2_replay::replay": "users replay a list of acts; the program hands out events as they come",
+    "h2_settle::settle": JOINED,
     "hpack_text::huff_read": TEXTS,
     "hpack_text::read_string": TEXTS,
     "h2_message::list_asks_head": "a server that answers HEAD asks, as those of h2_uses do",
@@ -145,7 +150,9 @@ SECTIONS = {
     "links": "Links",
     "engines": "Connections over links, and the program's h2 serve, get and loop",
     "show": "The program's h2 show",
+    "follow": "The program's h2 show --follow",
     "replay": "A replay, and the program's h2 replay",
+    "c": "The functions for programs in C",
 }
 
 # Where the profile chose against a sentence of an RFC, by section and sentence of the rule: the sentence, and why.

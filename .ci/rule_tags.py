@@ -18,7 +18,7 @@ MARKS = {
 BEST = "best"
 TAG = re.compile(r"\s*(?://|--|#) (rule|contract)(?: \((\w+)\))?: (.*)$")
 RULE = re.compile(r"((?:HPACK |HTTP )?[0-9A-Z][0-9.]*|[a-z]+)( \(own\))? (.+)")
-ITEM = re.compile(r"(?:\w+(?:\(\w+\))? )*?(?:fn|enum|struct|trait|const(?! fn)) (\w+)")
+ITEM = re.compile(r"(?:\w+(?:\(\w+\))? |extern \"C\" )*?(?:fn|enum|struct|trait|const(?! fn)) (\w+)")
 DEFINITION = re.compile(r"((?:(?:pub|abbrev|unfoldable|opaque|data|record) )*)([^\s:]+)(?= |$)")
 
 # A tag: what it says ("rule" or "contract"), its mark and its rule, its file below crates/, its line, and the name of

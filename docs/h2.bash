@@ -7,7 +7,7 @@ _h2() {
         case "${COMP_WORDS[1]} $before" in
             'show --from') words='client server' ;;
             'show --max-frame') words='16384 65536 1048576' ;;
-            'show '*) words='--hex --from --max-frame --help' ;;
+            'show '*) words='--hex --from --max-frame --follow --help' ;;
             'replay --as') words='client server' ;;
             'replay '*) words='--hex --as --help' ;;
             'serve '*) words='--help' ;;

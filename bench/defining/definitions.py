@@ -445,3 +445,23 @@ def has_sent_all(end, numbers):
 
 def has_sent_whole(end, was_told_reset, numbers):
     return all(was_told_reset(i) or tokens_waiting(end, i) == [] for i in numbers)
+
+
+# Rounds (h2_laws_quiet/specs/MostRounds.antt).
+
+
+def shares(octets, share):
+    return -(-octets // share)
+
+
+def pieces_on(octets, tokens):
+    return min(1, octets) + tokens - octets
+
+
+def shares_left(waiting, window):
+    octets = sum(count for count, tokens in waiting)
+    return shares(octets, min(65_535, window)) + sum(pieces_on(*one) for one in waiting)
+
+
+def most_rounds(one, other):
+    return 10 + 2 * (shares_left(*one) + shares_left(*other))

@@ -351,6 +351,25 @@ def sent_nothing_where_reset(end, was_told_reset, numbers):
     return all(said.tokens_waiting(end, i) == [] or not was_told_reset(i) for i in numbers)
 
 
+# Rounds.
+
+
+def rounds_once_a_share(one, other):
+    return 10 + said.shares_left(*one) + said.shares_left(*other)
+
+
+def shares_of_any_window(octets, share):
+    return right("shares")(octets, 65_535)
+
+
+def shares_left_of_the_stream_alone(waiting, window):
+    return right("shares_left")(waiting, window) if window <= 65_535 else len(waiting)
+
+
+def pieces_of_none(octets, tokens):
+    return 0
+
+
 # The group of runs, the definition, and what stands in its place.
 MUTANTS = [
     ("pair", "settings_of", settings_newest_first), ("pair", "settings_of", settings_with_acks),
@@ -392,4 +411,6 @@ MUTANTS = [
     ("pair", "has_sent_all", sent_all_with_nothing_reported),
     ("engine", "could_go", could_always_go), ("engine", "owed", owed_though_released),
     ("pair", "has_sent_whole", sent_whole_though_reset), ("pair", "has_sent_whole", sent_nothing_where_reset),
+    ("rounds", "most_rounds", rounds_once_a_share), ("rounds", "shares", shares_of_any_window),
+    ("rounds", "shares_left", shares_left_of_the_stream_alone), ("rounds", "pieces_on", pieces_of_none),
 ]

@@ -212,11 +212,8 @@ class Half:
                 self.call("release", number, stream.owed)
 
     def put_out(self, count):
-        """Output, as often as some comes, so many octets at most."""
-        octets = b""
-        while (more := calls.put_out(self.end, count - len(octets))):
-            octets += more
-        return octets
+        """Output, so many octets at most: one call, before which what is due is returned."""
+        return calls.put_out(self.end, count)
 
     # What comes.
 

@@ -1,6 +1,6 @@
 -- What holds of the commands.
 use Rattle.h2_args.proofs.Names.{◌≡◌, ◌<◌, refl, arith, codes, true, ℕ, slice_index_or, bytes_eq}
-use Rattle.h2_args.proofs.Names.{Rule, get_app, loop_app, number_option_rule, number_rule}
+use Rattle.h2_args.proofs.Names.{Rule, follow_app, get_app, loop_app, number_option_rule, number_rule}
 use Rattle.h2_args.proofs.Names.{replay_app, required_rule, serve_app, show_app}
 use Rattle.std.proofs.Common.{lit<, zero, suc}
 use Rattle.h2_args.specs.Commands.{SideNames}
@@ -10,12 +10,13 @@ pub show_is_alone : (names : SideNames) → IsAlone (show_app names)
 show_is_alone names = record { ready = refl; leaves = refl; free = refl; negates = refl }
 
 -- the third argument of `show` alone is its limit of payloads
-only_limit : (names : SideNames) (j : ℕ) (d : Rule) → j < 3
+only_limit : (names : SideNames) (j : ℕ) (d : Rule) → j < 4
     → bytes_eq (slice_index_or (show_app names).top.rules j d).id (codes "max-frame") ≡ true → j ≡ 2
 only_limit names zero d lt same = cc
 only_limit names (suc zero) d lt same = cc
 only_limit names (suc (suc zero)) d lt same = refl
-only_limit names (suc (suc (suc j))) d lt same = absurd (omega arith)
+only_limit names (suc (suc (suc zero))) d lt same = cc
+only_limit names (suc (suc (suc (suc j)))) d lt same = absurd (omega arith)
 
 pub show_names_limit : (names : SideNames)
     → IsNamedAt (show_app names) 2 (number_option_rule (codes "max-frame") 16384 1048576)
@@ -23,6 +24,26 @@ show_names_limit names = record {
   inside = lit< tt;
   at = λ d. refl;
   unique = only_limit names;
+  named = refl;
+  own = refl;
+}
+
+pub follow_is_alone : IsAlone follow_app
+follow_is_alone = record { ready = refl; leaves = refl; free = refl; negates = refl }
+
+-- the second argument of `show --follow` alone is its limit of payloads
+only_follow_limit : (j : ℕ) (d : Rule) → j < 2
+    → bytes_eq (slice_index_or follow_app.top.rules j d).id (codes "max-frame") ≡ true → j ≡ 1
+only_follow_limit zero d lt same = cc
+only_follow_limit (suc zero) d lt same = refl
+only_follow_limit (suc (suc j)) d lt same = absurd (omega arith)
+
+pub follow_names_limit :
+    IsNamedAt follow_app 1 (number_option_rule (codes "max-frame") 16384 1048576)
+follow_names_limit = record {
+  inside = lit< tt;
+  at = λ d. refl;
+  unique = only_follow_limit;
   named = refl;
   own = refl;
 }

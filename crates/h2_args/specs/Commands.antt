@@ -53,14 +53,27 @@ number_option_rule name least most = record (new_rule name) {
   parser = Some (Signed (pos least) (pos most));
 }
 
+-- the flag `--follow`
+abbrev pub follow_rule : Rule
+follow_rule =
+    record (new_rule (codes "follow")) { long = Some (codes "follow"); action = Some SetTrue }
+
 -- `show [--hex] [--from SIDE] [--max-frame N]`, of the client where no side is given; the number is
--- from 16,384 to 1,048,576
+-- from 16,384 to 1,048,576. Words with `--follow` are not of this command but of `follow_app`: it
+-- has the flag for its help.
 -- rule: show (own) The words choose the end and hexadecimal
 -- rule: show (own) The words choose the limit of payloads
 abbrev pub show_app : SideNames → App
 show_app names = with_rule
+    (with_rule
     (with_rule (with_rule (named_app (codes "show")) hex_rule)
     (side_rule (codes "from") (codes "client") names))
+    (number_option_rule (codes "max-frame") 16384 1048576)) follow_rule
+
+-- `show --follow [--max-frame N]`
+-- rule: follow (own) The word --follow excludes --hex and --from
+abbrev pub follow_app : App
+follow_app = with_rule (with_rule (named_app (codes "show")) follow_rule)
     (number_option_rule (codes "max-frame") 16384 1048576)
 
 -- the command is `show`

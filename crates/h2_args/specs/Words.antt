@@ -1,6 +1,7 @@
 -- What the words after a command's name give.
 use Rattle.std.specs.Prelude.{◌≡◌, ℕ, Bool, false, List, Option, Some, None, []}
 use Rattle.std.specs.Prelude.{if◌then◌else◌, codes, unwrap_or}
+use Rattle.std.specs.List.{list_any}
 use Rattle.std.specs.Str.{bytes_eq}
 use Rattle.std.specs.Str.Parse.{digits_value, without_leading_plus}
 use Rattle.clap.specs.Words.{App, HasKind, Kinds, Row, Text, fault_of, first_of}
@@ -11,8 +12,9 @@ use Rattle.h2_show.specs.declared.options.ShowOptions.{ShowOptions}
 use Rattle.h2_show.specs.declared.options.Side.TheVariants.{Client, Server}
 use Rattle.h2_events.specs.declared.options.ReplayOptions.{ReplayOptions}
 use Rattle.h2_spec_log.specs.declared.role.Role.TheVariants as role
+use Rattle.h2_follow.specs.declared.follow.FollowOptions.{FollowOptions}
 use Rattle.h2_args.specs.Commands.{AreSides, SideNames, program_app, replay_app, show_app}
-use Rattle.h2_args.specs.Commands.{serve_app, get_app, loop_app}
+use Rattle.h2_args.specs.Commands.{follow_app, serve_app, get_app, loop_app}
 use Rattle.h2_args.specs.declared.sockets.ServeOptions.{ServeOptions}
 
 -- What the command's matches of the words give, where clap lists no fault of these words.
@@ -64,6 +66,26 @@ ShowWordsGive words options =
 abbrev pub ShowWordsFail : List Text → Error → Type 0
 ShowWordsFail words error =
     (names : SideNames) × AreSides names × HasKind (show_faults names words) error
+
+-- One of the words after `show` is `--follow`.
+-- rule: follow (own) The word --follow excludes --hex and --from
+abbrev pub asks_follow : List Text → Bool
+asks_follow words = list_any (λ word. bytes_eq word (codes "--follow")) words
+
+-- what the matches of `show --follow` say
+-- rule: follow (own) The word --follow excludes --hex and --from
+abbrev pub follow_options_in : List Row → FollowOptions
+follow_options_in rows = record { max_frame = number_or 16384 (one_of (codes "max-frame") rows) }
+
+-- The options that words with `--follow` give, if they have no fault.
+-- rule: follow (own) The word --follow excludes --hex and --from
+abbrev pub follow_options_of : List Text → Option FollowOptions
+follow_options_of = given_by follow_app follow_options_in
+
+-- the kinds of error that they may have
+-- rule: follow (own) The word --follow excludes --hex and --from
+abbrev pub follow_faults : List Text → Kinds
+follow_faults = fault_of follow_app
 
 -- what the matches of `replay` say
 abbrev pub replay_options_in : List Row → ReplayOptions

@@ -5,6 +5,7 @@ ghost use Rattle.clap.specs.Words.{app_of, found_of, rows_of, rule_of};
 ghost use Rattle.h2_args.specs.Commands.{IsShowCommand, number_option_rule};
 ghost use Rattle.h2_args.specs.Words.{ShowWordsFail, ShowWordsGive, show_options_in};
 
+use crate::follow::follow_arg;
 use crate::options::{CommandText, HEX, hex_arg, is_named, is_set, named_command, side_arg};
 use clap::builder::ValueParser;
 use clap::{Arg, ArgMatches, Command, Error, value_parser};
@@ -96,12 +97,15 @@ Exit status (the lines in backquotes are on standard error):
 
 A hint may follow on standard error. It is for people; no status depends on it.
 
-A capture of packets is no stream. Of its first connection, tshark gives what
-the client sent, and what the server sent:
-  $ tshark -r FILE -q -z follow,tcp,raw,0 | grep -E '^[0-9a-f]+$' |
-      h2 show --hex
-  $ tshark -r FILE -q -z follow,tcp,raw,0 | sed -n 's/^\t//p' |
-      h2 show --hex --from server
+A capture of packets is no stream. tshark gives the octets of both sides of its
+first connection (behind TLS, with their keys, by follow,tls,raw,0):
+  $ tshark -r FILE -q -z follow,tcp,raw,0 | h2 show --follow
+The client's lines stand after `> `, the server's after `< `, each where the
+last octet of its frame came. A fault ends its side, while the other goes on;
+at the end each side says what is unfinished, the client first. The client is
+the node whose octets come first, where they begin as the preface, and else the
+other. The status is 0 only where both sides are good to their ends. A line
+that is not of tshark's text ends all with `bad hex`; the hint has its number.
 
 Example:
   $ echo 000004 08 00 00000000 0000000f | h2 show --hex --from server
@@ -110,7 +114,7 @@ Example:
 const FROM_HELP: &str = r"The end that sent the octets: client, which begins with
 the preface, or server [default: client]";
 
-const MAX_FRAME: &str = "max-frame";
+pub(super) const MAX_FRAME: &str = "max-frame";
 
 const MAX_FRAME_HELP: &str = r"The most octets that a frame's payload may have, 16384 to
 1048576 [default: 16384]";
@@ -122,8 +126,8 @@ fn max_frames<'a>() -> ValueParser<'a>
     value_parser!(u32).range(i64::from(LEAST_MAX_FRAME)..=i64::from(MOST_MAX_FRAME))
 }
 
-// The option as clap has it.
-fn max_frame_arg<'a>(alloc: Global) -> Arg<'a>
+/// The option as clap has it.
+pub(super) fn max_frame_arg<'a>(alloc: Global) -> Arg<'a>
     ensures rule { rule_of result ≡ number_option_rule (codes "max-frame") 16384 1048576 }
     ensures local { result.global ≡ false }
 {
@@ -147,5 +151,6 @@ pub(super) fn show_command<'a>(alloc: Global) -> Result<Command<'a>, AllocError>
     named_command(alloc, "show", text)?
         .arg(hex_arg(alloc))?
         .arg(side_arg(alloc, FROM, "client", FROM_HELP))?
-        .arg(max_frame_arg(alloc))
+        .arg(max_frame_arg(alloc))?
+        .arg(follow_arg(alloc))
 }

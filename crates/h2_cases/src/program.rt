@@ -4,7 +4,8 @@
 //!   octet.
 //! - `more OCTETS`, `more text TEXT`: what follows in the same input.
 //! - `h2 WORDS`: what the program prints with these words on standard output, then on standard
-//!   error (each line after `err: `), and the status that it ends with. More than 1,000 equal
+//!   error (each line after `err: `), and the status that it ends with. A line of standard output
+//!   that begins as a command does, with `> `, has a backslash before it. More than 1,000 equal
 //!   characters at the end of a line are `\{HEXxN}`. Where no input was given, each read fails, and
 //!   `the input was read` follows if there was one.
 //! - `columns N`: the lines of the last answer that have more than N characters.
@@ -68,8 +69,12 @@ fn read_line(alloc: Global, words: &mut Words<'_>) -> Vec<String> {
     line
 }
 
-// Adds a line. More than `MOST_EQUAL` equal characters at its end are abbreviated.
+// Adds a line. More than `MOST_EQUAL` equal characters at its end are abbreviated; one that begins as
+// a command of a case does has a backslash before it.
 fn add_shortened(text: &mut Text, line: &str) {
+    if line.starts_with("> ") {
+        text.push_str("\\");
+    }
     let last = line.as_bytes().last().copied().unwrap_or(0);
     let start = line.trim_end_matches(last as char);
     let count = line.len().saturating_sub(start.len());

@@ -67,6 +67,8 @@ pub(crate) fn take_piece(
             if code == Code::InternalError {
                 *why = Some(Why::OutOfMemory);
             } else {
+                // The frame is lent again, so that it need not be kept while it is taken.
+                let frame = cutter.frame(piece, complete);
                 *counts = counted;
                 *why = Some(before.rule_of_frame(frame, code, end));
             }

@@ -2,6 +2,7 @@
 
 ghost use Rattle.std.specs.Prelude.{◌≡◌, [], IfOk};
 ghost use Rattle.h2_message.specs.Fields.{value_or_nothing};
+ghost use Rattle.h2_message.specs.Messages.{plain_field};
 ghost use Rattle.h2_message.specs.Values.{message_value};
 ghost use Rattle.h2_ends.specs.Loans.{event_handed};
 ghost use Rattle.h2_engines.specs.Answers.{IsRequest, answer_with};
@@ -77,17 +78,33 @@ impl Request {
         ensures { IfOk result (λ message. message_value message
             ≡ answer_with self.text.items self.to_head) }
     {
-        let mut answer = Message::response(alloc, 200)?;
+        let mut head = Vec::with_capacity(alloc, 2)?;
+        head.push(plain_field(b":status", Octets::from_static(b"200")))?;
         if self.to_head {
-            return Ok(answer);
+            return Ok(Message {
+                head,
+                body: Vec::new(alloc),
+                trailers: None,
+            });
         }
-        answer.head.push(Field {
-            name: Octets::from_static(b"content-length"),
-            value: Octets::new(self.text.len().to_string(alloc)?.into_bytes()),
-            sensitive: false,
-        })?;
-        answer.body = self.text;
-        Ok(answer)
+        let length = self.text.len().to_string(alloc)?.into_bytes();
+        head.push(plain_field(b"content-length", Octets::new(length)))?;
+        Ok(Message {
+            head,
+            body: self.text,
+            trailers: None,
+        })
+    }
+}
+
+/// A field of a name of the program, which may be indexed.
+fn plain_field(name: &'static [u8], value: Octets) -> Field
+    ensures { result ≡ plain_field name.now value }
+{
+    Field {
+        name: Octets::from_static(name),
+        value,
+        sensitive: false,
     }
 }
 

@@ -32,11 +32,15 @@ use Rattle.h2_laws_pair.proofs.examples.ChangedWindow.{delivered_pair, released_
 unfoldable use Rattle.h2_laws_pair.proofs.examples.Moves.{after_move, after_moves}
 use Rattle.h2_ends.specs.Ends.{EndLog, tokens_waiting}
 unfoldable use Rattle.h2_ends.specs.Ends.{said_for, tokens_given}
+unfoldable use Rattle.h2_ends.specs.EndCalls.{octets_among, unsent_on}
 use Rattle.h2_ends.specs.Represents.{new_end_log}
 use Rattle.h2_joined.specs.Joints.{Requests, Calls, Pumps}
 unfoldable use Rattle.h2_laws_quiet.specs.Driving.{IsDriving}
 use Rattle.h2_laws_quiet.specs.Going.{most_sendable}
+unfoldable use Rattle.h2_laws_quiet.specs.MostRounds.{shares}
+use Rattle.h2_laws_quiet.specs.MostRounds.{most_rounds}
 use Rattle.h2_laws_quiet.specs.OpenWindows.{HasOpenWindows}
+use Rattle.h2_laws_quiet.specs.Room.{CreditHasRoom, streams_owed, window_ahead}
 unfoldable use Rattle.h2_laws_quiet.specs.Work.{tokens_on}
 use Rattle.h2_laws_quiet.specs.Work.{work_of_item, work_under_way, work_left}
 
@@ -207,6 +211,42 @@ left_at_ends :
 unfolding computing tokens_on end_tokens trailers_tokens said_tokens tokens_of_call tokens_sent
     said_for tokens_given sum_below
 left_at_ends = (refl, refl)
+
+-- Octets are cut into shares of a window: the last one may be less.
+cut :
+    (shares 11 5 11 ≡ 3) × (shares 10 5 10 ≡ 2) × (shares 3 65535 3 ≡ 1) × (shares 0 5 0 ≡ 0)
+unfolding shares
+cut = (refl, refl, refl, refl)
+
+-- The window counts that the reader has set last, whatever it has received; and 65,535 of a
+-- greater one.
+ahead :
+    (window_ahead (log_of (window_of 7 ∷ []) (window_of 10 ∷ window_of 20 ∷ [])) ≡ 10)
+    × (window_ahead (log_of [] (window_of 100000 ∷ [])) ≡ 65535)
+    × (window_ahead (log_of (window_of 7 ∷ []) []) ≡ 65535)
+unfolding computing
+ahead = (refl, refl, refl)
+
+-- The three octets are one share, and they and the end are two pieces: 6 rounds and 10. After the
+-- reset nothing waits on the stream.
+rounds_at_ends :
+    (most_rounds asked_end answering_end ≡ 16) × (most_rounds reset_end answering_end ≡ 10)
+unfolding computing tokens_on end_tokens trailers_tokens said_tokens tokens_of_call tokens_sent
+    said_for tokens_given sum_below shares unsent_on octets_among
+rounds_at_ends = (refl, refl)
+
+-- Octets are owed on one stream, and after the reset on none; one octet is unreturned in both, so
+-- neither has room.
+owed_there :
+    (streams_owed asked_end.log ≡ 1) × (streams_owed reset_end.log ≡ 0)
+    × (CreditHasRoom asked_end.log → ⊥) × (CreditHasRoom reset_end.log → ⊥)
+unfolding computing
+owed_there = (
+  refl,
+  refl,
+  λ room. absurd (omega (arith, room.none_unreturned)),
+  λ room. absurd (omega (arith, room.none_unreturned)),
+)
 
 -- A number that is odd and 1 at most is 1.
 only_first : (i : ℕ) → i ≤ 1 → i % 2 == 1 ≡ true → i ≡ 1

@@ -3,6 +3,26 @@ pub mod QuietStreams
 pub mod QuietWindows
 pub mod QuietMessages
 mod CallsOfPumps
+mod PumpOctets
+mod PumpSent
+mod FewCounts
+mod FewDue
+mod FewFills
+mod FewItems
+mod FewCalls
+mod FewTurns
+mod FewWindows
+mod FewReleases
+mod FewData
+mod FewFrames
+mod FewRounds
+mod FewSteps
+mod FewPieces
+mod FewProgress
+mod FewEnds
+mod FewRegular
+pub mod FewQuiet
+mod FewLaws
 mod PumpFirst
 pub mod PumpGoes
 pub mod PumpCounts

@@ -134,11 +134,12 @@ one_round client_values server_values count work client server new_client new_se
     }
 
 -- Rounds make joined ends of joined ends.
-record IsCome (client_values server_values : Values) (client server : JointEnd) : Type 0 where
-  made : List Made
-  joint : IsJoint client_values server_values made client server
+pub record IsCome (client_values server_values : Values) (client server : JointEnd) : Type 0
+  where
+    pub made : List Made
+    pub joint : IsJoint client_values server_values made client server
 
-come_by : (client_values server_values : Values) (made : List Made)
+pub come_by : (client_values server_values : Values) (made : List Made)
     (client server : JointEnd) (count : ℕ) (new_client new_server : JointEnd)
     → IsJoint client_values server_values made client server
     → AreRounds client server count new_client new_server

@@ -1,5 +1,5 @@
 -- Where octets of a body could go on any stream, a pump sends some octets, or fills the output.
-use Rattle.std.proofs.Common.{◌≡◌, ◌≢◌, ◌⊎◌, inl, inr, ℕ, ◌+◌, ◌<◌, ◌≤◌, ◌==◌, Bool, true, List}
+use Rattle.std.proofs.Common.{◌≡◌, ◌≢◌, ◌⊎◌, inl, inr, ℕ, ◌<◌, ◌≤◌, ◌==◌, Bool, true, List}
 use Rattle.std.proofs.Common.{[], ◌++◌, Option, None, Ok, refl, sym, ap, ◌∙◌, arith, subst, pos}
 use Rattle.std.proofs.Common.{◌-ℤ◌}
 use Rattle.std.proofs.lemmas.Bool.{cases_eq, and_left, ne_eqb}

@@ -38,7 +38,7 @@ could_or_not end i (OctetToken octet ∷ others) is alive =
           both_ways _ none (and_from _ _ could.0 could.1)))
     ]
 
-could_or_stuck : (end : EndLog) (i : ℕ) → CouldGoOn end i ⊎ IsStuckOn end i
+pub could_or_stuck : (end : EndLog) (i : ℕ) → CouldGoOn end i ⊎ IsStuckOn end i
 could_or_stuck end i = elim (cases_Bool (active end.log i)) [
   | inl alive ↦ could_or_not end i (tokens_waiting end i) refl alive
   | inr over ↦ inr (λ alive. absurd (both_ways _ over alive))

@@ -4,17 +4,16 @@ use Rattle.std.proofs.Common.{◌≡◌, ◌≢◌, ◌⊎◌, inl, inr, ℕ, ze
 use Rattle.std.proofs.Common.{◌&&◌}
 use Rattle.std.proofs.Common.{nat_lt, min, Bool, true, false, List, []}
 use Rattle.std.proofs.Common.{◌∷◌, ◌++◌, length, Option, None, Some, Ok, refl, sym, ap, ◌∙◌}
-use Rattle.std.proofs.Common.{arith, append-nil, append_assoc, subst, map as each}
-use Rattle.std.proofs.Common.{pos, ◌-ℤ◌, take, drop, drop-drop, length-append, is_none}
-use Rattle.std.proofs.Math.Seq.{drop-append_seam}
+use Rattle.std.proofs.Common.{arith, subst, map as each}
+use Rattle.std.proofs.Common.{pos, ◌-ℤ◌}
 use Rattle.std.proofs.lemmas.Bool.{both_ways, cases_Bool, cases_eq, and_parts, and_from, ne_eqb}
-use Rattle.std.proofs.lemmas.Bool.{ltb-true, ltb-false, eqb-true}
+use Rattle.std.proofs.lemmas.Bool.{ltb-true, ltb-false}
 use Rattle.std.proofs.lemmas.Bool.Decides.{nat_tests}
 use Rattle.std.specs.Prelude.{int_lt}
 use Rattle.hpack.specs.declared.types.field.Field.{Field}
 use Rattle.h2_spec_log.specs.declared.refusal.Refusal.{Refusal}
 use Rattle.h2_spec_log.specs.declared.refusal.Refusal.TheVariants.{OutputFull}
-use Rattle.h2_spec_log.specs.Acts.{Act, Answer, SendFields, SendData, Count, Done, Refused}
+use Rattle.h2_spec_log.specs.Acts.{Act, SendFields, SendData, Count, Done}
 use Rattle.h2_spec_log.specs.CallRules.{data_count}
 use Rattle.h2_spec_log.specs.Items.{data_on, data_of, total}
 use Rattle.h2_spec_log.specs.Limits.{full_output, max_data}
@@ -31,21 +30,22 @@ use Rattle.h2_laws_end.specs.Over.{has_room}
 use Rattle.h2_laws_pair.specs.Quiet.{CouldGo, NoneCouldGo}
 use Rattle.h2_laws_pair.specs.Tokens.{Token, FieldsToken, OctetToken, EndToken}
 unfoldable use Rattle.h2_laws_pair.specs.Tokens.{tokens_of_call, end_tokens, trailers_tokens}
-use Rattle.h2_ends.specs.Ends.{EndLog, tokens_out, tokens_said, tokens_waiting}
+use Rattle.h2_ends.specs.Ends.{EndLog, tokens_out, tokens_waiting}
 use Rattle.h2_ends.specs.EndCalls.{BodyWaits, TrailersWait, IsStuckOn, Pumps}
 use Rattle.h2_ends.specs.EndCalls.{pumps_no_more, pumps_data, pumps_trailers, data_refused}
 use Rattle.h2_ends.specs.EndCalls.{trailers_refused}
 unfoldable use Rattle.h2_ends.specs.EndCalls.{MayPump, octets_among, unsent_on}
 use Rattle.h2_ends.specs.Pumping.{IsStuckBelow, end_after_call}
-use Rattle.h2_ends.proofs.EndTokens.{refused_tokens}
-use Rattle.h2_ends.proofs.PumpStuck.{out_after, out_same, waiting_same, stuck_by}
-use Rattle.h2_ends.proofs.PumpStuck.{data_none, fields_none}
-use Rattle.h2_ends.proofs.PumpTokens.{begun_more, data_tokens, fields_tokens, octets_split}
-use Rattle.h2_ends.proofs.PumpTokens.{octets_all}
-use Rattle.h2_ends.proofs.PumpWindows.{data_accepted, data_active, none_without_room}
+use Rattle.h2_ends.proofs.PumpStuck.{out_same, waiting_same, stuck_by}
+use Rattle.h2_ends.proofs.PumpTokens.{begun_more, data_tokens, fields_tokens}
+use Rattle.h2_ends.proofs.PumpWindows.{data_accepted, data_active, data_within}
+use Rattle.h2_ends.proofs.PumpWindows.{none_without_room}
 use Rattle.h2_laws_quiet.specs.Going.{CouldGoOn, WentOn, most_sendable}
 use Rattle.h2_laws_quiet.proofs.PumpFirst.{lowest_below, not_stuck}
 use Rattle.h2_laws_quiet.proofs.CallsOfPumps.{asked, none_written, data_full, fields_full}
+use Rattle.h2_laws_quiet.proofs.PumpOctets.{among_data_here}
+use Rattle.h2_laws_quiet.proofs.PumpSent.{SentSince, among_since, sent_then, waits_then, data_sent}
+use Rattle.h2_laws_quiet.proofs.PumpSent.{all_waited, trailers_sent, stays_out, none_later}
 
 -- A body that waits has an octet first.
 first_octet : (octets : List ℕ) (tail : List Token) → octets ≢ []
@@ -87,7 +87,7 @@ none_by_tests : (count given on given_all all : ℕ)
     → min count (min (min (given - on) (given_all - all)) max_data) ≡ 0
 none_by_tests count given on given_all all tests = grind (arith, nat_tests)
 
-none_by : (count given on given_all all : ℕ)
+pub none_by : (count given on given_all all : ℕ)
     → (int_lt (pos 0) (pos given -ℤ pos on) && int_lt (pos 0) (pos given_all -ℤ pos all)) ≡ false
     → min count (min (min (given - on) (given_all - all)) max_data) ≡ 0
 none_by count given on given_all all none =
@@ -193,138 +193,6 @@ module _ (end : EndLog) (id j : ℕ) (octets : List ℕ) (ends : Bool) (some : l
         subst (λ (count : ℕ). StaysSo end (end_after_call end asks (Count count)) id) (sym is)
         after_none
 
--- These tokens were sent on a stream since, of what waited.
-record SentSince (before after : EndLog) (i : ℕ) (more : List Token) : Type 0 where
-  out : tokens_out after i ≡ tokens_out before i ++ more
-  waited : tokens_waiting before i ≡ more ++ tokens_waiting after i
-
-sent_then : (one two three : EndLog) (i : ℕ) (first then : List Token)
-    → SentSince one two i first → SentSince two three i then
-    → SentSince one three i (first ++ then)
-sent_then one two three i first then a b = record {
-  out = b.out ∙ ap (λ (line : List Token). line ++ then) a.out
-      ∙ append_assoc (tokens_out one i) first then;
-  waited = a.waited ∙ ap (λ (line : List Token). first ++ line) b.waited
-      ∙ sym (append_assoc first then (tokens_waiting three i));
-}
-
-module _ (end : EndLog) (act : Act) (answer : Answer) (i : ℕ) where
-  -- Where what a call sends is first of what waits, the rest waits after it.
-  waits_then : (rest : List Token) → tokens_waiting end i ≡ tokens_of_call i act answer ++ rest
-      → tokens_waiting (end_after_call end act answer) i ≡ rest
-  waits_then rest is =
-      let call = tokens_of_call i act answer in
-      ap (λ (n : ℕ). drop n (tokens_said end i))
-      (ap length (out_after end act answer i) ∙ length-append (tokens_out end i) call)
-      ∙ sym (drop-drop (length call) (length (tokens_out end i)) (tokens_said end i))
-      ∙ ap (drop (length call)) is ∙ drop-append_seam call rest
-
-  sent_by : (rest : List Token) → tokens_waiting end i ≡ tokens_of_call i act answer ++ rest
-      → SentSince end (end_after_call end act answer) i (tokens_of_call i act answer)
-  sent_by rest is = record {
-    out = out_after end act answer i;
-    waited = is ∙ ap (λ (line : List Token). tokens_of_call i act answer ++ line)
-        (sym (waits_then rest is));
-  }
-
-  -- A call that sends nothing there leaves what waits.
-  sent_none_by : tokens_of_call i act answer ≡ []
-      → SentSince end (end_after_call end act answer) i (tokens_of_call i act answer)
-  sent_none_by none =
-      sent_by (tokens_waiting end i)
-      (ap (λ (line : List Token). line ++ tokens_waiting end i) (sym none))
-
--- What is sent of a body, without the end or whole and with it, is first of what waits.
-body_rest : (octets : List ℕ) (trailers : Option (List Field)) (n : ℕ) (ended : Bool)
-    → (ended ≡ true → (n ≡ length octets) × (is_none trailers ≡ true))
-    → (rest : List Token)
-    × (each OctetToken octets ++ (trailers_tokens trailers ++ EndToken ∷ [])
-    ≡ (each OctetToken (take n octets) ++ end_tokens ended) ++ rest)
-unfolding end_tokens
-body_rest octets trailers n true whole =
-    ([], sym (append-nil _ ∙ octets_all octets trailers n (whole refl).0 (whole refl).1))
-body_rest octets trailers n false whole =
-    let tail = trailers_tokens trailers ++ EndToken ∷ [] in (
-      each OctetToken (drop n octets) ++ tail,
-      sym (ap (λ (line : List Token). line ++ (each OctetToken (drop n octets) ++ tail))
-          (append-nil (each OctetToken (take n octets))) ∙ octets_split octets tail n),
-    )
-
-module _ (end : EndLog) (id : ℕ) where
-  -- Octets that a pump sends are of what waits on their stream, and nothing goes on another one.
-  data_sent : (sent : ℕ) (octets : List ℕ) (ends : Bool) (i : ℕ) → BodyWaits end id octets ends
-      → SentSince end (end_after_call end (SendData id octets ends) (Count sent)) i
-      (tokens_of_call i (SendData id octets ends) (Count sent))
-  data_sent sent octets ends i waits = elim (cases_eq i id) [
-    | inl same ↦ subst (λ (j : ℕ). SentSince end
-        (end_after_call end (SendData id octets ends) (Count sent)) j
-        (tokens_of_call j (SendData id octets ends) (Count sent))) (sym same) here
-    | inr other ↦
-        sent_none_by end (SendData id octets ends) (Count sent) i
-        (data_none i id octets ends (Count sent) other)
-  ]
-    where
-      here : SentSince end (end_after_call end (SendData id octets ends) (Count sent)) id
-          (tokens_of_call id (SendData id octets ends) (Count sent))
-      here =
-          let split = body_rest octets waits.trailers sent (ends && sent == length octets)
-          (λ all. let parts = and_parts _ _ all in
-          (eqb-true sent (length octets) parts.1, sym waits.ends_is ∙ parts.0)) in
-          sent_by end (SendData id octets ends) (Count sent) id split.0
-          (waits.waits ∙ split.1 ∙ ap (λ (line : List Token). line ++ split.0)
-          (sym (data_tokens id octets ends sent)))
-
-  -- Trailers are all that waits.
-  all_waited : (list : List Field) → TrailersWait end id list
-      → tokens_waiting end id ≡ tokens_of_call id (SendFields id list true) Done ++ []
-  all_waited list wait = wait ∙ sym (append-nil _ ∙ fields_tokens id list)
-
-  trailers_sent : (list : List Field) (i : ℕ) → TrailersWait end id list
-      → SentSince end (end_after_call end (SendFields id list true) Done) i
-      (tokens_of_call i (SendFields id list true) Done)
-  trailers_sent list i wait = elim (cases_eq i id) [
-    | inl same ↦ subst (λ (j : ℕ). SentSince end
-        (end_after_call end (SendFields id list true) Done) j
-        (tokens_of_call j (SendFields id list true) Done)) (sym same)
-        (sent_by end (SendFields id list true) Done id [] (all_waited list wait))
-    | inr other ↦
-        sent_none_by end (SendFields id list true) Done i
-        (fields_none i id list true Done other)
-  ]
-
--- What a pump sends on a stream it sends of what waits, and it stays sent.
-stays_out : (end after : EndLog) (count : ℕ) (refused : Option Refusal) (i : ℕ)
-    → Pumps end count refused after → (more : List Token) × SentSince end after i more
-stays_out end _ _ _ i (pumps_no_more _) =
-    ([], record { out = sym (append-nil (tokens_out end i)); waited = refl })
-stays_out end _ _ _ i (pumps_data _ id sent more octets ends refused after next typed waits may
-    pumps) =
-    let rest = stays_out _ after more refused i pumps in
-    (_, sent_then end _ after i _ rest.0 (data_sent end id sent octets ends i waits) rest.1)
-stays_out end _ _ _ i (pumps_trailers _ id more list refused after next typed wait may pumps) =
-    let rest = stays_out _ after more refused i pumps in
-    (_, sent_then end _ after i _ rest.0 (trailers_sent end id list i wait) rest.1)
-stays_out end _ _ _ i (data_refused _ id octets ends refusal next typed waits may) = (
-  _,
-  sent_none_by end (SendData id octets ends) (Refused refusal) i
-      (refused_tokens i (SendData id octets ends) refusal),
-)
-stays_out end _ _ _ i (trailers_refused _ id list refusal next typed wait may) = (
-  _,
-  sent_none_by end (SendFields id list true) (Refused refusal) i
-      (refused_tokens i (SendFields id list true) refusal),
-)
-
--- Where nothing waits, nothing does later in the pump.
-none_later : (between after : EndLog) (i : ℕ) (more : List Token) → tokens_waiting between i ≡ []
-    → SentSince between after i more → tokens_waiting after i ≡ []
-none_later between after i more none since =
-    last_none more (tokens_waiting after i) (sym since.waited ∙ none)
-  where
-    last_none : (more rest : List Token) → more ++ rest ≡ [] → rest ≡ []
-    last_none [] rest is = is
-    last_none (token ∷ more) rest is = cc
-
 -- A call that has sent something on a stream has brought it on, whatever comes after it in the
 -- pump.
 went_by : (end between after : EndLog) (i count : ℕ) (refused : Option Refusal)
@@ -372,7 +240,7 @@ octets_no_list end id octets ends list waits wait =
 -- The octets of a message are those of its body.
 -- to be cited from h2_ends (proofs/Unsent.antt, `octets_then` and `tail_without`), where it is
 -- private
-among_octets : (octets : List ℕ) (trailers : Option (List Field))
+pub among_octets : (octets : List ℕ) (trailers : Option (List Field))
     → octets_among (each OctetToken octets ++ (trailers_tokens trailers ++ EndToken ∷ []))
     ≡ length octets
 unfolding octets_among trailers_tokens
@@ -391,6 +259,23 @@ amount_of end id octets ends sent more waits may =
     ∙ ap (λ (stream : Option StreamView). data_count (log_view end.log) stream (length octets))
     (stream_there end.log id (data_active end.log id octets ends sent may)) in
     omega (arith, all, count)
+
+-- So many octets less wait after the pump.
+less_wait : (end after : EndLog) (id : ℕ) (octets : List ℕ) (ends : Bool) (sent more : ℕ)
+    (refused : Option Refusal) → BodyWaits end id octets ends
+    → MayAnswer end.log (SendData id octets ends) (Count sent)
+    → Pumps (end_after_call end (SendData id octets ends) (Count sent)) more refused after
+    → octets_among (tokens_waiting after id)
+    + min (octets_among (tokens_waiting end id)) (most_sendable end.log id)
+    ≤ octets_among (tokens_waiting end id)
+less_wait end after id octets ends sent more refused waits may pumps =
+    let between = end_after_call end (SendData id octets ends) (Count sent) in
+    let first = among_since end between id _ (data_sent end id sent octets ends id waits) in
+    let call = among_data_here id octets ends sent (data_within end.log id octets ends sent may) in
+    let stays = stays_out between after more refused id pumps in
+    let rest = among_since between after id stays.0 stays.1 in
+    let amount = amount_of end id octets ends sent 0 waits may in
+    omega (arith, first, call, rest, amount)
 
 -- Where trailers wait no octets do.
 no_amount : (end : EndLog) (id : ℕ) (list : List Field) (more : ℕ) → TrailersWait end id list
@@ -428,6 +313,9 @@ record GoesFor (end after : EndLog) (id count : ℕ) : Type 0 where
   emptied : (list : List Field) → TrailersWait end id list → tokens_waiting after id ≡ []
   counted : (octets : List ℕ) (ends : Bool) → BodyWaits end id octets ends → 0 < count
   amount : min (octets_among (tokens_waiting end id)) (most_sendable end.log id) ≤ count
+  less : octets_among (tokens_waiting after id)
+      + min (octets_among (tokens_waiting end id)) (most_sendable end.log id)
+      ≤ octets_among (tokens_waiting end id)
 
 -- A pump is over since the output is full, or since nothing could go.
 abbrev IsDone : Option Refusal → EndLog → Type 0
@@ -455,6 +343,11 @@ goes_later end between after id sent more so goes = record {
       omega (arith, later);
   amount =
       let later = goes.amount in
+      let same = ap octets_among so.waits in
+      let room = so.most in
+      omega (arith, later, same, room);
+  less =
+      let later = goes.less in
       let same = ap octets_among so.waits in
       let room = so.most in
       omega (arith, later, same, room);
@@ -493,6 +386,10 @@ pump_goes end _ id _ _ (pumps_data _ j sent more octets ends refused after next 
             amount = subst (λ (i : ℕ). min (octets_among (tokens_waiting end i))
                 (most_sendable end.log i) ≤ sent + more) same
                 (amount_of end j octets ends sent more waits may);
+            less = subst (λ (i : ℕ). octets_among (tokens_waiting after i)
+                + min (octets_among (tokens_waiting end i)) (most_sendable end.log i)
+                ≤ octets_among (tokens_waiting end i)) same
+                (less_wait end after j octets ends sent more refused waits may pumps);
           }
       | is_higher high ↦ absurd (not_stuck end id could (next.below id high))
     ]
@@ -514,6 +411,15 @@ pump_goes end _ id _ _ (pumps_trailers _ j more list refused after next typed wa
             (subst (λ (i : ℕ). BodyWaits end i octets ends) (sym same) body) wait);
         amount = subst (λ (i : ℕ). min (octets_among (tokens_waiting end i))
             (most_sendable end.log i) ≤ more) same (no_amount end j list more wait);
+        less = subst (λ (i : ℕ). octets_among (tokens_waiting after i)
+            + min (octets_among (tokens_waiting end i)) (most_sendable end.log i)
+            ≤ octets_among (tokens_waiting end i)) same
+            (let none = no_amount end j list 0 wait in
+            let between = end_after_call end (SendFields j list true) Done in
+            let first = among_since end between j _ (trailers_sent end j list j wait) in
+            let rest = stays_out between after more refused j pumps in
+            let later = among_since between after j rest.0 rest.1 in
+            omega (arith, none, first, later));
       }
       | is_higher high ↦ absurd (not_stuck end id could (next.below id high))
     ]
@@ -580,3 +486,12 @@ pub amount_goes : (end after : EndLog) (id count : ℕ) → MayPump end (Ok coun
 unfolding unsent_on
 amount_goes end after id count may few could below =
     rw could.active (pump_answers end after id count may few could below).amount
+
+-- As many octets less wait there after it as one call may send.
+pub less_goes : (end after : EndLog) (id count : ℕ) → MayPump end (Ok count) after
+    → waiting end.log < full_output → CouldGoOn end id → IsStuckBelow end id
+    → octets_among (tokens_waiting after id)
+    + min (octets_among (tokens_waiting end id)) (most_sendable end.log id)
+    ≤ octets_among (tokens_waiting end id)
+less_goes end after id count may few could below =
+    (pump_answers end after id count may few could below).less

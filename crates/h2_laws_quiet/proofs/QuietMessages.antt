@@ -50,7 +50,7 @@ use Rattle.h2_joined.proofs.JointLaws.{quiet_pair}
 use Rattle.h2_joined.proofs.RunLaws.{quiet_had_memory}
 
 -- The same of what was accepted for a stream, if anything was.
-goes_on_by : (role : Role) (values : Values) (log : Log) (i : ℕ) (given : Option Said)
+pub goes_on_by : (role : Role) (values : Values) (log : Log) (i : ℕ) (given : Option Said)
     (token : Token) (others : List Token) → IsLog role values log
     → tokens_given given ≡ tokens_sent i log.calls ++ token ∷ others
     → list_any (ends i) log.sent ≡ false

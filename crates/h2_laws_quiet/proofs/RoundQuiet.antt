@@ -51,11 +51,11 @@ module _ (client_values server_values : Values) (made : List Made) (c0 s0 c8 s8 
   p4 : Pumped steps.s3 steps.c3 steps.s4 steps.c4
   p4 = pumped_by steps.s3 steps.c3 steps.s4 steps.c4 steps.a4 steps.server_pumps steps.got4
 
-  m5 : Moved steps.c4 steps.s4 steps.c5 steps.s5 all_octets
+  pub m5 : Moved steps.c4 steps.s4 steps.c5 steps.s5 all_octets
   m5 = moved_by steps.c4 steps.s4 all_octets steps.c5 steps.s5 steps.a5 steps.client_moves
       steps.got5
 
-  m6 : Moved steps.s5 steps.c5 steps.s6 steps.c6 all_octets
+  pub m6 : Moved steps.s5 steps.c5 steps.s6 steps.c6 all_octets
   m6 = moved_by steps.s5 steps.c5 all_octets steps.s6 steps.c6 steps.a6 steps.server_moves
       steps.got6
 
@@ -63,23 +63,26 @@ module _ (client_values server_values : Values) (made : List Made) (c0 s0 c8 s8 
   d7 = delivered_by steps.s6 steps.c6 all_octets steps.s7 steps.c7 steps.a7 steps.server_takes
       steps.got7 k.known7.server_up
 
-  d8 : DeliveredTo steps.c7 steps.s7 c8 s8 all_octets
+  pub d8 : DeliveredTo steps.c7 steps.s7 c8 s8 all_octets
   d8 = delivered_by steps.c7 steps.s7 all_octets c8 s8 steps.a8 steps.client_takes steps.got8
       k.known8.client_up
 
   -- the ends once their output was given out
-  abbrev client_moved : EndLog
+  abbrev pub client_moved : EndLog
   client_moved = put_out_end steps.c3.happened all_octets m5.given
 
-  abbrev server_moved : EndLog
+  abbrev pub server_moved : EndLog
   server_moved = put_out_end steps.s4.happened all_octets m6.given
 
-  client_moved_is : steps.c7.happened ≡ client_moved
-  client_moved_is =
-      ap (λ (end : JointEnd). end.happened) d7.other_same ∙ (m6.other_same ∙ (m5.happened
-      ∙ ap (λ (end : JointEnd). put_out_end end.happened all_octets m5.given) p4.other_same))
+  pub client_put : steps.c6.happened ≡ client_moved
+  client_put =
+      m6.other_same ∙ (m5.happened
+      ∙ ap (λ (end : JointEnd). put_out_end end.happened all_octets m5.given) p4.other_same)
 
-  server_moved_is : steps.s6.happened ≡ server_moved
+  pub client_moved_is : steps.c7.happened ≡ client_moved
+  client_moved_is = ap (λ (end : JointEnd). end.happened) d7.other_same ∙ client_put
+
+  pub server_moved_is : steps.s6.happened ≡ server_moved
   server_moved_is = m6.happened
       ∙ ap (λ (end : EndLog). put_out_end end all_octets m6.given) m5.other_same
 
@@ -116,7 +119,8 @@ module _ (client_values server_values : Values) (made : List Made) (c0 s0 c8 s8 
       k.known6.had all_octets steps.s7.happened d7.delivered))
 
   -- What both ends do.
-  client_stages : Stages c0.happened steps.c1.happened steps.c3.happened client_moved c8.happened
+  pub client_stages : Stages c0.happened steps.c1.happened steps.c3.happened client_moved
+      c8.happened
   client_stages = record {
     releases = release_all_falls roles.Client client_values c0.happened steps.c1.happened r1.result
         r1.may k.known0.client_log;
@@ -127,7 +131,8 @@ module _ (client_values server_values : Values) (made : List Made) (c0 s0 c8 s8 
     takes = client_takes;
   }
 
-  server_stages : Stages s0.happened steps.s2.happened steps.s4.happened server_moved s8.happened
+  pub server_stages : Stages s0.happened steps.s2.happened steps.s4.happened server_moved
+      s8.happened
   server_stages = record {
     releases = release_all_falls roles.Server server_values s0.happened steps.s2.happened r2.result
         server_release k.known0.server_log;
@@ -138,7 +143,7 @@ module _ (client_values server_values : Values) (made : List Made) (c0 s0 c8 s8 
     takes = server_takes;
   }
 
-  client_path : IsPath roles.Client client_values all_octets m5.given c0.happened
+  pub client_path : IsPath roles.Client client_values all_octets m5.given c0.happened
       steps.c1.happened steps.c3.happened c8.happened
   client_path = record {
     release = r1.result;
@@ -158,7 +163,7 @@ module _ (client_values server_values : Values) (made : List Made) (c0 s0 c8 s8 
     up_last = k.known8.client_up;
   }
 
-  server_path : IsPath roles.Server server_values all_octets m6.given s0.happened
+  pub server_path : IsPath roles.Server server_values all_octets m6.given s0.happened
       steps.s2.happened steps.s4.happened s8.happened
   server_path = record {
     release = r2.result;
@@ -209,7 +214,7 @@ module _ (client_values server_values : Values) (made : List Made) (c0 s0 c8 s8 
       (to_client last.pair))
 
   -- What arrives.
-  server_arrived : steps.s7.happened.log.received ≡ steps.c7.happened.log.sent
+  pub server_arrived : steps.s7.happened.log.received ≡ steps.c7.happened.log.sent
   server_arrived =
       let one = half_of steps.c7 k.known7.client_lost in
       let two = half_of steps.s7 k.known7.server_lost in
@@ -220,7 +225,7 @@ module _ (client_values server_values : Values) (made : List Made) (c0 s0 c8 s8 
       (all_put_out roles.Client client_values steps.c3.happened.log all_octets m5.given
       k.known3.client_log (omega arith) client_may))
 
-  client_arrived : c8.happened.log.received ≡ steps.s6.happened.log.sent
+  pub client_arrived : c8.happened.log.received ≡ steps.s6.happened.log.sent
   client_arrived =
       let one = half_of steps.s6 k.known_beside.server_lost in
       let two = half_of c8 k.known_beside.client_lost in
@@ -391,7 +396,7 @@ module _ (client_values server_values : Values) (made : List Made) (c0 s0 c8 s8 
       ]
 
 -- What is known of the ends between the acts.
-steps_known : (client_values server_values : Values) (made : List Made)
+pub steps_known : (client_values server_values : Values) (made : List Made)
     (c0 s0 c8 s8 : JointEnd) → IsJoint client_values server_values made c0 s0
     → c8.happened.log.failed ≡ None → s8.happened.log.failed ≡ None
     → (steps : Steps c0 s0 c8 s8)

@@ -83,7 +83,7 @@ pub record IsStill (released pumped moved last : EndLog) : Type 0 where
   pub none_pumped : waiting pumped.log ≡ 0
 
 -- Nothing is owed after a release of all.
-full_or_none : (log : Log) → full_output ≤ waiting log → waiting log ≡ 0 → ⊥
+pub full_or_none : (log : Log) → full_output ≤ waiting log → waiting log ≡ 0 → ⊥
 full_or_none log full none = omega (arith, full, none)
 
 none_owed_released : (first released : EndLog) (release : Result (Unit {0}) EndRefusal)
@@ -122,7 +122,7 @@ module _ (role : Role) (values : Values) where
   owed_pumps end _ _ _ (trailers_refused _ id list refusal next typed wait may) is none i =
       none_owed_by_call role values end.log (SendFields id list true) _ i is may (none i)
 
-  owed_pumped : (released pumped : EndLog) (pump : Result ℕ EndRefusal)
+  pub owed_pumped : (released pumped : EndLog) (pump : Result ℕ EndRefusal)
       → MayPump released pump pumped → IsLog role values released.log
       → ((i : ℕ) → owed released.log i ≡ 0) → (i : ℕ) → owed pumped.log i ≡ 0
   unfolding MayPump
@@ -153,7 +153,7 @@ stuck_pumped released pumped (Err other) may had was_up empty = absurd may
 longer : (item : Item) (items : List Item) → item ∷ items ≢ items
 longer item items same = omega (arith, ap length same)
 
-none_by_tests : (unreturned waits : ℕ) → waits < full_output
+pub none_by_tests : (unreturned waits : ℕ) → waits < full_output
     → (nat_lt 0 unreturned && nat_lt waits full_output) ≡ false → unreturned ≡ 0
 none_by_tests unreturned waits few keeps = grind (arith, nat_tests, few, keeps)
 
@@ -166,24 +166,28 @@ none_unreturned log count given up empty =
     (λ keeps same. none_by_tests log.unreturned (waiting log) (rw empty (omega arith))
     (rw up at keeps))
 
--- A sum that is nothing is of nothing.
-none_each : (n : ℕ) (f : ℕ → ℕ) → sum_below n f ≡ 0 → (i : ℕ) → i < n → f i ≡ 0
+-- What is owed on a stream is within the credit that is left.
+each_within : (n : ℕ) (f : ℕ → ℕ) (i : ℕ) → i < n → f i ≤ sum_below n f
 unfolding sum_below
-none_each zero f none i low = absurd (omega (arith, low))
-none_each (suc n) f none i low = elim (cases_eq i n) [
-  | inl same ↦ rw same (omega (arith, none))
-  | inr other ↦ none_each n f (omega (arith, none)) i (omega (arith, low, other))
+each_within zero f i low = absurd (omega (arith, low))
+each_within (suc n) f i low = elim (cases_eq i n) [
+  | inl same ↦ rw same (omega arith)
+  | inr other ↦ omega (arith, each_within n f i (omega (arith, low, other)))
 ]
 
--- So where no credit is left, nothing is owed.
-none_owed_by_credit : (log : Log) → credit_left log ≡ 0 → (i : ℕ) → owed log i ≡ 0
-none_owed_by_credit log none i = elim (cases_Bool (active log i)) [
+pub owed_within : (log : Log) (i : ℕ) → owed log i ≤ credit_left log
+owed_within log i = elim (cases_Bool (active log i)) [
   | inl alive ↦
       let low = block_below i _
       (active_parts log.role i log.received log.sent log.reported alive).opened in
-      none_each (above_streams log) (owed log) (omega (arith, none)) i (omega (arith, low))
-  | inr over ↦ owed_inactive log i over
+      let within = each_within (above_streams log) (owed log) i (omega (arith, low)) in
+      omega (arith, within)
+  | inr over ↦ omega (arith, owed_inactive log i over)
 ]
+
+-- So where no credit is left, nothing is owed.
+pub none_owed_by_credit : (log : Log) → credit_left log ≡ 0 → (i : ℕ) → owed log i ≡ 0
+none_owed_by_credit log none i = omega (arith, none, owed_within log i)
 
 -- A stream that is active where more was reported was so before.
 active_less : (role : Role) (i : ℕ) (received sent : List Item) (events reported : List Event)

@@ -37,7 +37,9 @@ use Rattle.h2_joined.proofs.JointHolds.{AllHadMemory}
 use Rattle.h2_joined.specs.Joints.{half_of}
 use Rattle.h2_joined.proofs.JointOrder.{unused_unsent}
 unfoldable use Rattle.h2_laws_quiet.specs.Work.{tokens_on}
-use Rattle.h2_laws_quiet.proofs.WorkOfItems.{IsSomeUpdate}
+use Rattle.h2_laws_quiet.proofs.FewFills.{Fills, take_fills, fills_twice, fills_none}
+use Rattle.h2_laws_quiet.proofs.WorkOfItems.{IsSomeUpdate, IsAnswerItem}
+use Rattle.h2_laws_pair.proofs.Lists.{all_both}
 use Rattle.h2_laws_quiet.proofs.WorkOfLogs.{some_updates}
 use Rattle.h2_laws_quiet.proofs.WorkOfTakes.{NoStreamFault, Takes, takes_drive}
 use Rattle.h2_laws_quiet.proofs.WorkOfTokens.{none_more_left, on_by}
@@ -126,12 +128,14 @@ on_taken role values end new piece count event i is order may same =
         (unused_unsent role values end.log i is unused) in
         no_more (active new.log i) (active end.log i) _ _ (waits ∙ none)
 
--- An end to which octets are delivered: nothing that waits has gone, and what it returns is a
--- margin.
+-- An end to which octets are delivered: nothing that waits has gone, what it returns is a margin,
+-- it writes nothing but answers, and its output grows by what DATA brings.
 pub record EndTakes (before after : EndLog) : Type 0 where
   pub ends : EndDrives before after
   pub none_gone : ends.gone ≡ 0
   pub returns : ends.drives.margin ≡ total (increment_on 0) ends.drives.written
+  pub answers : AllByRecursion IsAnswerItem ends.drives.written
+  pub fills : Fills before.log after.log
 
 -- One call of `take` after another; and none.
 takes_twice : (one two three : EndLog) → EndTakes one two → EndTakes two three
@@ -146,11 +150,22 @@ takes_twice one two three a b = record {
     b.returns,
     total-append (increment_on 0) b.ends.drives.written a.ends.drives.written,
   );
+  answers = all_both IsAnswerItem b.ends.drives.written a.ends.drives.written b.answers
+      a.answers;
+  fills = fills_twice one.log two.log three.log a.ends.drives.read b.ends.drives.read
+      a.ends.drives.received b.ends.drives.received a.fills b.fills;
 }
 
 takes_no_more : (end : EndLog) → EndTakes end end
 unfolding total ends_none drives_none
-takes_no_more end = record { ends = ends_none end; none_gone = refl; returns = refl }
+takes_no_more end =
+    record {
+      ends = ends_none end;
+      none_gone = refl;
+      returns = refl;
+      answers = tt;
+      fills = fills_none end.log;
+    }
 
 -- What is asked of an end after a step.
 abbrev EndDrivenTo : EndLog → EndLog → Type 0
@@ -171,10 +186,13 @@ taken_ends role values end new piece count event is order may same up some sound
             let less = none_more_left end new (λ i.
             on_taken role values end new piece count event i is order may same) in
             omega (arith, less);
+        each = λ i. on_taken role values end new piece count event i is order may same;
         same = λ none i. waiting_taken end new piece (Took count event) i may same;
       };
       none_gone = refl;
       returns = took.returns;
+      answers = took.answers;
+      fills = take_fills role values end.log new.log piece count event is may up sound;
     }
 
 -- A call of `take` of an end that hands out no reset of its own.

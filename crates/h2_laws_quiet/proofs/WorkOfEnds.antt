@@ -36,7 +36,7 @@ use Rattle.h2_ends.proofs.EndTokens.{no_part_tokens, refused_tokens}
 use Rattle.h2_ends.proofs.PumpStuck.{waiting_same}
 use Rattle.h2_ends.proofs.PumpTokens.{data_tokens, fields_tokens}
 use Rattle.h2_ends.proofs.PumpWindows.{data_active, data_within}
-use Rattle.h2_laws_quiet.specs.Work.{one_to_answer, work_of_item, tokens_left}
+use Rattle.h2_laws_quiet.specs.Work.{one_to_answer, work_of_item, tokens_on, tokens_left}
 use Rattle.h2_laws_quiet.proofs.PumpGoes.{none_said}
 use Rattle.h2_laws_quiet.proofs.WorkOfItems.{IsSomeUpdate}
 use Rattle.h2_laws_quiet.proofs.WorkOfLogs.{Drives, drives_none, some_updates, data_drives}
@@ -44,12 +44,13 @@ use Rattle.h2_laws_quiet.proofs.WorkOfLogs.{fields_drives, release_drives, put_o
 use Rattle.h2_laws_quiet.proofs.WorkOfLogs.{refused_drives}
 use Rattle.h2_laws_quiet.proofs.WorkOfTokens.{none_more_left, gone_left, on_after, gone_after}
 
--- An end goes on in a step of driving, and as many tokens less wait as have gone; where none have,
--- the same wait.
+-- An end goes on in a step of driving, and as many tokens less wait as have gone, on no stream
+-- more than before; where none have gone, the same wait.
 pub record EndDrives (before after : EndLog) : Type 0 where
   pub gone : ℕ
   pub drives : Drives before.log after.log gone
   pub tokens : tokens_left after + gone ≤ tokens_left before
+  pub each : (i : ℕ) → tokens_on after i ≤ tokens_on before i
   pub same : gone ≡ 0 → (i : ℕ) → tokens_waiting after i ≡ tokens_waiting before i
 
 -- One step after another.
@@ -83,6 +84,7 @@ ends_twice one two three a b = record {
   gone = a.gone + b.gone;
   drives = drives_twice one.log two.log three.log a.gone b.gone a.drives b.drives;
   tokens = let before = a.tokens in let after = b.tokens in omega (arith, before, after);
+  each = λ i. omega (arith, a.each i, b.each i);
   same = λ none i. b.same (omega (arith, none)) i ∙ a.same (omega (arith, none)) i;
 }
 
@@ -92,6 +94,7 @@ ends_none end = record {
   gone = 0;
   drives = drives_none end.log end.log 0 refl refl refl;
   tokens = omega arith;
+  each = λ i. omega arith;
   same = λ none i. refl;
 }
 
@@ -102,7 +105,7 @@ updates_of role values log is =
     some_updates role log.received log.sent (written_is_allowed role values log is)
 
 -- A stream that is active after a call that opens none was so before.
-was_active : (log : Log) (act : Act) (answer : Answer) (i : ℕ) → MayAnswer log act answer
+pub was_active : (log : Log) (act : Act) (answer : Answer) (i : ℕ) → MayAnswer log act answer
     → answer ≢ Number i → active (with_call log act answer) i ≡ true → active log i ≡ true
 was_active log act answer i may other now = elim (cases_Bool (active log i)) [
   | inl was ↦ was
@@ -121,6 +124,7 @@ quiet_call end act answer may other silent drives = record {
       let less = none_more_left end (end_after_call end act answer) (λ i.
       on_after end act answer i (was_active end.log act answer i may (other i))) in
       omega (arith, less);
+  each = λ i. on_after end act answer i (was_active end.log act answer i may (other i));
   same = λ none i. waiting_same end act answer i (silent i);
 }
 
@@ -137,6 +141,7 @@ saying_call end act answer id gone may other drives alive sent waits silent = re
   tokens = gone_left end (end_after_call end act answer) id gone alive
       (λ i others. on_after end act answer i (was_active end.log act answer i may (other i)))
       (gone_after end act answer id gone alive sent waits);
+  each = λ i. on_after end act answer i (was_active end.log act answer i may (other i));
   same = λ none i. waiting_same end act answer i (silent none i);
 }
 

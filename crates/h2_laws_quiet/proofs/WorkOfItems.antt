@@ -103,3 +103,29 @@ unfolding total one_settings one_ping data_of increment_on IsSomeUpdate
 credit_work items (inl none) some = rw none (omega arith)
 credit_work items (inr (count, is)) some =
     rw is (let more = (rw is at some).0 in omega (arith, more))
+
+-- What an end writes as it takes octets: an acknowledgment of SETTINGS, the answer to PING, or
+-- credit of the connection.
+unfoldable pub IsAnswerItem : Item → Type 0
+IsAnswerItem (alone (Settings ack pairs)) = ack ≡ true
+IsAnswerItem (alone (Ping ack octets)) = ack ≡ true
+IsAnswerItem (alone (WindowUpdate stream increment)) = stream ≡ 0
+IsAnswerItem item = ⊥
+
+-- What is replied to an item is such, unless it resets a stream.
+pub replies_answer : (verdict : Verdict) (item : Item)
+    → ((code : Code) → verdict ≢ StreamFault code)
+    → AllByRecursion IsAnswerItem (replies_to verdict item)
+unfolding replies_to IsAnswerItem
+replies_answer (ConnectionFault code) item none = tt
+replies_answer (StreamFault code) item none = absurd (none code refl)
+replies_answer NoEvent (alone (Settings false pairs)) none = (refl, tt)
+replies_answer NoEvent (alone (Ping false octets)) none = (refl, tt)
+replies_answer NoEvent item none = tt
+replies_answer Reported item none = tt
+
+-- So is credit.
+pub credit_answers : (items : List Item) → IsCredit items → AllByRecursion IsAnswerItem items
+unfolding IsAnswerItem
+credit_answers items (inl none) = rw none tt
+credit_answers items (inr (count, is)) = rw is (refl, tt)

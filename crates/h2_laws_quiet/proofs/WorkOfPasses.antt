@@ -149,6 +149,7 @@ module _ (role : Role) (values : Values) where
     gone = drives.gone;
     drives = drives.drives;
     tokens = drives.tokens;
+    each = drives.each;
     same = drives.same;
   }
 

@@ -31,7 +31,9 @@ use Rattle.h2_laws_pair.proofs.FrameSteps.{kept_by_step, has_item, with_item}
 use Rattle.h2_laws_pair.proofs.StepsOfLogs.{IsNoCall}
 use Rattle.h2_laws_quiet.specs.Work.{work_of_item}
 use Rattle.h2_laws_quiet.proofs.WorkOfItems.{IsSomeUpdate, credit_work, replies_work}
-use Rattle.h2_laws_quiet.proofs.WorkOfItems.{replies_return}
+use Rattle.h2_laws_quiet.proofs.WorkOfItems.{replies_return, IsAnswerItem, replies_answer}
+use Rattle.h2_laws_quiet.proofs.WorkOfItems.{credit_answers}
+use Rattle.h2_laws_pair.proofs.Lists.{all_both}
 use Rattle.h2_laws_quiet.proofs.WorkOfLogs.{Drives, first_all}
 unfoldable use Rattle.h2_laws_quiet.proofs.WorkOfLogs.{drives_none}
 
@@ -66,10 +68,11 @@ credit_added more log =
       reported = refl;
     })
 
--- A step that takes octets leaves less work by what it returns.
+-- A step that takes octets leaves less work by what it returns, and writes nothing but answers.
 pub record Takes (before after : Log) : Type 0 where
   pub drives : Drives before after 0
   pub returns : drives.margin ≡ total (increment_on 0) drives.written
+  pub answers : AllByRecursion IsAnswerItem drives.written
 
 -- Replies and credit do.
 replied : (before after : Log) (item : Item) (verdict : Verdict) (credit : List Item)
@@ -103,6 +106,8 @@ replied before after item verdict credit events is some sound sent received repo
         );
       };
       returns = refl;
+      answers = all_both IsAnswerItem credit replies (credit_answers credit is)
+          (replies_answer verdict item sound);
     }
 
 -- Nothing is written or read.
@@ -110,7 +115,11 @@ takes_none : (before after : Log) → after.sent ≡ before.sent → after.recei
     → after.reported ≡ before.reported → Takes before after
 unfolding total drives_none
 takes_none before after sent received reported =
-    record { drives = drives_none before after 0 sent received reported; returns = refl }
+    record {
+      drives = drives_none before after 0 sent received reported;
+      returns = refl;
+      answers = tt;
+    }
 
 -- What is known of a log after a step: it is up, gives back some octets at least, and has reset no
 -- stream for a fault.
@@ -120,7 +129,7 @@ record IsWell (log : Log) : Type 0 where
   sound : NoStreamFault log
 
 -- Where a stream was reset for a fault, that was reported.
-no_fault : (log new : Log) (decoded : Option Decoded) (item : Item) (verdict : Verdict)
+pub no_fault : (log new : Log) (decoded : Option Decoded) (item : Item) (verdict : Verdict)
     (events : List Event) → new.reported ≡ events_of (log_view log) decoded verdict item ++ events
     → NoStreamFault new → (code : Code) → verdict ≢ StreamFault code
 unfolding events_of
@@ -178,6 +187,7 @@ none_drives log well =
         cheap = omega (arith, back);
       };
       returns = refl;
+      answers = credit_answers added.credit added.is_credit;
     }
 
 -- So is each step that is no call.

@@ -17,7 +17,7 @@ use Rattle.h2_ends.proofs.PumpStuck.{out_after}
 use Rattle.h2_laws_quiet.specs.Work.{above_streams, tokens_on, tokens_left}
 
 -- Above the numbers of an end no token waits.
-none_beyond : (end : EndLog) (i : ℕ) → above_streams end.log ≤ i → tokens_on end i ≡ 0
+pub none_beyond : (end : EndLog) (i : ℕ) → above_streams end.log ≤ i → tokens_on end i ≡ 0
 unfolding tokens_on
 none_beyond end i above =
     let log = end.log in
@@ -28,7 +28,7 @@ none_beyond end i above =
     rw over refl
 
 -- So a sum over more numbers is the same.
-sum_ends : (n more : ℕ) (f : ℕ → ℕ) → ((i : ℕ) → n ≤ i → f i ≡ 0)
+pub sum_ends : (n more : ℕ) (f : ℕ → ℕ) → ((i : ℕ) → n ≤ i → f i ≡ 0)
     → sum_below (more + n) f ≡ sum_below n f
 unfolding sum_below
 sum_ends n zero f none = rw (zero-add n) refl

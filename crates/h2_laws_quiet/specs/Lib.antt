@@ -4,3 +4,5 @@ pub mod Going
 pub mod Work
 pub mod Driving
 pub mod Rounds
+pub mod Room
+pub mod MostRounds

@@ -1,12 +1,15 @@
 //! Rounds bring two joined ends nearer to quiet, and then they are quiet.
 
-ghost use Rattle.std.specs.Prelude.{◌≡◌, ◌⊎◌, ◌<◌, ℕ, List, None};
+ghost use Rattle.std.specs.Prelude.{◌≡◌, ◌⊎◌, ◌≤◌, ◌<◌, ◌-◌, ℕ, List, None};
 ghost use Rattle.h2_spec_log.specs.Acts.{Values};
 ghost use Rattle.h2_joined.specs.Joints.{JointEnd, Made, IsJoint};
 ghost use Rattle.h2_joined.specs.Headline.{AreQuiet, WasResetIn};
 ghost use Rattle.h2_laws_quiet.specs.Arrived.{HasArrived};
+ghost use Rattle.h2_ends.specs.EndCalls.{unsent_on};
+ghost use Rattle.h2_laws_quiet.specs.MostRounds.{most_rounds};
+ghost use Rattle.h2_laws_quiet.specs.Room.{CreditHasRoom, window_ahead};
 ghost use Rattle.h2_laws_quiet.specs.Rounds.{IsRound, AreRounds};
-ghost use Rattle.h2_laws_quiet.specs.Work.{work_left};
+ghost use Rattle.h2_laws_quiet.specs.Work.{tokens_on, work_left};
 
 // contract: joined (own) Two ends that are driven get quiet, and all that was accepted arrives
 /// After a round in which memory sufficed and neither end failed, the two ends are quiet, or less
@@ -63,4 +66,54 @@ pub fn driven_messages_arrive()
         → work_left client.happened server.happened < count
         → (WasResetIn made new_client i → ⊥)
         → HasArrived new_server.happened new_client.happened i }
+{}
+
+// contract: joined (own) Two ends that are driven get quiet, and all that was accepted arrives
+/// Few rounds lead to quiet, whatever acts were made before. At each of two joined ends all octets
+/// that wait are cut into shares of a window, 65,535 at most; and what waits on a stream is up to
+/// three pieces, its octets, its trailers and its end. After two rounds for each share and each
+/// piece, at both ends together, and ten more, the ends are quiet (`most_rounds`). Memory sufficed
+/// in these rounds, and neither end has failed.
+pub fn few_rounds_lead_to_quiet()
+    ensures { (client_values server_values : Values) (made : List Made) (count : ℕ)
+        (client server new_client new_server : JointEnd)
+        → IsJoint client_values server_values made client server
+        → AreRounds client server count new_client new_server
+        → new_client.happened.log.failed ≡ None → new_server.happened.log.failed ≡ None
+        → most_rounds client.happened server.happened ≤ count → AreQuiet new_client new_server }
+{}
+
+// contract: joined (own) Two ends that are driven get quiet, and all that was accepted arrives
+/// In two rounds one after another, of the lowest stream on which something waits, as many octets
+/// go as a window lets through, or all of them: the initial window that the reader has set last,
+/// and 65,535 at most (RFC 9113, section 6.9). Before these two a round was made; as the first of
+/// them begins both ends have room for all credit that they owe, and as the second begins the
+/// writer has. So it is whatever acts were made before, and whatever waits on other streams.
+pub fn two_rounds_send_a_window()
+    ensures to_server { (client_values server_values : Values) (made : List Made)
+        (old_client old_server client server mid_client mid_server new_client new_server
+        : JointEnd) (i : ℕ)
+        → IsJoint client_values server_values made old_client old_server
+        → IsRound old_client old_server client server
+        → IsRound client server mid_client mid_server
+        → IsRound mid_client mid_server new_client new_server
+        → new_client.happened.log.failed ≡ None → new_server.happened.log.failed ≡ None
+        → CreditHasRoom client.happened.log → CreditHasRoom server.happened.log
+        → CreditHasRoom mid_client.happened.log
+        → ((j : ℕ) → j < i → tokens_on client.happened j ≡ 0)
+        → unsent_on new_client.happened i
+        ≤ unsent_on client.happened i - window_ahead server.happened.log }
+    ensures to_client { (client_values server_values : Values) (made : List Made)
+        (old_client old_server client server mid_client mid_server new_client new_server
+        : JointEnd) (i : ℕ)
+        → IsJoint client_values server_values made old_client old_server
+        → IsRound old_client old_server client server
+        → IsRound client server mid_client mid_server
+        → IsRound mid_client mid_server new_client new_server
+        → new_client.happened.log.failed ≡ None → new_server.happened.log.failed ≡ None
+        → CreditHasRoom server.happened.log → CreditHasRoom client.happened.log
+        → CreditHasRoom mid_server.happened.log
+        → ((j : ℕ) → j < i → tokens_on server.happened j ≡ 0)
+        → unsent_on new_server.happened i
+        ≤ unsent_on server.happened i - window_ahead client.happened.log }
 {}

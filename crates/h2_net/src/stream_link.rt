@@ -18,7 +18,7 @@ use std::net::{OpenStream, Shutdown};
 const MOST_HELD: usize = 65_536;
 
 /// So many octets are sent from where they lie, where none are held.
-const DIRECT: usize = 32_768;
+const DIRECT: usize = 8_192;
 
 /// So many octets are read at once where they are dropped.
 const DROPPED_PIECE: usize = 4_096;
@@ -28,11 +28,11 @@ const MOST_DROPPED: usize = 16_777_216;
 
 /// A link over a TCP stream. It holds what it is given to write, up to 65,536 octets, and sends
 /// that at the next read, once it is so many octets, and where [`StreamLink::flush`] is called.
-/// 32,768 octets and more are sent at once, without a copy, where none are held.
+/// 8,192 octets and more are sent at once, without a copy, where none are held.
 ///
 /// Where sending fails the call that sends fails, and of what was held what was not sent stays
 /// held: the next call that sends goes on with it, so octets are sent in order, and none twice.
-/// After a failed write of 32,768 octets or more it isn't known how many of these were sent:
+/// After a failed write of 8,192 octets or more it isn't known how many of these were sent:
 /// nothing may be written after them.
 ///
 /// What is held where a link is dropped isn't sent.

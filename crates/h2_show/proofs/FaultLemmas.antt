@@ -23,7 +23,7 @@ use Rattle.h2_show.proofs.PrefaceLemmas.{inside_lines}
 use Rattle.h2_show.proofs.PrintedLemmas.{settle}
 
 -- the frames so far are shown
-frames_shown : (blocks : Blocks) (frames : List Frame) (lines : List ℕ)
+pub frames_shown : (blocks : Blocks) (frames : List Frame) (lines : List ℕ)
     → BlocksShow blocks frames lines → ShowsFrames frames blocks.gather.begun lines
 frames_shown blocks frames lines shows = search rules
 

@@ -26,7 +26,7 @@ pub(crate) struct Blocks {
 
 /// Why a frame isn't taken.
 #[derive(Clone, Copy, Debug, PartialEq, Eq)]
-pub(crate) enum BlockError {
+pub enum BlockError {
     /// The frame doesn't group, or ends a block that doesn't decode: a connection error with this
     /// code.
     Fault(Code),

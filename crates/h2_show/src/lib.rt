@@ -2,6 +2,7 @@
 //! fault that ends a stream.
 //!
 //! [`show_input`] reads from any reader and prints to any writer, so tests run it in memory.
+//! A [`Viewer`] shows one stream, piece by piece.
 //! [`write_field`] prints a field for other commands too. What these share besides is in `h2_cli`.
 #![tactic(auto)]
 
@@ -12,8 +13,10 @@ mod options;
 mod show;
 mod viewer;
 
+pub use blocks::BlockError;
 pub use h2_cli::{Failure, Status};
 pub use hint::Hint;
 pub use lines::write_field;
 pub use options::{ShowOptions, Side};
 pub use show::{Shown, show_input};
+pub use viewer::{ShowError, Viewer};

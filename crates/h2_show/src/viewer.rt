@@ -24,7 +24,7 @@ use std::io::{self, ErrorKind, Write};
 
 /// Shows a stream of frames.
 #[derive(Debug, Drop)]
-pub(crate) struct Viewer {
+pub struct Viewer {
     cutter: Cutter,
     blocks: Blocks,
     preface: PrefaceLine,
@@ -39,7 +39,7 @@ struct PrefaceLine {
 
 /// Why no more of a stream is shown.
 #[derive(Debug, Drop)]
-pub(crate) enum ShowError {
+pub enum ShowError {
     /// An octet is at fault, or out of memory.
     Wire(WireFault),
     /// A frame doesn't group, or ends a block that doesn't decode, or out of memory.
@@ -95,7 +95,7 @@ impl Viewer {
     /// # Errors
     ///
     /// [`AllocError`] when out of memory.
-    pub(crate) fn new(alloc: Global, from: Side, max_frame: u32) -> Result<Viewer, AllocError>
+    pub fn new(alloc: Global, from: Side, max_frame: u32) -> Result<Viewer, AllocError>
         ensures represents { IfOk result (λ viewer. ViewerRepresents viewer.cutter viewer.blocks
             (begins_with_preface from) (λ _. max_frame) []) }
         ensures shows { IfOk result (λ viewer. ViewerShows viewer.cutter viewer.blocks
@@ -123,11 +123,7 @@ impl Viewer {
     ///
     /// [`ShowError::Wire`] and [`ShowError::Block`] with the fault of the stream, or when out of
     /// memory; [`ShowError::Output`] where a line wasn't printed.
-    pub(crate) fn show_piece<W: Write>(
-        &mut self,
-        piece: &[u8],
-        out: &mut W,
-    ) -> Result<(), ShowError>
+    pub fn show_piece<W: Write>(&mut self, piece: &[u8], out: &mut W) -> Result<(), ShowError>
         ensures ok { OnOk result (ViewerContinues self.old.cutter self.old.blocks piece.now
             self.new.cutter self.new.blocks) }
         ensures err { IfErr result (λ error. ViewerFails self.old.cutter self.old.blocks piece.now
@@ -165,11 +161,7 @@ impl Viewer {
     ///
     /// Where the error isn't a fault of the stream, the same: `OutOfMemory` for that, and the
     /// writer's error where a line wasn't printed. Those of the writer.
-    pub(crate) fn show_error<W: Write>(
-        &mut self,
-        error: ShowError,
-        out: &mut W,
-    ) -> io::Result<Status>
+    pub fn show_error<W: Write>(&mut self, error: ShowError, out: &mut W) -> io::Result<Status>
         ensures status { IfOk result (λ status. (status ≡ Status.Fault) × IsStreamFault error) }
         ensures lines { OnOk result (Appends (W.contents out.old) (W.contents out.new)
             (error_lines error self.old.cutter.place self.old.preface.is_due)) }
@@ -211,7 +203,7 @@ impl Viewer {
     /// # Errors
     ///
     /// Those of the writer.
-    pub(crate) fn show_end<W: Write>(&self, out: &mut W) -> io::Result<Status>
+    pub fn show_end<W: Write>(&self, out: &mut W) -> io::Result<Status>
         ensures status { IfOk result (λ status. status ≡
             (if length self.now.cutter.unparsed == 0 && not (is_some self.now.blocks.gather.begun)
             then Status.Good else Status.Fault)) }
@@ -232,7 +224,7 @@ impl Viewer {
 
     // rule: show (own) A fault is printed with the name of its code and its place
     /// The number of octets used, or the number of the octet at fault, from 1 on.
-    pub(crate) fn place(&self) -> u64
+    pub fn place(&self) -> u64
         ensures { result ≡ self.now.cutter.place }
     {
         self.cutter.place()

@@ -6,4 +6,5 @@
 mod acts;
 mod engines;
 mod joined;
+mod settling;
 mod shown;

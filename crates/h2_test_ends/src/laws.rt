@@ -2,9 +2,10 @@
 
 use h2_ends::{parts_are_sent_at_once, sent_parts_are_readable, shares_are_given_in_turn};
 use h2_laws_quiet::{
-    driven_ends_get_quiet, driven_messages_arrive, driving_makes_no_work,
+    driven_ends_get_quiet, driven_messages_arrive, driving_makes_no_work, few_rounds_lead_to_quiet,
     nothing_waits_at_a_quiet_pair, pump_sends_what_could_go, quiet_ends_have_no_work,
-    quiet_ends_have_the_same_streams, rounds_lead_to_quiet, windows_of_a_quiet_pair,
+    quiet_ends_have_the_same_streams, rounds_lead_to_quiet, two_rounds_send_a_window,
+    windows_of_a_quiet_pair,
 };
 use h2_laws_why::one_reason;
 use h2_message::sent_messages_are_well_read;
@@ -45,4 +46,6 @@ fn laws_of_driven_ends_are_called() {
     quiet_ends_have_no_work();
     driven_ends_get_quiet();
     driven_messages_arrive();
+    two_rounds_send_a_window();
+    few_rounds_lead_to_quiet();
 }

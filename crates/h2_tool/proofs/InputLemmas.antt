@@ -1,6 +1,6 @@
 -- How `show` and `replay` end with an input that was read.
 use Rattle.std.proofs.Common.{◌≡◌, inl, ℕ, Bool, true, false, List, Option, Some, None, refl}
-use Rattle.std.proofs.Common.{IfOk, IfSome, MatchBool, MatchResult, Result, Ok, Err, ap, subst, sym}
+use Rattle.std.proofs.Common.{IfErr, IfOk, IfSome, MatchBool, MatchResult, Result, Ok, Err, ap, subst, sym}
 use Rattle.std.specs.Io.KnownBytes.{Appends}
 use Rattle.h2_cli.specs.declared.failure.Failure.{Failure}
 use Rattle.h2_cli.specs.declared.failure.Failure.TheVariants as failures
@@ -16,7 +16,14 @@ use Rattle.h2_spec_log.specs.declared.role.Role.{Role}
 use Rattle.h2_events.specs.declared.options.ReplayOptions.{ReplayOptions}
 use Rattle.h2_events.specs.Report.{ReplayReportsInput, ReplayReportsOctets, ReplayReportsText}
 use Rattle.h2_args.specs.Words.{ShowWordsGive, ReplayWordsGive}
-use Rattle.h2_tool.specs.Commands.{EndsShow, EndsReplay, ReplaysSo, ShowsSo}
+use Rattle.h2_follow.specs.declared.follow.FollowOptions.{FollowOptions}
+use Rattle.h2_follow.specs.declared.follow.Followed.{Followed}
+use Rattle.h2_follow.specs.declared.follow.Unfollowed.{Unfollowed}
+use Rattle.h2_follow.specs.FollowText.{HasBadLine}
+use Rattle.h2_follow.specs.Follows.{BadLineReports, status_of_both}
+use Rattle.h2_args.specs.Words.{follow_options_of}
+use Rattle.h2_tool.specs.Commands.{EndsShowOne, EndsFollow, EndsReplay, FollowsSo, PrintsBoth}
+use Rattle.h2_tool.specs.Commands.{ReplaysSo, ShowsSo}
 
 -- No input has the status of wrong words.
 no_usage : (hex : Bool) (options : ShowOptions) (given : List ℕ)
@@ -47,7 +54,7 @@ show_ends : (options : ShowOptions) (words : List (List ℕ)) (remaining left : 
     (before after : Option (List ℕ)) (status : Status) → ShowWordsGive words options
     → IfSome remaining (λ given. StatusReportsInput options given status)
     → IfSome remaining (λ given. (lines : List ℕ) × ShowsInput options given status lines
-    × Appends before after lines) → EndsShow words remaining left before after status
+    × Appends before after lines) → EndsShowOne words remaining left before after status
 show_ends options words remaining left before after status asked reports shows = inl (record {
   options = options;
   asked = asked;
@@ -68,7 +75,7 @@ show_gives_up : (options : ShowOptions) (words : List (List ℕ))
     (remaining left before after : Option (List ℕ)) (failure : Failure)
     → ShowWordsGive words options
     → (failure ≡ failures.BadHex → (options.hex ≡ true) × IfSome remaining IsBadHex)
-    → EndsShow words remaining left before after (failure_status failure)
+    → EndsShowOne words remaining left before after (failure_status failure)
 show_gives_up options words remaining left before after failure asked bad = inl (record {
   options = options;
   asked = asked;
@@ -84,13 +91,13 @@ pub show_ends_so : (options : ShowOptions) (words : List (List ℕ))
     × ShowsInput options given one.status lines × Appends before after lines))
     → (shown ≡ Err failures.BadHex → (options.hex ≡ true) × IfSome remaining IsBadHex)
     → MatchResult shown (λ one. status ≡ one.status) (λ failure. status ≡ failure_status failure)
-    → EndsShow words remaining left before after status
+    → EndsShowOne words remaining left before after status
 show_ends_so options words remaining left before after (Ok one) status asked reports shows bad so =
-    subst (EndsShow words remaining left before after) (sym so)
+    subst (EndsShowOne words remaining left before after) (sym so)
     (show_ends options words remaining left before after one.status asked reports shows)
 show_ends_so options words remaining left before after (Err failure) status asked reports shows bad
     so =
-    subst (EndsShow words remaining left before after) (sym so)
+    subst (EndsShowOne words remaining left before after) (sym so)
     (show_gives_up options words remaining left before after failure asked (λ is. bad (ap Err is)))
 
 -- The input was replayed.
@@ -151,3 +158,73 @@ replay_ends_so options words remaining left before after (Err failure) status as
     subst (EndsReplay words remaining left before after) (sym so)
     (replay_gives_up options words remaining left before after failure asked
     (λ is. bad (ap Err is)))
+
+-- Both sides of a text were shown; a text has no other status.
+follows_so : (options : FollowOptions) (remaining before after : Option (List ℕ)) (status : Status)
+    → IfSome remaining (λ text. PrintsBoth options text before after status)
+    → FollowsSo options remaining before after status
+follows_so options remaining before after Good prints = prints
+follows_so options remaining before after Fault prints = prints
+follows_so options None before after Usage prints = tt
+follows_so options (Some text) before after Usage prints = absurd (no_usage_followed prints)
+  where
+    by : (client server : Status) → Usage ≡ status_of_both client server → ⊥
+    by Good Good same = cc
+    by Good Fault same = cc
+    by Good Usage same = cc
+    by Good Device same = cc
+    by Good Memory same = cc
+    by Fault server same = cc
+    by Usage server same = cc
+    by Device server same = cc
+    by Memory server same = cc
+
+    no_usage_followed : PrintsBoth options text before after Usage → ⊥
+    no_usage_followed prints =
+        by prints.1.2.client_status prints.1.2.server_status prints.1.2.ended
+follows_so options remaining before after Device prints = tt
+follows_so options remaining before after Memory prints = tt
+
+-- They were not.
+bad_line_so : (options : FollowOptions) (remaining before after : Option (List ℕ))
+    (failure : Failure)
+    → (failure ≡ failures.BadHex → IfSome remaining (λ text. (number : ℕ) × HasBadLine text number))
+    → FollowsSo options remaining before after (failure_status failure)
+bad_line_so options remaining before after failures.Device bad = tt
+bad_line_so options remaining before after failures.Memory bad = tt
+bad_line_so options remaining before after failures.BadHex bad = bad refl
+
+-- So `show --follow` ends with what came of its text.
+pub follow_ends_so : (options : FollowOptions) (words : List (List ℕ))
+    (remaining left before after : Option (List ℕ)) (followed : Result Followed Unfollowed)
+    (status : Status) → follow_options_of words ≡ Some options
+    → IfOk followed (λ one. IfSome remaining (λ text.
+    PrintsBoth options text before after one.status))
+    → IfErr followed (λ one. one.failure ≡ failures.BadHex
+    → IfSome remaining (λ text. (number : ℕ) × HasBadLine text number
+    × BadLineReports number one.hint))
+    → MatchResult followed (λ one. status ≡ one.status)
+    (λ one. status ≡ failure_status one.failure)
+    → EndsFollow words remaining left before after status
+follow_ends_so options words remaining left before after (Ok one) status asked follows bad so =
+    inl (record {
+      options = options;
+      asked = asked;
+      so = subst (λ (some : Status). FollowsSo options remaining before after some) (sym so)
+          (follows_so options remaining before after one.status follows);
+    })
+follow_ends_so options words remaining left before after (Err one) status asked follows bad so =
+    inl (record {
+      options = options;
+      asked = asked;
+      so = subst (λ (some : Status). FollowsSo options remaining before after some) (sym so)
+          (bad_line_so options remaining before after one.failure
+          (λ is. numbered remaining (bad is)));
+    })
+  where
+    numbered : (known : Option (List ℕ))
+        → IfSome known (λ text. (number : ℕ) × HasBadLine text number
+        × BadLineReports number one.hint)
+        → IfSome known (λ text. (number : ℕ) × HasBadLine text number)
+    numbered None some = tt
+    numbered (Some text) some = (some.0, some.1)

@@ -6,9 +6,10 @@ use Rattle.clap.specs.declared.error.kind.ErrorKind.{ErrorKind}
 use Rattle.clap.specs.declared.error.kind.ErrorKind.TheVariants as kinds
 use Rattle.h2_cli.specs.declared.status.Status.{Status}
 use Rattle.h2_cli.specs.declared.status.Status.TheVariants.{Good, Fault, Usage, Device, Memory}
-use Rattle.h2_args.specs.Words.{ShowWordsFail, ReplayWordsFail, ProgramWordsFail}
+use Rattle.h2_args.specs.Words.{ShowWordsFail, ReplayWordsFail, ProgramWordsFail, follow_faults}
 use Rattle.h2_tool.specs.Commands.{AnswersWords, AsksHelp, EndsByWords, HasWrongWords, IsOfHelp}
-use Rattle.h2_tool.specs.Commands.{IsOfWrongWords, EndsShow, EndsReplay, EndsProgram}
+use Rattle.h2_tool.specs.Commands.{IsOfWrongWords, EndsShowOne, EndsFollow, EndsReplay}
+use Rattle.h2_tool.specs.Commands.{EndsProgram}
 
 -- A kind of help is not for lack of memory.
 no_memory : (kind : ErrorKind) → IsOfHelp kind → kind ≡ kinds.OutOfMemory → ⊥
@@ -50,13 +51,21 @@ ends_by_words error faults before after Memory has answers = answers.1
 pub show_fails : (words : List (List ℕ)) (remaining before after : Option (List ℕ)) (error : Error)
     (status : Status) → ShowWordsFail words error
     → AnswersWords (kind_of error) before after status
-    → EndsShow words remaining remaining before after status
+    → EndsShowOne words remaining remaining before after status
 show_fails words remaining before after error status fails answers = inr (
   _,
   (fails.0, fails.1, refl),
   refl,
   ends_by_words error _ before after status fails.2 answers,
 )
+
+-- `show --follow`
+pub follow_fails : (words : List (List ℕ)) (remaining before after : Option (List ℕ))
+    (error : Error) (status : Status) → HasKind (follow_faults words) error
+    → AnswersWords (kind_of error) before after status
+    → EndsFollow words remaining remaining before after status
+follow_fails words remaining before after error status fails answers =
+    inr (refl, ends_by_words error _ before after status fails answers)
 
 -- `replay`
 pub replay_fails : (words : List (List ℕ)) (remaining before after : Option (List ℕ))

@@ -1,7 +1,7 @@
 -- What the commands of `h2` do, by the words that follow their names and the status with which they
 -- end.
 use Rattle.std.specs.Prelude.{◌≡◌, ◌≢◌, ◌⊎◌, ℕ, true, List, [], ◌∷◌, Option, Some}
-use Rattle.std.specs.Prelude.{Result, Ok, Err, IfSome, codes}
+use Rattle.std.specs.Prelude.{Result, Ok, Err, IfSome, MatchBool, codes}
 use Rattle.std.specs.Io.KnownBytes.{Appends}
 use Rattle.clap.specs.Words.{IsAmong, Kinds}
 use Rattle.clap.specs.declared.error.kind.ErrorKind.{ErrorKind}
@@ -11,11 +11,15 @@ use Rattle.h2_cli.specs.declared.status.Status.{Status}
 use Rattle.h2_cli.specs.declared.status.Status.TheVariants.{Good, Fault, Usage, Device, Memory}
 use Rattle.h2_cli.specs.Hexadecimal.{IsBadHex}
 use Rattle.h2_show.specs.Shown.{ShowsInput}
+use Rattle.h2_follow.specs.declared.follow.FollowOptions.{FollowOptions}
+use Rattle.h2_follow.specs.FollowText.{HasBadLine}
+use Rattle.h2_follow.specs.Follows.{FollowsText}
 use Rattle.h2_events.specs.declared.options.ReplayOptions.{ReplayOptions}
 use Rattle.h2_events.specs.Report.{ReplayReportsInput}
 use Rattle.h2_args.specs.Commands.{AreSides, SideNames}
 use Rattle.h2_args.specs.Words.{ShowWordsGive, show_faults, ReplayWordsGive, replay_faults}
 use Rattle.h2_args.specs.Words.{serve_options_of, serve_faults, url_of, get_faults, octets_asked}
+use Rattle.h2_args.specs.Words.{asks_follow, follow_options_of, follow_faults}
 use Rattle.h2_args.specs.Words.{loop_faults, program_faults}
 use Rattle.h2_args.specs.declared.sockets.ServeOptions.{ServeOptions}
 use Rattle.h2_link.specs.declared.error.LinkError.{LinkError}
@@ -114,15 +118,62 @@ pub record ShowsAsAsked (words : List (List ℕ)) (remaining before after : Opti
   pub asked : ShowWordsGive words options
   pub so : ShowsSo options remaining before after status
 
--- How `h2 show` ends: of a reader whose octets are known, `remaining` of which `left` are not read,
--- and a writer whose contents are, before and after. Words that give no options read nothing.
+-- How `h2 show` ends without `--follow`: of a reader whose octets are known, `remaining` of which
+-- `left` are not read, and a writer whose contents are, before and after. Words that give no options
+-- read nothing.
 -- rule: show (own) The words choose the end and hexadecimal
-abbrev pub EndsShow : (words : List (List ℕ)) → (remaining left : Option (List ℕ))
+abbrev pub EndsShowOne : (words : List (List ℕ)) → (remaining left : Option (List ℕ))
     → (before after : Option (List ℕ)) → Status → Type 0
-EndsShow words remaining left before after status =
+EndsShowOne words remaining left before after status =
     ShowsAsAsked words remaining before after status
     ⊎ ((faults : Kinds) × ShowFaults words faults × (left ≡ remaining)
     × EndsByWords faults before after status)
+
+-- What was appended to the output is the lines of both sides of a text.
+abbrev pub PrintsBoth : FollowOptions → (text : List ℕ) → (before after : Option (List ℕ)) → Status
+    → Type 0
+PrintsBoth options text before after status =
+    (lines : List ℕ) × FollowsText options.max_frame text status lines
+    × Appends before after lines
+
+-- How showing both sides of a text ends under these options: of a reader whose octets are known, and
+-- a writer whose contents are, before and after. `Usage` comes only where a line isn't of tshark's
+-- text.
+-- rule: follow (own) The status is 0 only where both sides are good to their ends
+abbrev pub FollowsSo : FollowOptions → (remaining before after : Option (List ℕ)) → Status → Type 0
+FollowsSo options remaining before after Good =
+    IfSome remaining (λ text. PrintsBoth options text before after Good)
+FollowsSo options remaining before after Fault =
+    IfSome remaining (λ text. PrintsBoth options text before after Fault)
+FollowsSo options remaining before after Usage =
+    IfSome remaining (λ text. (number : ℕ) × HasBadLine text number)
+FollowsSo options remaining before after Device = Unit {0}
+FollowsSo options remaining before after Memory = Unit {0}
+
+-- The words with `--follow` give options, and it ends so under these.
+pub record FollowsAsAsked (words : List (List ℕ)) (remaining before after : Option (List ℕ))
+    (status : Status) : Type 0 where
+  pub options : FollowOptions
+  pub asked : follow_options_of words ≡ Some options
+  pub so : FollowsSo options remaining before after status
+
+-- How `h2 show` ends with `--follow`. Words that give no options read nothing.
+-- rule: follow (own) The word --follow excludes --hex and --from
+abbrev pub EndsFollow : (words : List (List ℕ)) → (remaining left : Option (List ℕ))
+    → (before after : Option (List ℕ)) → Status → Type 0
+EndsFollow words remaining left before after status =
+    FollowsAsAsked words remaining before after status
+    ⊎ ((left ≡ remaining) × EndsByWords (follow_faults words) before after status)
+
+-- How `h2 show` ends.
+-- rule: show (own) The words choose the end and hexadecimal
+-- rule: follow (own) The word --follow excludes --hex and --from
+abbrev pub EndsShow : (words : List (List ℕ)) → (remaining left : Option (List ℕ))
+    → (before after : Option (List ℕ)) → Status → Type 0
+EndsShow words remaining left before after status =
+    MatchBool (asks_follow words)
+    (EndsFollow words remaining left before after status)
+    (EndsShowOne words remaining left before after status)
 
 -- How an end that takes an input ends under these options, of a reader whose octets are known.
 -- rule: replay (own) The words of replay choose the end and hexadecimal

@@ -5,6 +5,7 @@
 //! opens them by the network that it is given.
 #![tactic(auto)]
 
+mod follow;
 mod program;
 mod replay;
 mod show;

@@ -3,8 +3,9 @@
 ghost use Rattle.std.specs.Prelude.{map, string_bytes};
 ghost use Rattle.h2_tool.specs.Commands.{EndsShow};
 
+use crate::follow::cmd_follow;
 use crate::program::{answer, end_input};
-use h2_args::show_args;
+use h2_args::{asks_follow, show_args};
 use h2_cli::Status;
 use h2_show::show_input;
 use std::alloc::Global;
@@ -23,7 +24,8 @@ use std::io::{Read, Write};
 ///
 /// The status is that of [`show_input`] under the options that the words give, and what was printed
 /// are the lines of the input; for help it is [`Status::Good`] with nothing read, and for wrong
-/// words [`Status::Usage`].
+/// words [`Status::Usage`]. With `--follow` the input is the text that tshark prints of both sides
+/// of a connection, and the status that of [`h2_follow::follow_input`].
 pub fn cmd_show<R: Read, W: Write, E: Write>(
     alloc: Global,
     words: &[String],
@@ -34,6 +36,9 @@ pub fn cmd_show<R: Read, W: Write, E: Write>(
     ensures { EndsShow (map string_bytes words.now) (R.remaining input.old) (R.remaining input.new)
         (W.contents out.old) (W.contents out.new) result }
 {
+    if asks_follow(words) {
+        return cmd_follow(alloc, words, input, out, err);
+    }
     let options = match show_args(alloc, words) {
         Ok(options) => options,
         Err(error) => return answer(&error, out, err),

@@ -72,18 +72,18 @@ fn octets_are_sent_at_the_next_read(rt: HostRuntime) {
 
 // rule: engines (own) A link over TCP holds 65,536 octets at most, then sends them
 // Each write, the number of its octets that are taken, and the octets and the writes sent then:
-// 32,768 octets and more are sent at once where none are held.
+// 8,192 octets and more are sent at once where none are held.
 #[test]
 fn octets_are_sent_once_65536_are_held(rt: HostRuntime) -> Result<(), Fail> {
-    let octets = vec![in rt.alloc(); b'w'; 263_840]?;
+    let octets = vec![in rt.alloc(); b'w'; 239_264]?;
     let cases = [
-        (32_767, 32_767, 0, 0),
-        (32_768, 32_768, 0, 0),
+        (8_191, 8_191, 0, 0),
+        (57_344, 57_344, 0, 0),
         (2, 1, 65_536, 1),
-        (32_768, 32_768, 98_304, 2),
-        (100_000, 100_000, 198_304, 3),
-        (1, 1, 198_304, 3),
-        (100_000, 65_535, 263_840, 4),
+        (8_192, 8_192, 73_728, 2),
+        (100_000, 100_000, 173_728, 3),
+        (1, 1, 173_728, 3),
+        (100_000, 65_535, 239_264, 4),
     ];
     let Some(mut link) = new_link(rt.alloc(), Recorder::new(rt.alloc(), usize::MAX, 0)) else {
         panic!(rt; "no link")

@@ -4,6 +4,7 @@ use Rattle.h2_conn.proofs.Names.{refl, take-length, Frame, Complete, CutterState
 use Rattle.h2_conn.proofs.Names.{data_of_frame, wire_fault_code, end_of, payload_limit_of, fail}
 use Rattle.h2_conn.proofs.Names.{limit_in_range, ◌≢◌, InternalError}
 use Rattle.h2_frame.specs.Frames.{frame_of}
+use Rattle.h2_frame.proofs.FrameLemmas.{one_frame_lem}
 use Rattle.h2_conn.proofs.SetLimits.{body_limited}
 use Rattle.h2_conn.proofs.TakeFrames.{HasBody, located, lies_there, frame_happens}
 use Rattle.h2_conn.proofs.TakeParts.{no_frame_taken, takes_octets, frame_taken, frame_stops}
@@ -101,6 +102,9 @@ returns-else-eq-clause-takes c = λ octets body values log p.
     let ends = rw c.in-Some.is at c.in-Ok.ensures.advances in
     let other : c.in-Err-take_frame.code ≢ InternalError =
     not_internal _ (sym c.eq.ensures ∙ c.if-eq.false) in
+    -- the frame that is lent again is the one that was taken
+    let same_frame : frame_of c.frame-frame-else-eq.result ≡ frame_of c.frame-frame.result =
+    one_frame_lem _ _ _ c.frame-frame-else-eq.ensures.value c.frame-frame.ensures.value in
     frame_stops values _ _ _ _ log c.args.piece.now c.in-Ok.advance.used
     (frame_of c.frame-frame.result) c.in-Err-take_frame.code
     (fit_of values _ _ _ _ log p)
@@ -111,7 +115,8 @@ returns-else-eq-clause-takes c = λ octets body values log p.
       none = ends.none_unparsed;
     }) c.in-Err-take_frame.ensures c.with-counted.ensures (λ fault. refl)
     (λ same. absurd (other same))
-    (λ fault fails. ap (λ (why : Why). Some why) (c.rule_of_frame.ensures (log_view log)
+    (λ fault fails. ap (λ (why : Why). Some why)
+    (rw same_frame at c.rule_of_frame.ensures (log_view log)
     (before_seen values _ log c.of-before.result p.machine c.requires.up c.of-before.ensures)
     (after_seen values _ _ log (frame_of c.frame-frame.result) c.in-Err-take_frame.code p.machine
     c.requires.up fails)))

@@ -1,14 +1,20 @@
--- The words are refused, or the input is shown, or can't be.
+-- Both sides are shown; or the words are refused, or the input is shown, or can't be.
+use Rattle.std.proofs.Common.{◌∙◌, sym}
 use Rattle.h2_tool.proofs.WordLemmas.{show_fails}
 use Rattle.h2_tool.proofs.InputLemmas.{show_ends_so}
 use Rattle.h2_tool.proofs.show.cmd_show.Goals as goal
 
+pub returns-then-asks_follow : goal.returns-then-asks_follow
+returns-then-asks_follow g c = rw (sym c.asks_follow.ensures ∙ c.if-asks_follow.true) c.cmd_follow.ensures
+
 pub returns-in-Err : goal.returns-in-Err
 returns-in-Err g c =
-    show_fails _ _ _ _ c.in-Err.error c.answer.result c.in-Err.ensures.err c.answer.ensures
+    rw (sym c.asks_follow.ensures ∙ c.if-asks_follow.false)
+    (show_fails _ _ _ _ c.in-Err.error c.answer.result c.in-Err.ensures.err c.answer.ensures)
 
 pub returns : goal.returns
 returns g c =
-    show_ends_so c.in-Ok.options _ _ _ _ _ c.show_input-shown.result c.end_input.result
+    rw (sym c.asks_follow.ensures ∙ c.if-asks_follow.false)
+    (show_ends_so c.in-Ok.options _ _ _ _ _ c.show_input-shown.result c.end_input.result
     c.in-Ok.ensures.ok c.show_input-shown.ensures.reports c.show_input-shown.ensures.shows
-    c.show_input-shown.ensures.bad_hex c.end_input.ensures
+    c.show_input-shown.ensures.bad_hex c.end_input.ensures)

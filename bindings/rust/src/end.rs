@@ -1,0 +1,473 @@
+//! An end of a connection: what a client and a server share.
+
+use crate::error::check;
+use crate::{ffi, Code, Config, Error, Event, Field, Fields, Rule, Taken, Why};
+use std::cell::UnsafeCell;
+use std::fmt;
+use std::io::{self, IoSlice, Write};
+use std::marker::PhantomData;
+use std::mem;
+use std::os::raw::c_int;
+use std::ptr;
+
+/// An end of one connection: a [`Client`](crate::Client) or a [`Server`](crate::Server). It is
+/// freed where it is dropped.
+///
+/// It may be sent to another thread, and belongs to one at a time.
+pub struct End<Role> {
+    /// The place of the library. Readers write it too, and put back what was there.
+    place: UnsafeCell<ffi::End>,
+    /// Room for the fields that are lent; they are used only while an event lends them.
+    fields: Vec<Field<'static>>,
+    role: PhantomData<Role>,
+}
+
+// SAFETY: what the place holds is owned, and used by one thread at a time: `UnsafeCell` keeps the
+// end from being shared. The fields are used by a borrower of the end alone.
+unsafe impl<Role> Send for End<Role> {}
+
+impl<Role> Drop for End<Role> {
+    fn drop(&mut self) {
+        // SAFETY: the place is as the library has left it.
+        unsafe { ffi::bj_free(self.place.get()) };
+    }
+}
+
+impl<Role> fmt::Debug for End<Role> {
+    fn fmt(&self, f: &mut fmt::Formatter<'_>) -> fmt::Result {
+        f.debug_struct("End").field("failed", &self.failed()).finish_non_exhaustive()
+    }
+}
+
+/// Makes an end of a configuration, or refuses.
+type Make = unsafe extern "C" fn(*const ffi::Config, *mut ffi::End) -> c_int;
+
+impl<Role> End<Role> {
+    pub(crate) fn make(config: &Config, make: Make) -> Result<Self, Error> {
+        let place = UnsafeCell::new(ffi::End { at: ptr::null_mut(), state: 0 });
+        // SAFETY: the pointers are of a `bj_config` and of a place that is all zero.
+        check(unsafe { make(&config.raw(), place.get()) })?;
+        Ok(End { place, fields: Vec::new(), role: PhantomData })
+    }
+
+    /// The place, for one call. What an end lends is borrowed from it, so nothing is lent while a
+    /// call is made.
+    pub(crate) fn place(&self) -> *mut ffi::End {
+        self.place.get()
+    }
+
+    fn is(&self, ask: unsafe extern "C" fn(*mut ffi::End) -> c_int) -> bool {
+        // SAFETY: the place is as the library has left it.
+        unsafe { ask(self.place()) == 1 }
+    }
+
+    /// Takes octets that were read, up to the end of one frame or else all of them, and says how
+    /// many were used and what is handed out: one event at most. Call it again, with the octets
+    /// after those, until all are used and nothing is handed out: an event need not use octets.
+    ///
+    /// # Errors
+    ///
+    /// [`Error::Failed`]: the connection fails, or has failed. Its GOAWAY waits as output.
+    ///
+    /// # Loans
+    ///
+    /// What is handed out is lent by the end and the octets. While it is in use the end can't be
+    /// called:
+    ///
+    /// ```compile_fail,E0499
+    /// # use belkjoef::{Config, Server};
+    /// # let mut server = Server::new(&Config::default()).unwrap();
+    /// let first = server.take(b"PRI * HTTP/2.0\r\n\r\nSM\r\n\r\n").unwrap();
+    /// let second = server.take(b"").unwrap();
+    /// println!("{first:?} {second:?}");
+    /// ```
+    ///
+    /// ```compile_fail,E0502
+    /// # use belkjoef::{Config, Event, Server};
+    /// # let mut server = Server::new(&Config::default()).unwrap();
+    /// let taken = server.take(b"PRI * HTTP/2.0\r\n\r\nSM\r\n\r\n").unwrap();
+    /// assert!(!server.is_full());
+    /// println!("{taken:?}");
+    /// ```
+    ///
+    /// ```compile_fail,E0505
+    /// # use belkjoef::{Config, Server};
+    /// # let mut server = Server::new(&Config::default()).unwrap();
+    /// let taken = server.take(b"PRI * HTTP/2.0\r\n\r\nSM\r\n\r\n").unwrap();
+    /// drop(server);
+    /// println!("{taken:?}");
+    /// ```
+    pub fn take<'a>(&'a mut self, octets: &'a [u8]) -> Result<Taken<'a>, Error> {
+        let mut event = ffi::Event {
+            used: 0,
+            kind: 0,
+            stream: 0,
+            code: 0,
+            end: 0,
+            ours: 0,
+            ping: [0; 8],
+            fields: 0,
+            octets: octets.as_ptr(),
+            length: 0,
+            user: 0,
+        };
+        // SAFETY: the pointers are of the place, of so many octets and of a `bj_event`.
+        let answer =
+            unsafe { ffi::bj_take(self.place(), octets.as_ptr(), octets.len(), &mut event) };
+        if answer == ffi::FAILED {
+            return Err(Error::Failed(Code(event.code)));
+        }
+        check(answer)?;
+        let (used, user) = (event.used, event.user);
+        // SAFETY: the end and the octets are borrowed for as long as the event is used, and no
+        // call of the end is made meanwhile; the octets lie in one of the two.
+        let body: &'a [u8] = unsafe { ffi::lent(event.octets, event.length) };
+        Ok(Taken { used, event: self.event(&event, body), user })
+    }
+
+    fn event<'a>(&'a mut self, event: &ffi::Event, octets: &'a [u8]) -> Option<Event<'a>> {
+        let (stream, code, end) = (event.stream, Code(event.code), event.end != 0);
+        Some(match event.kind {
+            ffi::INTERIM => Event::Interim { stream, fields: self.lend_fields(event.fields) },
+            ffi::HEAD => Event::Head { stream, fields: self.lend_fields(event.fields), end },
+            ffi::BODY => Event::Body { stream, octets, end },
+            ffi::TRAILERS => Event::Trailers { stream, fields: self.lend_fields(event.fields) },
+            ffi::RESET => Event::Reset { stream, code, ours: event.ours != 0 },
+            ffi::UNPROCESSED => Event::Unprocessed { stream },
+            ffi::GOAWAY => Event::GoAway { last: stream, code },
+            ffi::ACKED => Event::Acked,
+            ffi::PONG => Event::Pong { octets: event.ping },
+            _ => return None,
+        })
+    }
+
+    /// The fields that were handed out last, all in one call: what another call had lent would be
+    /// lent no more.
+    fn lend_fields(&mut self, count: usize) -> Fields<'_> {
+        let mut said = 0;
+        self.fields.resize(count, Field::new("", ""));
+        // SAFETY: the pointers are of the place, of so many fields and of a number.
+        unsafe { ffi::bj_fields(self.place(), 0, self.fields.as_mut_ptr(), count, &mut said) };
+        self.fields.truncate(said);
+        Fields::new(&self.fields)
+    }
+
+    /// Sends what waits of bodies that were given whole, lower streams first, each as far as its
+    /// windows go, until nothing more could go or 65,536 octets of output wait. Says how many
+    /// octets of bodies were sent.
+    ///
+    /// # Errors
+    ///
+    /// `Closed`. `Memory`: what was sent stays sent.
+    pub fn pump(&mut self) -> Result<usize, Error> {
+        let mut sent = 0;
+        // SAFETY: the pointers are of the place and of a number.
+        check(unsafe { ffi::bj_pump(self.place(), &mut sent) })?;
+        Ok(sent)
+    }
+
+    /// Sends a share of what waits on each stream, in turn, each at most `most` octets and as far as
+    /// its windows go, in one pass over the streams. Says how many octets of bodies were sent. So no
+    /// long body keeps the others waiting.
+    ///
+    /// # Errors
+    ///
+    /// `Closed`. `Memory`: what was sent stays sent.
+    pub fn pump_some(&mut self, most: usize) -> Result<usize, Error> {
+        let mut sent = 0;
+        // SAFETY: the pointers are of the place and of a number.
+        check(unsafe { ffi::bj_pump_some(self.place(), most, &mut sent) })?;
+        Ok(sent)
+    }
+
+    /// Sends octets of the body of a message that was begun, and its end with them where `ends` is
+    /// set and all are sent. Says how many were: as many as windows let through, at most 65,536,
+    /// which may be none. None is kept: give the rest again, once output was written and
+    /// [`room`](End::room) is above 0.
+    ///
+    /// # Errors
+    ///
+    /// `NotAsked`. `BadMessage(BadLength)`: the body would be longer than its head says, or, with
+    /// its end, shorter. `Closed`. `OutputFull`. `Memory`.
+    pub fn send_body(&mut self, stream: u32, octets: &[u8], ends: bool) -> Result<usize, Error> {
+        let mut sent = 0;
+        // SAFETY: the pointers are of the place, of so many octets and of a number.
+        check(unsafe {
+            let (at, length) = (octets.as_ptr(), octets.len());
+            ffi::bj_send_body(self.place(), stream, at, length, ends, &mut sent)
+        })?;
+        Ok(sent)
+    }
+
+    /// Sends trailers, which end the message that was begun.
+    ///
+    /// # Errors
+    ///
+    /// `Memory`. `NotAsked`. `BadMessage`. `Closed`. `OutputFull`. `ListTooLarge`.
+    pub fn send_trailers(&mut self, stream: u32, trailers: &[Field<'_>]) -> Result<(), Error> {
+        // SAFETY: the pointers are of the place and of so many fields.
+        check(unsafe {
+            ffi::bj_send_trailers(self.place(), stream, trailers.as_ptr(), trailers.len())
+        })
+    }
+
+    /// Lets the peer send so many octets more on a stream, of those that were handed out.
+    ///
+    /// # Errors
+    ///
+    /// `Closed`. `NoSuchStream`. `NotOwed`. `OutputFull`. `Memory`.
+    pub fn release(&mut self, stream: u32, count: u32) -> Result<(), Error> {
+        // SAFETY: the place is as the library has left it.
+        check(unsafe { ffi::bj_release(self.place(), stream, count) })
+    }
+
+    /// The same of all that is owed, on all streams. Without one of the two the peer stops at its
+    /// window.
+    ///
+    /// # Errors
+    ///
+    /// `Closed`. `OutputFull` or `Memory`: what was released stays released.
+    pub fn release_all(&mut self) -> Result<(), Error> {
+        // SAFETY: the place is as the library has left it.
+        check(unsafe { ffi::bj_release_all(self.place()) })
+    }
+
+    /// Resets a stream, and gives up what waits on it.
+    ///
+    /// # Errors
+    ///
+    /// `Closed`. `NoSuchStream`. `OutputFull`. `TooManyResets`. `Memory`.
+    pub fn reset(&mut self, stream: u32, code: Code) -> Result<(), Error> {
+        // SAFETY: the place is as the library has left it.
+        check(unsafe { ffi::bj_reset(self.place(), stream, code.0) })
+    }
+
+    /// Sends PING, which the peer answers: [`Event::Pong`].
+    ///
+    /// # Errors
+    ///
+    /// `Closed`. `OutputFull`. `PingWaits`. `Memory`.
+    pub fn ping(&mut self, octets: [u8; 8]) -> Result<(), Error> {
+        // SAFETY: the pointers are of the place and of eight octets.
+        check(unsafe { ffi::bj_ping(self.place(), octets.as_ptr()) })
+    }
+
+    /// Sends GOAWAY: the peer opens no further streams.
+    ///
+    /// # Errors
+    ///
+    /// `Closed`. `GoingAway`. `OutputFull`. `Memory`.
+    pub fn go_away(&mut self) -> Result<(), Error> {
+        // SAFETY: the place is as the library has left it.
+        check(unsafe { ffi::bj_go_away(self.place()) })
+    }
+
+    /// Ends the connection: a GOAWAY with the code is the last frame that waits.
+    ///
+    /// # Errors
+    ///
+    /// `BadCode`: the code is above 13. `Closed`.
+    pub fn fail(&mut self, code: Code) -> Result<(), Error> {
+        // SAFETY: the place is as the library has left it.
+        check(unsafe { ffi::bj_fail(self.place(), code.0) })
+    }
+
+    /// Changes this end's settings. [`Event::Acked`] says that the peer has applied them.
+    ///
+    /// # Errors
+    ///
+    /// `BadConfig`. `Closed`. `OutputFull`. `SettingsWait`. `Memory`.
+    pub fn change_settings(&mut self, config: &Config) -> Result<(), Error> {
+        // SAFETY: the pointers are of the place and of a `bj_config`.
+        check(unsafe { ffi::bj_change_settings(self.place(), &config.raw()) })
+    }
+
+    /// Makes the output ready, and lends it, in two parts, of which the first comes first; each
+    /// may be empty. What was written of it is taken away by [`consume`](End::consume).
+    ///
+    /// # Errors
+    ///
+    /// `Memory`.
+    pub fn waiting(&mut self) -> Result<(&[u8], &[u8]), Error> {
+        let mut first = ffi::Span { octets: ptr::null(), length: 0 };
+        let mut second = ffi::Span { octets: ptr::null(), length: 0 };
+        // SAFETY: the pointers are of the place and of two spans. What they lend is good until the
+        // next call of the end, which is borrowed until then.
+        unsafe {
+            check(ffi::bj_ready(self.place()))?;
+            check(ffi::bj_waiting(self.place(), &mut first, &mut second))?;
+            Ok((ffi::lent(first.octets, first.length), ffi::lent(second.octets, second.length)))
+        }
+    }
+
+    /// Takes octets of the output away, at most `count` of them, which were written. Says how
+    /// many.
+    ///
+    /// # Errors
+    ///
+    /// `Memory`, but not after [`waiting`](End::waiting) with no other call in between.
+    pub fn consume(&mut self, count: usize) -> Result<usize, Error> {
+        let mut taken = 0;
+        // SAFETY: the pointers are of the place and of a number.
+        check(unsafe { ffi::bj_consume(self.place(), count, &mut taken) })?;
+        Ok(taken)
+    }
+
+    /// Copies as many octets of the output as wait and there is room for, and takes them away.
+    /// Says how many.
+    ///
+    /// # Errors
+    ///
+    /// `Memory`.
+    pub fn put_out(&mut self, buffer: &mut [u8]) -> Result<usize, Error> {
+        let mut count = 0;
+        // SAFETY: the pointers are of the place, of so many octets and of a number.
+        check(unsafe {
+            let (at, room) = (buffer.as_mut_ptr(), buffer.len());
+            ffi::bj_put_out(self.place(), at, room, &mut count)
+        })?;
+        Ok(count)
+    }
+
+    /// Pumps and writes until nothing waits that could go.
+    ///
+    /// # Errors
+    ///
+    /// Those of the writer: what it has not taken still waits, so it can be called again.
+    /// `Memory`, as an [`io::Error`].
+    pub fn write_out(&mut self, writer: &mut impl Write) -> io::Result<()> {
+        loop {
+            match self.pump() {
+                Ok(_) | Err(Error::Closed) => {}
+                Err(error) => return Err(error.into()),
+            }
+            let (first, second) = self.waiting()?;
+            if first.is_empty() && second.is_empty() {
+                return writer.flush();
+            }
+            match writer.write_vectored(&[IoSlice::new(first), IoSlice::new(second)]) {
+                Ok(0) => return Err(io::ErrorKind::WriteZero.into()),
+                Ok(count) => self.consume(count)?,
+                Err(error) if error.kind() == io::ErrorKind::Interrupted => continue,
+                Err(error) => return Err(error),
+            };
+        }
+    }
+
+    /// Whether 65,536 octets of output or more wait, so that what writes a frame is refused.
+    pub fn is_full(&self) -> bool {
+        self.is(ffi::bj_is_full)
+    }
+
+    /// Whether no output waits, and no stream is active or the connection has failed.
+    pub fn is_drained(&self) -> bool {
+        self.is(ffi::bj_is_drained)
+    }
+
+    /// Whether the connection is up, no output waits, nothing is owed, and nothing could be sent.
+    pub fn is_quiet(&self) -> bool {
+        self.is(ffi::bj_is_quiet)
+    }
+
+    /// Whether a stream is active: open or half-closed.
+    pub fn is_active(&self, stream: u32) -> bool {
+        // SAFETY: the place is as the library has left it.
+        unsafe { ffi::bj_is_active(self.place(), stream) == 1 }
+    }
+
+    /// The error code with which the connection has failed, if it has.
+    pub fn failed(&self) -> Option<Code> {
+        let mut code = 0;
+        // SAFETY: the pointers are of the place and of a number.
+        let answer = unsafe { ffi::bj_failed(self.place(), &mut code) };
+        (answer == ffi::OK).then_some(Code(code))
+    }
+
+    /// Why the connection has failed, if it has.
+    pub fn why(&self) -> Option<Why> {
+        let mut why = 0;
+        // SAFETY: the pointers are of the place and of a number.
+        let answer = unsafe { ffi::bj_why(self.place(), &mut why) };
+        (answer == ffi::OK).then(|| Why::from_number(why))
+    }
+
+    /// The stream of the part of a message that was refused last, and the rule that it breaks.
+    pub fn last_malformed(&self) -> Option<(u32, Rule)> {
+        let (mut stream, mut error) = (0, ffi::OK);
+        // SAFETY: the pointers are of the place and of two numbers.
+        let answer = unsafe { ffi::bj_last_malformed(self.place(), &mut stream, &mut error) };
+        match Error::from_number(error) {
+            Error::BadMessage(rule) if answer == ffi::OK => Some((stream, rule)),
+            _ => None,
+        }
+    }
+
+    /// How many octets the payload of the last DATA had, padding included, and 0 before any: after
+    /// [`Event::Body`] what is to be [released](End::release) once its octets are used, where it is
+    /// not 0 and the stream is still active.
+    pub fn last_flow(&self) -> u32 {
+        let mut flow = 0;
+        // SAFETY: the pointers are of the place and of a number.
+        unsafe { ffi::bj_last_flow(self.place(), &mut flow) };
+        flow
+    }
+
+    /// How many octets may be sent on a stream, or on the connection, which is 0; below zero where
+    /// settings have shifted the window so. `None`: the stream isn't active, or the connection has
+    /// failed.
+    pub fn room(&self, stream: u32) -> Option<i64> {
+        let mut room = 0;
+        // SAFETY: the pointers are of the place and of a number.
+        let answer = unsafe { ffi::bj_room(self.place(), stream, &mut room) };
+        (answer == ffi::OK).then_some(room)
+    }
+
+    /// How many octets of a stream were handed out and are not released.
+    pub fn owed(&self, stream: u32) -> u32 {
+        let mut owed = 0;
+        // SAFETY: the pointers are of the place and of a number.
+        unsafe { ffi::bj_owed(self.place(), stream, &mut owed) };
+        owed
+    }
+
+    /// How many octets of the body that was given for a stream wait for [`pump`](End::pump).
+    pub fn unsent(&self, stream: u32) -> usize {
+        let mut unsent = 0;
+        // SAFETY: the pointers are of the place and of a number.
+        unsafe { ffi::bj_unsent(self.place(), stream, &mut unsent) };
+        unsent
+    }
+
+    /// The streams that are active, lowest first.
+    pub fn live(&self) -> impl Iterator<Item = u32> + '_ {
+        let mut above = 0;
+        std::iter::from_fn(move || {
+            let mut stream = 0;
+            // SAFETY: the pointers are of the place and of a number.
+            let answer = unsafe { ffi::bj_next_live(self.place(), above, &mut stream) };
+            above = stream;
+            (answer == ffi::OK).then_some(stream)
+        })
+    }
+
+    /// Keeps a number beside a stream, which [`Taken::user`] has with each event of the stream; 0
+    /// forgets it. It stays until then, also when the stream is over.
+    ///
+    /// # Errors
+    ///
+    /// `Memory`.
+    pub fn set_user(&mut self, stream: u32, user: usize) -> Result<(), Error> {
+        // SAFETY: the place is as the library has left it.
+        check(unsafe { ffi::bj_set_user(self.place(), stream, user) })
+    }
+
+    /// The number beside a stream, or 0.
+    pub fn user(&self, stream: u32) -> usize {
+        let mut user = 0;
+        // SAFETY: the pointers are of the place and of a number.
+        unsafe { ffi::bj_user(self.place(), stream, &mut user) };
+        user
+    }
+}
+
+const _: () = assert!(mem::size_of::<ffi::End>() == 16);

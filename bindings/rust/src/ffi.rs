@@ -1,0 +1,172 @@
+//! The functions of `belkjoef.h`, as they stand there.
+
+use crate::Field;
+use std::ffi::c_char;
+use std::os::raw::c_int;
+use std::slice;
+
+/// `bj_config`.
+#[repr(C)]
+#[derive(Clone, Copy)]
+pub(crate) struct Config {
+    pub(crate) table_limit: u32,
+    pub(crate) initial_window: u32,
+    pub(crate) max_streams: u32,
+    pub(crate) max_frame: u32,
+}
+
+/// `bj_end`.
+#[repr(C)]
+pub(crate) struct End {
+    pub(crate) at: *mut u8,
+    pub(crate) state: u64,
+}
+
+/// `bj_span`.
+#[repr(C)]
+pub(crate) struct Span {
+    pub(crate) octets: *const u8,
+    pub(crate) length: usize,
+}
+
+/// `bj_event`.
+#[repr(C)]
+pub(crate) struct Event {
+    pub(crate) used: usize,
+    pub(crate) kind: u32,
+    pub(crate) stream: u32,
+    pub(crate) code: u32,
+    pub(crate) end: u32,
+    pub(crate) ours: u32,
+    pub(crate) ping: [u8; 8],
+    pub(crate) fields: usize,
+    pub(crate) octets: *const u8,
+    pub(crate) length: usize,
+    pub(crate) user: usize,
+}
+
+pub(crate) const OK: c_int = 0;
+pub(crate) const FAILED: c_int = -4;
+pub(crate) const NONE: c_int = -6;
+
+pub(crate) const INTERIM: u32 = 1;
+pub(crate) const HEAD: u32 = 2;
+pub(crate) const BODY: u32 = 3;
+pub(crate) const TRAILERS: u32 = 4;
+pub(crate) const RESET: u32 = 5;
+pub(crate) const UNPROCESSED: u32 = 6;
+pub(crate) const GOAWAY: u32 = 7;
+pub(crate) const ACKED: u32 = 8;
+pub(crate) const PONG: u32 = 9;
+
+/// Octets that the library lends: where none are, their address says nothing.
+///
+/// # Safety
+///
+/// So many octets lie there, and nothing writes them while they are lent.
+pub(crate) unsafe fn lent<'a>(octets: *const u8, length: usize) -> &'a [u8] {
+    if length == 0 {
+        return &[];
+    }
+    // SAFETY: as of the caller.
+    unsafe { slice::from_raw_parts(octets, length) }
+}
+
+// What each asks of its caller stands in belkjoef.h: pointers that aren't null, lengths that are
+// those of what they point to, and a place that one thread uses at a time.
+extern "C" {
+    pub(crate) fn bj_version() -> u32;
+    pub(crate) fn bj_error_text(error: c_int, text: *mut *const c_char);
+    pub(crate) fn bj_config_default(config: *mut Config);
+    pub(crate) fn bj_server_new(config: *const Config, end: *mut End) -> c_int;
+    pub(crate) fn bj_client_new(config: *const Config, end: *mut End) -> c_int;
+    pub(crate) fn bj_free(end: *mut End) -> c_int;
+    pub(crate) fn bj_take(
+        end: *mut End,
+        octets: *const u8,
+        length: usize,
+        event: *mut Event,
+    ) -> c_int;
+    pub(crate) fn bj_fields(
+        end: *mut End,
+        from: usize,
+        fields: *mut Field<'_>,
+        room: usize,
+        count: *mut usize,
+    ) -> c_int;
+    pub(crate) fn bj_respond(
+        end: *mut End,
+        stream: u32,
+        head: *const Field<'_>,
+        head_count: usize,
+        body: *const u8,
+        length: usize,
+    ) -> c_int;
+    pub(crate) fn bj_request(
+        end: *mut End,
+        head: *const Field<'_>,
+        head_count: usize,
+        body: *const u8,
+        length: usize,
+        stream: *mut u32,
+    ) -> c_int;
+    pub(crate) fn bj_pump(end: *mut End, sent: *mut usize) -> c_int;
+    pub(crate) fn bj_pump_some(end: *mut End, most: usize, sent: *mut usize) -> c_int;
+    pub(crate) fn bj_begin_response(
+        end: *mut End,
+        stream: u32,
+        head: *const Field<'_>,
+        head_count: usize,
+    ) -> c_int;
+    pub(crate) fn bj_begin_request(
+        end: *mut End,
+        head: *const Field<'_>,
+        head_count: usize,
+        stream: *mut u32,
+    ) -> c_int;
+    pub(crate) fn bj_send_body(
+        end: *mut End,
+        stream: u32,
+        octets: *const u8,
+        length: usize,
+        ends: bool,
+        sent: *mut usize,
+    ) -> c_int;
+    pub(crate) fn bj_send_trailers(
+        end: *mut End,
+        stream: u32,
+        trailers: *const Field<'_>,
+        count: usize,
+    ) -> c_int;
+    pub(crate) fn bj_release(end: *mut End, stream: u32, count: u32) -> c_int;
+    pub(crate) fn bj_release_all(end: *mut End) -> c_int;
+    pub(crate) fn bj_reset(end: *mut End, stream: u32, code: u32) -> c_int;
+    pub(crate) fn bj_ping(end: *mut End, octets: *const u8) -> c_int;
+    pub(crate) fn bj_go_away(end: *mut End) -> c_int;
+    pub(crate) fn bj_fail(end: *mut End, code: u32) -> c_int;
+    pub(crate) fn bj_change_settings(end: *mut End, config: *const Config) -> c_int;
+    pub(crate) fn bj_ready(end: *mut End) -> c_int;
+    pub(crate) fn bj_waiting(end: *mut End, first: *mut Span, second: *mut Span) -> c_int;
+    pub(crate) fn bj_consume(end: *mut End, count: usize, taken: *mut usize) -> c_int;
+    pub(crate) fn bj_put_out(
+        end: *mut End,
+        buffer: *mut u8,
+        room: usize,
+        count: *mut usize,
+    ) -> c_int;
+    pub(crate) fn bj_is_full(end: *mut End) -> c_int;
+    pub(crate) fn bj_is_drained(end: *mut End) -> c_int;
+    pub(crate) fn bj_is_quiet(end: *mut End) -> c_int;
+    pub(crate) fn bj_is_active(end: *mut End, stream: u32) -> c_int;
+    pub(crate) fn bj_failed(end: *mut End, code: *mut u32) -> c_int;
+    pub(crate) fn bj_why(end: *mut End, why: *mut u32) -> c_int;
+    pub(crate) fn bj_why_text(why: u32, text: *mut *const c_char);
+    pub(crate) fn bj_last_malformed(end: *mut End, stream: *mut u32, error: *mut c_int) -> c_int;
+    pub(crate) fn bj_last_flow(end: *mut End, flow: *mut u32) -> c_int;
+    pub(crate) fn bj_room(end: *mut End, stream: u32, room: *mut i64) -> c_int;
+    pub(crate) fn bj_owed(end: *mut End, stream: u32, owed: *mut u32) -> c_int;
+    pub(crate) fn bj_unsent(end: *mut End, stream: u32, unsent: *mut usize) -> c_int;
+    pub(crate) fn bj_next_live(end: *mut End, above: u32, stream: *mut u32) -> c_int;
+    pub(crate) fn bj_set_user(end: *mut End, stream: u32, user: usize) -> c_int;
+    pub(crate) fn bj_user(end: *mut End, stream: u32, user: *mut usize) -> c_int;
+}

@@ -1,0 +1,388 @@
+/* Belkjoef: an HTTP/2 endpoint over cleartext, without input and output (RFC 9113).
+ *
+ * An end is a server or a client of one connection. It lies in a place of the caller's, a bj_end,
+ * which holds an end or nothing; one that is all zero holds nothing. The caller reads and writes:
+ * what was read is given to bj_take, piece by piece, and what bj_waiting lends is written.
+ *
+ * Answers. Each function that answers an int answers 0 (BJ_OK), or a negative number where it is
+ * refused or fails (bj_error_text has its text); those named bj_is_.. answer 1 for yes and 0 for
+ * no, and BJ_EMPTY where the place holds no end: compare with 1. What else they say goes through
+ * the pointers that stand last; those are written where the answer is BJ_OK, and otherwise only as
+ * their function says. Errors are listed in the order in which they are looked for: the first that
+ * holds is answered. Where it does not say otherwise, nothing has changed after one. BJ_EMPTY,
+ * that the place holds no end, comes first, of every function that takes a place and has an
+ * answer.
+ *
+ * What the caller owes. No pointer is null, not even of zero octets or fields: give "" or any
+ * other address then (BJ_NO_OCTETS, BJ_NO_FIELDS). A pointer and a length that follow each other
+ * are so many octets, or fields, that may be read, or written where the pointer isn't const, while
+ * the call lasts; the places that one call writes don't overlap each other or what it reads. A
+ * bj_end is all zero or as these functions have left it, and is not copied and then used twice. It
+ * belongs to one thread at a time. No function is called in a signal handler, or in the child of a
+ * fork of a program with threads. malloc, realloc and free are those of one allocator, whose
+ * blocks are aligned to 16.
+ *
+ * What is lent. Addresses that are handed out are good until the next call with the same place,
+ * and what lies there is not written. What the caller gives is copied, unless it is written at
+ * once.
+ */
+#ifndef BELKJOEF_H
+#define BELKJOEF_H
+
+#include <stdbool.h>
+#include <stddef.h>
+#include <stdint.h>
+
+#ifdef __cplusplus
+extern "C" {
+#endif
+
+/* The version of this header, and of the library: 0x00MMmmpp. */
+#define BJ_VERSION UINT32_C(0x000100)
+uint32_t bj_version(void);
+
+/* ---- errors ---- */
+
+enum {
+  BJ_OK = 0,
+  BJ_EMPTY = -1,    /* the place holds no end */
+  BJ_HELD = -2,     /* the place holds an end already */
+  BJ_ROLE = -3,     /* a server's function at a client, or a client's at a server */
+  BJ_FAILED = -4,   /* the connection has failed */
+  BJ_NO_FIELD = -5, /* there is no such field */
+  BJ_NONE = -6,     /* there is none */
+  BJ_BAD_CODE = -7, /* no error code has this number */
+
+  /* Values of a bj_config out of their bounds. */
+  BJ_TABLE_LIMIT = -11,    /* above 65,536 */
+  BJ_INITIAL_WINDOW = -12, /* not from 1 to 2^31 - 1 */
+  BJ_MAX_STREAMS = -13,    /* not from 100 to 1,000 */
+  BJ_MAX_FRAME = -14,      /* not from 16,384 to 1,048,576 */
+
+  /* Refusals of the connection. */
+  BJ_CLOSED = -21,            /* it has failed */
+  BJ_NO_SUCH_STREAM = -22,    /* the stream isn't active */
+  BJ_ENDED = -23,             /* this end has ended the stream */
+  BJ_TOO_MANY_STREAMS = -24,  /* as many streams are active as the peer allows */
+  BJ_STREAMS_EXHAUSTED = -25, /* no number is left for a stream */
+  BJ_GOING_AWAY = -26,        /* a GOAWAY was sent, or read */
+  BJ_OUTPUT_FULL = -27,       /* 65,536 octets or more wait: write, and call again */
+  BJ_PING_WAITS = -28,        /* a PING awaits its answer */
+  BJ_TOO_MANY_RESETS = -29,   /* this end has reset 1,000 streams */
+  BJ_LIST_TOO_LARGE = -30,    /* the fields have more than 65,536 octets */
+  BJ_NOT_OWED = -31,          /* so much isn't owed on the stream, or it is nothing */
+  BJ_MEMORY = -32,            /* an allocation was refused */
+  BJ_SETTINGS_WAIT = -33,     /* settings await their acknowledgment */
+
+  /* Rules that a message breaks, the first one of several. */
+  BJ_BAD_NAME = -41,
+  BJ_BAD_VALUE = -42,
+  BJ_PSEUDO_PLACE = -43,
+  BJ_PSEUDO_UNKNOWN = -44,
+  BJ_PSEUDO_TWICE = -45,
+  BJ_PSEUDO_MISSING = -46,
+  BJ_BAD_METHOD = -47,
+  BJ_BAD_PATH = -48,
+  BJ_BAD_STATUS = -49,
+  BJ_CONNECTION_FIELD = -50,
+  BJ_BAD_LENGTH = -51,
+  BJ_BAD_ORDER = -52,
+
+  BJ_NOT_ASKED = -61, /* the stream isn't active, or has no request, or no open message */
+  BJ_ANSWERED = -62   /* the request has its answer, or one was begun */
+};
+
+/* Says the text of an error, which ends in an octet of zero and is never freed. */
+void bj_error_text(int error, const char **text);
+
+/* ---- what is passed ---- */
+
+/* An end's own settings (RFC 9113, section 6.5.2). */
+typedef struct bj_config {
+  uint32_t table_limit;    /* octets of the peer's header table: 0 to 65,536 */
+  uint32_t initial_window; /* octets of a new stream's window: 1 to 2^31 - 1 */
+  uint32_t max_streams;    /* active streams at a server: 100 to 1,000 */
+  uint32_t max_frame;      /* octets of a payload that is read: 16,384 to 1,048,576 */
+} bj_config;
+
+/* A place that holds an end, or nothing. Its members are the library's. */
+typedef struct bj_end {
+  void *at;
+  uint64_t state;
+} bj_end;
+
+/* A field. */
+typedef struct bj_field {
+  const uint8_t *name;
+  size_t name_length;
+  const uint8_t *value;
+  size_t value_length;
+  uint32_t sensitive; /* not 0: it is written, or was read, as one that is never indexed */
+} bj_field;
+
+/* Octets. */
+typedef struct bj_span {
+  const uint8_t *octets;
+  size_t length;
+} bj_span;
+
+/* What bj_take hands out. */
+enum {
+  BJ_NOTHING = 0,
+  BJ_INTERIM = 1,     /* the head of an interim response (1xx): stream, fields */
+  BJ_HEAD = 2,        /* the head of a message: stream, fields, end */
+  BJ_BODY = 3,        /* octets of a body, which may be none: stream, octets, length, end */
+  BJ_TRAILERS = 4,    /* trailers, which end a message: stream, fields, end, which is 1 */
+  BJ_RESET = 5,       /* a stream is over before its messages are: stream, code, ours */
+  BJ_UNPROCESSED = 6, /* the peer has not processed this request, and will not: stream */
+  BJ_GOAWAY = 7,      /* the peer takes no streams above this one: stream, code */
+  BJ_ACKED = 8,       /* the peer has applied this end's settings */
+  BJ_PONG = 9         /* the peer has answered a PING: ping */
+};
+
+typedef struct bj_event {
+  size_t used;     /* octets of the piece that were used */
+  uint32_t kind;   /* one of the above */
+  uint32_t stream; /* its stream */
+  uint32_t code;   /* an error code (RFC 9113, section 7) */
+  uint32_t end;    /* 1 where the message is whole */
+  uint32_t ours;   /* 1 where this end has reset the stream */
+  uint8_t ping[8];
+  size_t fields; /* how many fields the list has: see bj_field_at */
+  const uint8_t *octets;
+  size_t length;
+  uintptr_t user; /* what bj_set_user keeps beside the stream, or 0 */
+} bj_event;
+
+#define BJ_TEXT(text) ((const uint8_t *)("" text)), (sizeof(text) - 1)
+#define BJ_FIELD(name, value) {BJ_TEXT(name), BJ_TEXT(value), 0}
+#define BJ_NO_OCTETS ((const uint8_t *)""), 0
+#define BJ_NO_FIELDS ((const bj_field *)(const void *)""), 0
+
+/* ---- making and freeing ---- */
+
+/* Writes the values with which a connection begins: 4,096, 65,535, 100 and 16,384. */
+void bj_config_default(bj_config *config);
+
+/* Makes a server, or a client, in a place that holds none. Its opening waits as output.
+ * BJ_HELD: the place holds an end, and still does. BJ_TABLE_LIMIT, BJ_INITIAL_WINDOW,
+ * BJ_MAX_STREAMS or BJ_MAX_FRAME: the value is out of its bounds. BJ_MEMORY. */
+int bj_server_new(const bj_config *config, bj_end *end);
+int bj_client_new(const bj_config *config, bj_end *end);
+
+/* Frees the end and all that it keeps, and the place holds none. */
+int bj_free(bj_end *end);
+
+/* ---- taking ---- */
+
+/* Takes octets that were read, up to the end of one frame or else all of them, and says what is
+ * handed out: one event at most. Call it again, with the octets after those used, until all are
+ * used and nothing is handed out: an event need not use octets. What is handed out of a stream are
+ * the parts of a message that breaks no rule so far. The octets of a body are lent from the piece,
+ * or from the end, and the fields from the end.
+ * BJ_FAILED: the connection fails, or has failed, with the code in event->code. A GOAWAY waits as
+ * output, and then the transport is to be closed. With 2, INTERNAL_ERROR, an allocation was
+ * refused. Members that an event does not name are 0, but for octets, which is the address that
+ * was given, and user, which is of event->stream; after BJ_EMPTY all others are 0. */
+int bj_take(bj_end *end, const uint8_t *octets, size_t length, bj_event *event);
+
+/* Says a field of the list that was handed out last, by its place: 0 is the first.
+ * BJ_NO_FIELD: there are no more than so many. */
+int bj_field_at(bj_end *end, size_t place, bj_field *field);
+
+/* Says the fields of the list that was handed out last, from a place on, and how many were said:
+ * as many as there are, and at most as there is room for. */
+int bj_fields(bj_end *end, size_t from, bj_field *fields, size_t room, size_t *count);
+
+/* Says the value of the first field with this name, octet for octet.
+ * BJ_NO_FIELD: there is none. */
+int bj_field_value(bj_end *end, const uint8_t *name, size_t name_length, const uint8_t **value,
+                   size_t *length);
+
+/* ---- whole messages ---- */
+
+/* Gives a response to the request on a stream: its head, :status first, is sent, and its body
+ * waits for bj_pump. The request need not be whole.
+ * BJ_MEMORY, of the copies. BJ_ROLE, at a client. BJ_NOT_ASKED. BJ_ANSWERED. One of BJ_BAD_NAME to
+ * BJ_BAD_LENGTH. BJ_CLOSED. BJ_OUTPUT_FULL. BJ_LIST_TOO_LARGE. BJ_MEMORY. */
+int bj_respond(bj_end *end, uint32_t stream, const bj_field *head, size_t head_count,
+               const uint8_t *body, size_t length);
+
+/* Gives a request, and says the stream on which it goes: 1, 3, 5 and so on. Its head, the four
+ * pseudo-fields first, is sent, and its body waits for bj_pump.
+ * BJ_MEMORY, of the copies. BJ_ROLE, at a server. One of BJ_BAD_NAME to BJ_BAD_LENGTH. BJ_CLOSED.
+ * BJ_TOO_MANY_STREAMS. BJ_STREAMS_EXHAUSTED. BJ_GOING_AWAY. BJ_OUTPUT_FULL. BJ_LIST_TOO_LARGE.
+ * BJ_MEMORY. */
+int bj_request(bj_end *end, const bj_field *head, size_t head_count, const uint8_t *body,
+               size_t length, uint32_t *stream);
+
+/* Sends what waits of bodies, lower streams first, each as far as its windows go, until nothing
+ * more could go or 65,536 octets of output wait; says how many octets of bodies were sent.
+ * BJ_CLOSED. BJ_MEMORY: what was sent stays sent, and *sent is 0. */
+int bj_pump(bj_end *end, size_t *sent);
+
+/* Sends a share of what waits on each stream, in turn, each at most `most` octets (0 counts as 1,
+ * more than 65,536 as 65,536) and as far as its windows go, in one pass over the streams; says how
+ * many octets of bodies were sent. Where a share is cut short, since 65,536 octets of output wait
+ * or the connection's window is used up, the next pass begins with what is left of it. So no long
+ * body keeps the others waiting.
+ * BJ_CLOSED. BJ_MEMORY: what was sent stays sent, and *sent is 0. */
+int bj_pump_some(bj_end *end, size_t most, size_t *sent);
+
+/* ---- messages in parts ---- */
+
+/* Begins a response, or a request on a new stream: sends the head, without END_STREAM. The body
+ * and its end, or trailers, follow. Errors as of bj_respond and bj_request. */
+int bj_begin_response(bj_end *end, uint32_t stream, const bj_field *head, size_t head_count);
+int bj_begin_request(bj_end *end, const bj_field *head, size_t head_count, uint32_t *stream);
+
+/* Sends octets of the body of a message that was begun, and its end with them where ends is set
+ * and all are sent; says how many were: as many as windows let through, at most 65,536, which may
+ * be none. No octet is kept: give the rest again, once output was written and bj_room is above 0.
+ * BJ_NOT_ASKED. BJ_BAD_LENGTH: the body would be longer than its head says, or, with its end,
+ * shorter. BJ_CLOSED. BJ_OUTPUT_FULL. BJ_MEMORY. *sent is 0 then. */
+int bj_send_body(bj_end *end, uint32_t stream, const uint8_t *octets, size_t length, bool ends,
+                 size_t *sent);
+
+/* Sends trailers, which end the message. BJ_MEMORY, of the copies. BJ_NOT_ASKED. BJ_BAD_NAME,
+ * BJ_BAD_VALUE, BJ_PSEUDO_PLACE, BJ_CONNECTION_FIELD or BJ_BAD_LENGTH. BJ_CLOSED. BJ_OUTPUT_FULL.
+ * BJ_LIST_TOO_LARGE. BJ_MEMORY. */
+int bj_send_trailers(bj_end *end, uint32_t stream, const bj_field *trailers, size_t count);
+
+/* ---- the connection's calls ---- */
+
+/* Lets the peer send so many octets more on a stream, of those that were handed out.
+ * BJ_CLOSED. BJ_NO_SUCH_STREAM. BJ_NOT_OWED. BJ_OUTPUT_FULL. BJ_MEMORY. */
+int bj_release(bj_end *end, uint32_t stream, uint32_t count);
+
+/* The same of all that is owed, on all streams. BJ_CLOSED. BJ_OUTPUT_FULL or BJ_MEMORY: what was
+ * released stays released. Without one of the two the peer stops at its window. */
+int bj_release_all(bj_end *end);
+
+/* Resets a stream with an error code, and gives up what waits on it.
+ * BJ_CLOSED. BJ_NO_SUCH_STREAM. BJ_OUTPUT_FULL. BJ_TOO_MANY_RESETS. BJ_MEMORY. */
+int bj_reset(bj_end *end, uint32_t stream, uint32_t code);
+
+/* Sends PING. BJ_CLOSED. BJ_OUTPUT_FULL. BJ_PING_WAITS. BJ_MEMORY. */
+int bj_ping(bj_end *end, const uint8_t octets[8]);
+
+/* Sends GOAWAY: the peer opens no further streams. BJ_CLOSED. BJ_GOING_AWAY. BJ_OUTPUT_FULL.
+ * BJ_MEMORY. */
+int bj_go_away(bj_end *end);
+
+/* Ends the connection with an error code (RFC 9113, section 7): a GOAWAY with it is the last frame
+ * that waits. BJ_BAD_CODE: the number is above 13. BJ_CLOSED. */
+int bj_fail(bj_end *end, uint32_t code);
+
+/* Changes this end's settings. The first of those of a bj_config; BJ_CLOSED.
+ * BJ_OUTPUT_FULL. BJ_SETTINGS_WAIT. BJ_MEMORY. */
+int bj_change_settings(bj_end *end, const bj_config *config);
+
+/* ---- output ---- */
+
+/* Makes the output ready: call it before bj_waiting, so that nothing is missing there.
+ * BJ_MEMORY. */
+int bj_ready(bj_end *end);
+
+/* Lends the output that waits, in two parts, of which the first comes first; each may be empty. */
+int bj_waiting(bj_end *end, bj_span *first, bj_span *second);
+
+/* Takes octets of the output away, at most count of them, which were written; says how many.
+ * BJ_MEMORY, but not after bj_ready with no other call in between that changes the end. */
+int bj_consume(bj_end *end, size_t count, size_t *taken);
+
+/* Copies as many octets of the output as wait and there is room for, and takes them away; says how
+ * many. BJ_MEMORY; *count is 0 then. */
+int bj_put_out(bj_end *end, uint8_t *buffer, size_t room, size_t *count);
+
+/* ---- readers: none of them takes memory ---- */
+
+/* Whether 65,536 octets of output or more wait, so that what writes a frame is refused. */
+int bj_is_full(bj_end *end);
+
+/* Whether no output waits, and no stream is active or the connection has failed. */
+int bj_is_drained(bj_end *end);
+
+/* Whether the connection is up, no output waits, nothing is owed, and nothing could be sent. */
+int bj_is_quiet(bj_end *end);
+
+/* Whether a stream is active: open or half-closed. */
+int bj_is_active(bj_end *end, uint32_t stream);
+
+/* Says the error code with which the connection has failed. BJ_NONE: it has not. */
+int bj_failed(bj_end *end, uint32_t *code);
+
+/* Why a connection has failed. */
+enum {
+  BJ_WHY_BAD_PREFACE = 1, /* an octet differs from the preface */
+  BJ_WHY_FRAME_TOO_LONG = 2, /* a payload is above the limit */
+  BJ_WHY_PUSH_PROMISE = 3, /* PUSH_PROMISE came */
+  BJ_WHY_WRONG_STREAM = 4, /* a frame is on a stream that its type does not allow */
+  BJ_WHY_WRONG_LENGTH = 5, /* a frame has a length that its type does not allow */
+  BJ_WHY_PADDING_TOO_LONG = 6, /* padding is above what the payload leaves */
+  BJ_WHY_FIRST_FRAME_NOT_SETTINGS = 7, /* the first frame is no SETTINGS */
+  BJ_WHY_BLOCK_INTERRUPTED = 8, /* another frame came inside a field block */
+  BJ_WHY_STRAY_CONTINUATION = 9, /* CONTINUATION came outside a field block */
+  BJ_WHY_BLOCK_TOO_LONG = 10, /* a field block has more than 65,552 octets */
+  BJ_WHY_BLOCK_NOT_DECODED = 11, /* a field block does not decode */
+  BJ_WHY_FRAME_ON_IDLE_STREAM = 12, /* a frame came on an idle stream */
+  BJ_WHY_DATA_ON_CLOSED_STREAM = 13, /* DATA came on a closed stream */
+  BJ_WHY_BLOCK_ON_CLOSED_STREAM = 14, /* a field block came on a closed stream */
+  BJ_WHY_BLOCK_ON_IDLE_NUMBER = 15, /* a field block is on a number not the peer's to open */
+  BJ_WHY_DATA_ABOVE_CONNECTION_WINDOW = 16, /* DATA is above the connection's window */
+  BJ_WHY_DATA_ABOVE_STREAM_WINDOW = 17, /* DATA is above its stream's window */
+  BJ_WHY_ZERO_CONNECTION_INCREMENT = 18, /* WINDOW_UPDATE adds 0 to the connection's window */
+  BJ_WHY_CONNECTION_WINDOW_TOO_LARGE = 19, /* the connection's window is above 2^31 - 1 */
+  BJ_WHY_BAD_ENABLE_PUSH = 20, /* a bad value of ENABLE_PUSH */
+  BJ_WHY_BAD_INITIAL_WINDOW = 21, /* a bad value of INITIAL_WINDOW_SIZE */
+  BJ_WHY_BAD_MAX_FRAME_SIZE = 22, /* a bad value of MAX_FRAME_SIZE */
+  BJ_WHY_SHIFT_TOO_LARGE = 23, /* SETTINGS bring a stream's window above 2^31 - 1 */
+  BJ_WHY_TOO_MANY_RESETS = 24, /* this end would reset a 1,001st stream */
+  BJ_WHY_TOO_MUCH_OUTPUT = 25, /* replies would bring the output above 262,144 octets */
+  BJ_WHY_OUT_OF_MEMORY = 26, /* an allocation was refused */
+  BJ_WHY_ENDED_ABOVE = 27 /* bj_fail ended it */
+};
+
+/* Says why the connection has failed: one of the above; bj_failed says its code. BJ_NONE: it has
+ * not. */
+int bj_why(bj_end *end, uint32_t *why);
+
+/* Says the text of such a reason, which ends in an octet of zero and is never freed. */
+void bj_why_text(uint32_t why, const char **text);
+
+/* Says the stream of the part of a message that was refused last, and the rule that it breaks, one
+ * of BJ_BAD_NAME to BJ_BAD_ORDER. BJ_NONE: none was. It stays after the connection has failed. */
+int bj_last_malformed(bj_end *end, uint32_t *stream, int *error);
+
+/* Says how many octets the payload of the last DATA had, padding included, 0 before any: after
+ * BJ_BODY what bj_release is given once they are used, where it is not 0 and the stream is active
+ * still. */
+int bj_last_flow(bj_end *end, uint32_t *flow);
+
+/* Says how many octets may be sent on a stream, or on the connection, which is 0; below zero where
+ * settings have shifted the window so. BJ_NONE: the stream isn't active, or it has failed. */
+int bj_room(bj_end *end, uint32_t stream, int64_t *room);
+
+/* Says how many octets of a stream were handed out and are not released. */
+int bj_owed(bj_end *end, uint32_t stream, uint32_t *owed);
+
+/* Says how many octets of the body that was given for a stream wait for bj_pump. */
+int bj_unsent(bj_end *end, uint32_t stream, size_t *unsent);
+
+/* Says the least active stream above a number. BJ_NONE: there is none. */
+int bj_next_live(bj_end *end, uint32_t above, uint32_t *stream);
+
+/* ---- numbers of the caller's ---- */
+
+/* Keeps a number beside a stream, as a pointer of the caller's; 0 forgets it. It stays until then,
+ * or until the end is freed, also when the stream is over. BJ_MEMORY. */
+int bj_set_user(bj_end *end, uint32_t stream, uintptr_t user);
+
+/* Says the number beside a stream, or 0. */
+int bj_user(bj_end *end, uint32_t stream, uintptr_t *user);
+
+#ifdef __cplusplus
+}
+#endif
+
+#endif

@@ -1,0 +1,11 @@
+pub mod Bounds
+pub mod CopiedOctets
+pub mod CopiesOut
+pub mod LentFields
+pub mod LooseValues
+pub mod MadeEnds
+pub mod OnPlaces
+pub mod PlaceSteps
+pub mod ReadyPlaces
+pub mod Steps
+pub mod TakenEvents

@@ -1,0 +1,14 @@
+pub mod Calls
+pub mod Configs
+pub mod Events
+pub mod Given
+pub mod Helds
+pub mod Lent
+pub mod Making
+pub mod Numbers
+pub mod Output
+pub mod Places
+pub mod Readers
+pub mod Texts
+pub mod Users
+pub mod WhyNumbers

@@ -1,0 +1,86 @@
+//! A place of C's that holds an end, or nothing.
+
+ghost use Rattle.std.specs.Prelude.{◌≡◌, Option, None, Some, IsSome, MatchOption};
+ghost use Rattle.std.specs.Option.{is_some};
+ghost use Rattle.std.specs.Coded.{coded_option};
+ghost use Rattle.belkjoef.specs.Events.{address_of};
+ghost use Rattle.belkjoef.specs.Places.{place_owns};
+ghost use Rattle.belkjoef.specs.contracts.held.Held.{the_row};
+ghost use Rattle.belkjoef.specs.declared.held.Held.{Held};
+
+use crate::held::Held;
+use crate::loose::Loose;
+use std::alloc::Global;
+use std::marker::Model;
+
+/// `bj_end`: a place of C's that holds an end, or nothing where its state is 0, as C makes it. It
+/// owns the end, which lies on the heap.
+#[repr(C)]
+pub struct BjEnd {
+    at: *mut u8,
+    state: u64,
+    ghost held: { Option Held } by { coded_option the_row.coded },
+}
+
+impl Model for BjEnd {
+    ghost also_owns = { λ place. place_owns the_row place.at place.state place.held };
+}
+
+impl BjEnd {
+    /// Whether it holds an end.
+    pub(crate) fn is_held(&mut self) -> bool
+        ensures value { result ≡ is_some self.old.held }
+        ensures same { self.new ≡ self.old }
+    {
+        self.state != 0
+    }
+
+    /// Puts an end here, where there is none.
+    pub(crate) fn put(&mut self, loose: Loose<Held, Global>)
+        requires { self.old.held ≡ None }
+        ensures { self.new.held ≡ Some loose.value }
+    {
+        let Loose { at, alloc: _ } = loose;
+        self.at = at as *mut u8;
+        self.state = 1;
+    }
+
+    /// Takes the end that is here.
+    pub(crate) fn take(&mut self, alloc: Global) -> Loose<Held, Global>
+        requires { IsSome self.old.held }
+        ensures empty { self.new.held ≡ None }
+        ensures value { Some result.value ≡ self.old.held }
+    {
+        self.state = 0;
+        let at = self.at as *mut Held;
+        Loose { at, alloc }
+    }
+
+    /// Puts an end back.
+    pub(crate) fn keep(&mut self, held: Box<Held>)
+        requires { self.old.held ≡ None }
+        ensures { self.new.held ≡ Some held.value }
+    {
+        self.put(Loose::of(held));
+    }
+
+    // rule: c (own) A place holds an end or nothing, and each call says which
+    /// The end that is here, if there is one; then the place holds nothing until it is put back.
+    pub(crate) fn open(&mut self, alloc: Global) -> Option<Box<Held>>
+        ensures empty { self.new.held ≡ None }
+        ensures value { MatchOption result (self.old.held ≡ None)
+            (λ held. self.old.held ≡ Some held.value) }
+    {
+        if !self.is_held() {
+            return None;
+        }
+        Some(self.take(alloc).into_box())
+    }
+}
+
+/// Where octets are.
+pub(crate) fn address(octets: &[u8]) -> *const u8
+    ensures { result ≡ address_of octets.entry }
+{
+    octets.as_ptr()
+}

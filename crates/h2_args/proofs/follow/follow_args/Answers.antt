@@ -1,0 +1,42 @@
+use Rattle.h2_args.proofs.Names.{◌≡◌, ◌∙◌, ℕ, IfErr, map, string_bytes, refl, ap, sym, rules, Some}
+use Rattle.h2_args.proofs.Names.{arith, codes, ExplainsUnsignedError, HasUnsignedDigitsIfOk}
+use Rattle.h2_args.proofs.Names.{ParsesUnsigned, found_of, rows_of, follow_app}
+use Rattle.h2_follow.specs.declared.follow.FollowOptions.{FollowOptions}
+use Rattle.h2_args.specs.Words.{follow_options_in}
+use Rattle.h2_args.proofs.CommandLemmas.{follow_is_alone, follow_names_limit}
+use Rattle.h2_args.proofs.GivenLemmas.{given_by-Ok}
+use Rattle.h2_args.proofs.NumberOptionLemmas.{GivesNumberOr, option_number}
+use Rattle.h2_args.proofs.follow.follow_args.Goals.{After-get_one}
+use Rattle.h2_args.proofs.follow.follow_args.Goals as goal
+
+-- the limit of payloads is the number that is given, or 16,384
+limit : (c : After-get_one)
+    → GivesNumberOr c.get_one.result 16384 16384 1048576 (codes "max-frame")
+    (rows_of (found_of c.in_ok-matches.matches))
+limit c =
+    option_number follow_app c.in_ok-command.command c.in_ok-command.ensures follow_is_alone
+    c.in_ok-matches.matches c.in_ok-matches.ensures.parsed 1 (codes "max-frame") 16384 16384 1048576
+    follow_names_limit _ (λ bs r. ParsesUnsigned 32 10 bs r × ExplainsUnsignedError 10 bs r
+    × HasUnsignedDigitsIfOk bs r)
+    32 c.get_one.result c.get_one.ensures.none c.get_one.ensures.value (λ u x gives. gives.0)
+    (omega arith) (omega arith) (omega arith)
+
+pub returns-clause-ok : goal.returns-clause-ok
+returns-clause-ok c =
+    let rows = rows_of (found_of c.in_ok-matches.matches) in
+    let given = limit (goal.at.returns-clause-ok c).After-get_one in
+    let read : follow_options_in rows ≡ record { max_frame = c.unwrap_or-max_frame.result } =
+    sym (ap (λ (n : ℕ). record { max_frame = n }) (c.unwrap_or-max_frame.ensures ∙ given.read)) in
+    given_by-Ok follow_app follow_options_in _ c.in_ok-command.command c.in_ok-matches.matches
+    c.in_ok-command.ensures refl refl c.in_ok-matches.ensures.matches
+    c.in_ok-matches.ensures.kinds ∙ ap Some read
+
+pub returns-clause-least : goal.returns-clause-least
+returns-clause-least c =
+    let given = limit (goal.at.returns-clause-least c).After-get_one in
+    omega (arith, c.unwrap_or-max_frame.ensures, given.low)
+
+pub returns-clause-most : goal.returns-clause-most
+returns-clause-most c =
+    let given = limit (goal.at.returns-clause-most c).After-get_one in
+    omega (arith, c.unwrap_or-max_frame.ensures, given.high)

@@ -1,0 +1,80 @@
+//! The options of `show --follow`.
+
+ghost use Rattle.std.specs.Prelude.{◌≡◌, ◌≤◌, IfErr, IfOk, Some, false, map, string_bytes};
+ghost use Rattle.clap.specs.Words.{app_of, HasKind, rule_of};
+ghost use Rattle.h2_args.specs.Commands.{follow_app, follow_rule};
+ghost use Rattle.h2_args.specs.Words.{asks_follow, follow_faults, follow_options_of};
+
+use crate::options::{CommandText, named_command};
+use crate::show::{MAX_FRAME, max_frame_arg};
+use clap::{Arg, ArgAction, Command, Error};
+use h2_follow::FollowOptions;
+use h2_frame::limits::LEAST_MAX_FRAME;
+use std::alloc::{AllocError, Global};
+
+const FOLLOW: &str = "follow";
+
+const FOLLOW_HELP: &str = r"Read the text that tshark prints of both sides of a
+connection, and show both; without --hex and --from";
+
+// contract: follow (own) The word --follow excludes --hex and --from
+// rule: follow (own) The word --follow excludes --hex and --from
+/// Whether one of the words after `show` is `--follow`.
+pub fn asks_follow(words: &[String]) -> bool
+    ensures { result ≡ asks_follow (map string_bytes words.now) }
+{
+    for word in words {
+        if word.as_str() == "--follow" {
+            return true;
+        }
+    }
+    false
+}
+
+// contract: follow (own) The word --follow excludes --hex and --from
+// rule: follow (own) The word --follow excludes --hex and --from
+/// Reads the words after `show`, one of which is `--follow`.
+///
+/// # Errors
+///
+/// Those of [`crate::show_args`].
+pub fn follow_args(alloc: Global, words: &[String]) -> Result<FollowOptions, Error>
+    ensures ok { IfOk result (λ options.
+        follow_options_of (map string_bytes words.now) ≡ Some options) }
+    ensures least { IfOk result (λ options. 16384 ≤ options.max_frame) }
+    ensures most { IfOk result (λ options. options.max_frame ≤ 1048576) }
+    ensures err { IfErr result (HasKind (follow_faults (map string_bytes words.now))) }
+{
+    let command = follow_command(alloc)?;
+    let matches = command.try_get_matches_from(words)?;
+    let max_frame = matches.get_one::<u32>(MAX_FRAME).unwrap_or(LEAST_MAX_FRAME);
+    Ok(FollowOptions { max_frame })
+}
+
+/// The flag as clap has it.
+pub(super) fn follow_arg<'a>(alloc: Global) -> Arg<'a>
+    ensures rule { rule_of result ≡ follow_rule }
+    ensures local { result.global ≡ false }
+{
+    Arg::new(alloc, FOLLOW)
+        .long(FOLLOW)
+        .action(ArgAction::SetTrue)
+        .help(FOLLOW_HELP)
+}
+
+/// What the help of the words says.
+const TEXT: CommandText<'static> = CommandText {
+    called: "h2 show",
+    about: "Prints the frames of both sides of a connection, of what tshark prints of it",
+    usage: "h2 show --follow [--max-frame N] < TEXT",
+    more: "`h2 show --help` says what the lines and the statuses mean.",
+};
+
+// The command as clap has it.
+fn follow_command<'a>(alloc: Global) -> Result<Command<'a>, AllocError>
+    ensures { IfOk result (λ command. app_of command ≡ follow_app) }
+{
+    named_command(alloc, "show", TEXT)?
+        .arg(follow_arg(alloc))?
+        .arg(max_frame_arg(alloc))
+}

@@ -1,0 +1,8 @@
+-- Nothing has come.
+use Rattle.h2_follow.proofs.Names.{refl}
+use Rattle.h2_follow.proofs.FollowerLemmas.{none_taken}
+use Rattle.h2_follow.proofs.follower.Follower.new.Goals as goal
+
+pub returns : goal.returns
+returns c =
+    none_taken _ c.args.max_frame refl c.in_ok-new.ensures c.in_ok-new-2.ensures

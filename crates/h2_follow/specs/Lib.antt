@@ -1,0 +1,3 @@
+pub mod FollowText
+pub mod Follows
+pub mod Follower

@@ -1,0 +1,167 @@
+//! The text of both directions of a connection, shown to its end.
+
+ghost use Rattle.std.specs.Prelude.{◌≡◌, ◌≢◌, ℕ, ◌+◌, List, [], ◌++◌, flat_map, IfOk, IfErr, IfSome};
+ghost use Rattle.std.specs.Io.KnownBytes.{Appends};
+ghost use Rattle.h2_cli.specs.declared.failure.Failure.TheVariants as failures;
+ghost use Rattle.h2_follow.specs.FollowText.{HasBadLine};
+ghost use Rattle.h2_follow.specs.Follower.{FollowerShows};
+ghost use Rattle.h2_follow.specs.Follows.{FollowsText, BadLineReports};
+
+use crate::follower::Follower;
+use crate::hint::FollowHint;
+use crate::text::{Part, read_line};
+use h2_cli::{Failure, HexError, PIECE, Status, is_capture};
+use std::alloc::{AllocError, Global};
+use std::io::{self, BufRead, BufReader, ErrorKind, Read, Write};
+
+/// How a text is shown.
+#[derive(Clone, Copy, Debug, PartialEq, Eq)]
+pub struct FollowOptions {
+    /// The most octets of a frame's payload, of either side; a frame with more is a fault.
+    pub max_frame: u32,
+}
+
+/// The result of showing a text.
+#[derive(Clone, Copy, Debug, PartialEq, Eq)]
+pub struct Followed {
+    /// How the command ends: [`Status::Good`] or [`Status::Fault`].
+    pub status: Status,
+    /// What is likely the cause of a fault.
+    pub hint: Option<FollowHint>,
+}
+
+/// Why a text isn't shown to its end.
+#[derive(Clone, Copy, Debug, PartialEq, Eq)]
+pub struct Unfollowed {
+    /// Why the command fails.
+    pub failure: Failure,
+    /// What is wrong with the text, where that is the cause.
+    pub hint: Option<FollowHint>,
+}
+
+impl From<Failure> for Unfollowed {
+    ghost from_gives = { λ failure unfollowed. unfollowed.failure ≡ failure };
+
+    fn from(failure: Failure) -> Unfollowed {
+        Unfollowed {
+            failure,
+            hint: None,
+        }
+    }
+}
+
+impl From<io::Error> for Unfollowed {
+    ghost from_gives = { λ error unfollowed. unfollowed.failure ≢ failures.BadHex };
+
+    fn from(error: io::Error) -> Unfollowed {
+        Unfollowed {
+            failure: Failure::from(error),
+            hint: None,
+        }
+    }
+}
+
+impl From<AllocError> for Unfollowed {
+    ghost from_gives = { λ error unfollowed. unfollowed.failure ≢ failures.BadHex };
+
+    fn from(_error: AllocError) -> Unfollowed {
+        Unfollowed {
+            failure: Failure::Memory,
+            hint: None,
+        }
+    }
+}
+
+// contract: follow (own) Both sides are read of the text that tshark prints of them
+// contract: follow (own) Each side has the lines that show prints of it, after its mark
+// contract: follow (own) A line stands where the last octet of its frame came
+// contract: follow (own) A side's fault ends that side, while the other goes on
+// contract: follow (own) The status is 0 only where both sides are good to their ends
+// contract: follow (own) A line that is not of tshark's text ends all, with its number
+/// Shows both sides of the text, each line of the client's octets after `> `, and each of the
+/// server's after `< `, in the order in which the octets came; then each side's end, the client's
+/// first.
+///
+/// Of a reader whose octets are known, the lines of each side are those that `h2 show` prints of
+/// its octets, and [`Status::Good`] comes only where both sides are good to their ends. A side's
+/// fault ends that side alone. The text is read a line at a time: one line is kept, with its
+/// octets and their lines, and no other.
+///
+/// # Errors
+///
+/// [`Failure::BadHex`] where a line isn't of the text that tshark prints, with its number;
+/// [`Failure::Device`] where a read or a write failed, and [`Failure::Memory`] when out of memory,
+/// which a line of any length may need. What was printed by then is written, unless the writer
+/// itself fails.
+pub fn follow_input<R: Read, W: Write>(
+    alloc: Global,
+    options: FollowOptions,
+    input: &mut R,
+    out: &mut W,
+) -> Result<Followed, Unfollowed>
+    ensures follows { IfOk result (λ followed. IfSome (R.remaining input.old) (λ text.
+        (lines : List ℕ) × FollowsText options.max_frame text followed.status lines
+        × Appends (W.contents out.old) (W.contents out.new) lines)) }
+    ensures bad_line { IfErr result (λ unfollowed. unfollowed.failure ≡ failures.BadHex
+        → IfSome (R.remaining input.old) (λ text. (number : ℕ) × HasBadLine text number
+        × BadLineReports number unfollowed.hint)) }
+{
+    let mut lines = BufReader::with_capacity(alloc, PIECE, input)?;
+    let mut follower = Follower::new(alloc, options.max_frame)?;
+    follow_lines(alloc, &mut follower, &mut lines, out)
+}
+
+// rule: follow (own) Both sides are read of the text that tshark prints of them
+// Shows the lines that a reader has left.
+fn follow_lines<B: BufRead, W: Write>(
+    alloc: Global,
+    follower: &mut Follower,
+    input: &mut B,
+    out: &mut W,
+) -> Result<Followed, Unfollowed>
+    ensures follows { IfOk result (λ followed. IfSome (B.Read.remaining input.old) (λ text.
+        (max_frame : ℕ) → FollowerShows follower.old max_frame [] []
+        → (lines : List ℕ) × FollowsText max_frame text followed.status lines
+        × Appends (W.contents out.old) (W.contents out.new) lines)) }
+    ensures bad_line { IfErr result (λ unfollowed. unfollowed.failure ≡ failures.BadHex
+        → IfSome (B.Read.remaining input.old) (λ text. (number : ℕ) × HasBadLine text number
+        × BadLineReports number unfollowed.hint)) }
+{
+    let mut part = Part::Head;
+    let mut line = Vec::new(alloc);
+    for count in 0..u64::MAX {
+        line.clear();
+        if input.read_until(b'\n', &mut line)? == 0 {
+            let status = follower.end(out)?;
+            return Ok(Followed {
+                status,
+                hint: follower.hint(),
+            });
+        }
+        match read_line(alloc, part, &line) {
+            Ok(next) => {
+                part = next.part;
+                follower.take_line(next.read, out)?;
+            }
+            Err(HexError::BadHex) => return Err(bad_line(count + 1, &line)),
+            Err(HexError::Memory) => return Err(Unfollowed::from(Failure::Memory)),
+        }
+    }
+    Err(Unfollowed::from(io::Error::from(ErrorKind::Other)))
+}
+
+// rule (tested): follow (own) A hint says why a side may be at fault, or which line is bad
+// The failure of the line with this number.
+fn bad_line(number: u64, line: &[u8]) -> Unfollowed
+    ensures { BadLineReports number result.hint }
+{
+    let hint = if number == 1 && is_capture(line) {
+        FollowHint::Capture
+    } else {
+        FollowHint::BadLine(number)
+    };
+    Unfollowed {
+        failure: Failure::BadHex,
+        hint: Some(hint),
+    }
+}

@@ -1,0 +1,181 @@
+//! Both sides of a connection, shown as their octets come.
+
+ghost use Rattle.std.specs.Prelude.{◌≡◌, ℕ, List, [], ◌++◌, flat_map, OnOk, IfOk};
+ghost use Rattle.std.specs.Io.KnownBytes.{Appends};
+ghost use Rattle.h2_cli.specs.declared.status.Status.{Status as End};
+ghost use Rattle.h2_follow.specs.FollowText.{OfSide, pieces_read};
+ghost use Rattle.h2_follow.specs.Follower.{AdvancesSide, EndsSide, FollowerShows, FollowerTakes};
+ghost use Rattle.h2_follow.specs.Follower.{ChoosesClient, FollowerShowsMore};
+ghost use Rattle.h2_follow.specs.Follows.{marked_of, status_of_both};
+ghost use Rattle.h2_show.specs.declared.options.Side.TheVariants as sides;
+
+use crate::hint::FollowHint;
+use crate::marks::{mark_lines, mark_of};
+use crate::one_side::OneSide;
+use crate::text::{Node, Read, client_by, side_of};
+use h2_cli::Status;
+use h2_show::Side;
+use std::alloc::{AllocError, Global};
+use std::io::{self, Write};
+
+/// Both sides of a connection.
+#[derive(Debug, Drop)]
+pub(crate) struct Follower {
+    client_side: OneSide,
+    server_side: OneSide,
+    // The client's node, once octets have come.
+    client: Option<Node>,
+    // The lines of a piece.
+    text: Vec<u8>,
+    // The same, each after its mark.
+    lines: Vec<u8>,
+}
+
+impl Follower {
+    /// No octets have come.
+    ///
+    /// # Errors
+    ///
+    /// [`AllocError`] when out of memory.
+    pub(crate) fn new(alloc: Global, max_frame: u32) -> Result<Follower, AllocError>
+        ensures { IfOk result (λ follower. FollowerShows follower max_frame [] []) }
+    {
+        Ok(Follower {
+            client_side: OneSide::new(alloc, Side::Client, max_frame)?,
+            server_side: OneSide::new(alloc, Side::Server, max_frame)?,
+            client: None,
+            text: Vec::new(alloc),
+            lines: Vec::new(alloc),
+        })
+    }
+
+    // contract: follow (own) A line stands where the last octet of its frame came
+    // rule: follow (own) A line stands where the last octet of its frame came
+    /// Shows the octets that a line gives, if it does.
+    ///
+    /// # Errors
+    ///
+    /// `OutOfMemory` for that, and those of the writer. What was printed by then is written, unless
+    /// the writer itself fails.
+    pub(crate) fn take_line<W: Write>(&mut self, read: Option<Read>, out: &mut W) -> io::Result<()>
+        ensures { OnOk result ((texts : List OfSide)
+            × Appends (W.contents out.old) (W.contents out.new) (flat_map marked_of texts)
+            × FollowerShowsMore self.old self.new (pieces_read read) texts) }
+    {
+        match read {
+            Some(read) => self.take(&read, out),
+            None => Ok(()),
+        }
+    }
+
+    // rule: follow (own) A line stands where the last octet of its frame came
+    // Shows octets that came together.
+    fn take<W: Write>(&mut self, read: &Read, out: &mut W) -> io::Result<()>
+        ensures { OnOk result ((text : OfSide)
+            × Appends (W.contents out.old) (W.contents out.new) (marked_of text)
+            × FollowerTakes self.old self.new (read.now.node, read.now.octets.items) text) }
+    {
+        let client = self.client_with(read);
+        self.client = Some(client);
+        self.show(side_of(client, read.node), &read.octets, out)
+    }
+
+    // rule: follow (own) The client is whose octets come first as the preface, or else the other
+    // The client, as it is known or by these octets.
+    fn client_with(&self, read: &Read) -> Node
+        ensures { ChoosesClient self.now.client (read.now.node, read.now.octets.items) result }
+    {
+        match self.client {
+            Some(client) => client,
+            None => client_by(read),
+        }
+    }
+
+    // contract: follow (own) A side's fault ends that side, while the other goes on
+    // rule: follow (own) A side's fault ends that side, while the other goes on
+    // Shows octets of one side.
+    fn show<W: Write>(&mut self, side: Side, octets: &[u8], out: &mut W) -> io::Result<()>
+        ensures shown { OnOk result ((printed : List ℕ)
+            × Appends (W.contents out.old) (W.contents out.new) (marked_of (side, printed))
+            × AdvancesSide side self.old self.new octets.now printed) }
+        ensures client { self.new.client ≡ self.old.client }
+    {
+        self.text.clear();
+        let shown = self.show_side(side, octets);
+        self.write_text(side, out)?;
+        shown
+    }
+
+    // Adds the lines of octets of one side to the text.
+    fn show_side(&mut self, side: Side, octets: &[u8]) -> io::Result<()>
+        ensures shown { OnOk result ((printed : List ℕ)
+            × (self.new.text.items ≡ self.old.text.items ++ printed)
+            × AdvancesSide side self.old self.new octets.now printed) }
+        ensures client { self.new.client ≡ self.old.client }
+    {
+        match side {
+            Side::Client => self.client_side.show(octets, &mut self.text),
+            Side::Server => self.server_side.show(octets, &mut self.text),
+        }
+    }
+
+    // rule: follow (own) Each side has the lines that show prints of it, after its mark
+    // Writes the text of a side, each line after its mark.
+    fn write_text<W: Write>(&mut self, side: Side, out: &mut W) -> io::Result<()>
+        ensures written { OnOk result (Appends (W.contents out.old) (W.contents out.new)
+            (marked_of (side, self.old.text.items))) }
+        ensures same { self.new ≡ record self.old { lines = self.new.lines } }
+    {
+        self.lines.clear();
+        mark_lines(&self.text, mark_of(side), &mut self.lines)?;
+        out.write_all(&self.lines)?;
+        out.flush()
+    }
+
+    // contract: follow (own) The status is 0 only where both sides are good to their ends
+    // rule: follow (own) The status is 0 only where both sides are good to their ends
+    /// Shows the end of both sides' octets, the client's first.
+    ///
+    /// # Errors
+    ///
+    /// `OutOfMemory` for that, and those of the writer.
+    pub(crate) fn end<W: Write>(&mut self, out: &mut W) -> io::Result<Status>
+        ensures { IfOk result (λ status. (client : End) × (server : End) × (one : List ℕ) × (two : List ℕ)
+            × (status ≡ status_of_both client server)
+            × EndsSide self.old.client_side client one × EndsSide self.old.server_side server two
+            × Appends (W.contents out.old) (W.contents out.new)
+            (marked_of (sides.Client, one) ++ marked_of (sides.Server, two))) }
+    {
+        self.text.clear();
+        let client = self.client_side.end(&mut self.text)?;
+        self.write_text(Side::Client, out)?;
+        self.text.clear();
+        let server = self.server_side.end(&mut self.text)?;
+        self.write_text(Side::Server, out)?;
+        Ok(both(client, server))
+    }
+
+    // rule (tested): follow (own) A hint says why a side may be at fault, or which line is bad
+    /// What is likely the cause of a side's fault, where one is.
+    pub(crate) fn hint(&self) -> Option<FollowHint> {
+        if self.client_side.lacks_preface() {
+            return Some(FollowHint::NoPreface);
+        }
+        if self.client_side.is_over() || self.server_side.is_over() {
+            return Some(FollowHint::Fault);
+        }
+        None
+    }
+}
+
+// contract: follow (own) The status is 0 only where both sides are good to their ends
+// rule: follow (own) The status is 0 only where both sides are good to their ends
+// The status of both sides.
+fn both(client: Status, server: Status) -> Status
+    ensures { result ≡ status_of_both client server }
+{
+    match (client, server) {
+        (Status::Good, Status::Good) => Status::Good,
+        _ => Status::Fault,
+    }
+}

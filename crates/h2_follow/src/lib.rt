@@ -1,0 +1,17 @@
+//! Both directions of a connection as lines of text, of what tshark prints of a capture.
+//!
+//! [`follow_input`] reads the text of `tshark -q -z follow,tcp,raw,N` from any reader and prints to
+//! any writer, so tests run it in memory. Each direction is shown as `h2_show` shows one stream.
+#![tactic(auto)]
+
+mod follow;
+mod follower;
+mod hint;
+mod marks;
+mod one_side;
+mod text;
+
+pub use follow::{FollowOptions, Followed, Unfollowed, follow_input};
+pub use h2_cli::{Failure, Status};
+pub use h2_show::Side;
+pub use hint::FollowHint;

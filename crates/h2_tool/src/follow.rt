@@ -1,0 +1,76 @@
+//! The command `h2 show --follow`.
+
+ghost use Rattle.std.specs.Prelude.{◌≡◌, MatchResult, map, string_bytes};
+ghost use Rattle.h2_cli.specs.Status.{failure_status};
+ghost use Rattle.h2_tool.specs.Commands.{EndsFollow};
+
+use crate::program::{answer, give_up};
+use h2_args::follow_args;
+use h2_cli::{Hint, Status, write_hint};
+use h2_follow::{FollowHint, Followed, Unfollowed, follow_input};
+use std::alloc::Global;
+use std::io::{Read, Write};
+
+// contract: follow (own) The word --follow excludes --hex and --from
+// rule: follow (own) The word --follow excludes --hex and --from
+// contract: follow (own) The status is 0 only where both sides are good to their ends
+// rule: follow (own) The status is 0 only where both sides are good to their ends
+/// Runs `h2 show` with words one of which is `--follow`.
+pub(crate) fn cmd_follow<R: Read, W: Write, E: Write>(
+    alloc: Global,
+    words: &[String],
+    input: &mut R,
+    out: &mut W,
+    err: &mut E,
+) -> Status
+    ensures { EndsFollow (map string_bytes words.now) (R.remaining input.old)
+        (R.remaining input.new) (W.contents out.old) (W.contents out.new) result }
+{
+    let options = match follow_args(alloc, words) {
+        Ok(options) => options,
+        Err(error) => return answer(&error, out, err),
+    };
+    let followed = follow_input(alloc, options, input, out);
+    end_text(followed, err)
+}
+
+// rule: follow (own) The status is 0 only where both sides are good to their ends
+// Ends the command by what came of the text.
+fn end_text<E: Write>(followed: Result<Followed, Unfollowed>, err: &mut E) -> Status
+    ensures { MatchResult followed (λ shown. result ≡ shown.status)
+        (λ unfollowed. result ≡ failure_status unfollowed.failure) }
+{
+    match followed {
+        Ok(followed) => {
+            give_hint(followed.hint, err);
+            followed.status
+        }
+        Err(unfollowed) => {
+            let status = give_up(unfollowed.failure, err);
+            give_hint(unfollowed.hint, err);
+            status
+        }
+    }
+}
+
+// rule (tested): follow (own) A hint says why a side may be at fault, or which line is bad
+// Prints on standard error what is likely wrong with the text or the capture.
+fn give_hint<E: Write>(hint: Option<FollowHint>, err: &mut E) {
+    // The status is that of the text, whether or not these writes fail.
+    let _ = match hint {
+        None => Ok(()),
+        Some(FollowHint::Capture) => write_hint(Some(Hint::Capture), err),
+        Some(FollowHint::BadLine(number)) => writeln!(
+            err,
+            "hint: line {number} is not of the text that tshark -q -z follow prints"
+        ),
+        Some(FollowHint::NoPreface) => writeln!(
+            err,
+            "hint: no side begins with a client's preface: the capture may begin later"
+        ),
+        Some(FollowHint::Fault) => writeln!(
+            err,
+            "hint: a capture that begins later, or lost a segment, shows itself as a fault"
+        ),
+    };
+}
