@@ -62,7 +62,7 @@ def request_of(length, value):
 
 
 def check_directed(checker):
-    """Pairs that need half of the bound, or more."""
+    """Pairs whose number of rounds is known, some near the bound."""
     for window, requests, needed in DIRECTED:
         joined = Joined(Config(4_096, 65_535, 100), Config(4_096, window, 100), Marks())
         checker.case = f"window {window}, {len(requests)} requests"
