@@ -4,33 +4,12 @@ import copy
 import definitions as said
 import pair_cases
 from coverage import Marks
-from joined import EndRefused, Joined
+from joined import Joined
 from messages import REQUESTS, Message
 from model import Config
-from pair_cases import ALL
 from random_numbers import Random
+from settling import make_round, most_rounds, waiting_at
 from text import counted
-
-# A round, as h2_laws_quiet/specs/Rounds.antt has it: its acts, the first one first.
-ROUND = [("release_all", "client"), ("release_all", "server"), ("pump", "client"), ("pump", "server"),
-         ("move", "client", ALL), ("move", "server", ALL), ("deliver", "server", ALL), ("deliver", "client", ALL)]
-
-
-def make_round(joined):
-    """A release that is refused since the output is full ends nothing."""
-    for act in ROUND:
-        try:
-            joined.act(*act)
-        except EndRefused as refused:
-            if "C7" not in str(refused) or act[0] != "release_all":
-                raise
-
-
-def waiting_at(half):
-    """Of each active stream how many octets of a body wait there, and how many tokens: of each octet one, of trailers
-    one, and of the end of the message one."""
-    return [(len(body), len(body) + (trailers is not None) + 1) for number, (body, trailers) in half.waiting.items()
-            if number in half.end.streams]
 
 
 def side_of(writer, reader):
@@ -39,21 +18,23 @@ def side_of(writer, reader):
 
 
 def check_rounds(checker, joined):
-    """Makes rounds until the ends are quiet; says how many."""
+    """Makes rounds until the ends are quiet; says how many, and of how many."""
     client, server = joined.halves.values()
     most = said.most_rounds(side_of(client, server), side_of(server, client))
+    checker.check("most_rounds", most_rounds(joined) == most, most_rounds(joined), "by bench/drives, not", most)
     count = 0
     while not joined.is_quiet() and count <= most:
         make_round(joined)
         count += 1
     checker.check("most_rounds", joined.is_quiet() and count <= most, count, "rounds of", most)
-    return count
+    return count, most
 
 
 # A window of the server, the requests that are made at once, each its body's length and that of a value in its
-# trailers, where it has some; and how many rounds they take: windows hold back octets, and a full output trailers.
-DIRECTED = [(1, [(300, None)], 600), (65_535, [(1_310_700, None)], 40), (2_147_483_647, [(1_310_700, None)], 40),
-            (65_535, [(0, 65_503)] * 20, 20)]
+# trailers, where it has some; and how many rounds they take, of how many: windows hold back octets, and a full output
+# trailers.
+DIRECTED = [(1, [(300, None)], 600, 614), (65_535, [(1_310_700, None)], 40, 54),
+            (2_147_483_647, [(1_310_700, None)], 40, 54), (65_535, [(0, 65_503)] * 20, 20, 90)]
 
 
 def request_of(length, value):
@@ -63,14 +44,14 @@ def request_of(length, value):
 
 def check_directed(checker):
     """Pairs whose number of rounds is known, some near the bound."""
-    for window, requests, needed in DIRECTED:
+    for window, requests, needed, most in DIRECTED:
         joined = Joined(Config(4_096, 65_535, 100), Config(4_096, window, 100), Marks())
         checker.case = f"window {window}, {len(requests)} requests"
         check_rounds(checker, joined)
         for one in requests:
             joined.act("request", "client", request_of(*one))
-        count = check_rounds(checker, joined)
-        checker.check("rounds needed", count == needed, count, "rounds, not", needed)
+        found = check_rounds(checker, joined)
+        checker.check("rounds needed", found == (needed, most), found, "rounds, not", (needed, most))
 
 
 def watch_rounds(checker, seed, count):
@@ -84,6 +65,10 @@ def watch_rounds(checker, seed, count):
             if self.failed is None:
                 check_rounds(checker, copy.deepcopy(self.joined))
             super().drain()
+
+        def drive(self):
+            check_rounds(checker, copy.deepcopy(self.joined))
+            super().drive()
 
     before = pair_cases.Play
     pair_cases.Play = RoundedPlay

@@ -136,9 +136,9 @@ class Watched:
                 self.log.wrote(bytes(octets))
                 super().append(octets)
 
-            def end_with(self, code):
+            def end_with(self, code, why):
                 self.log.failed = code
-                super().end_with(code)
+                super().end_with(code, why)
 
             def take_out(self, count):
                 octets = super().take_out(count)

@@ -59,6 +59,7 @@ PAIR_WANTED = (
     + [f"C{number}" for number in (1, 2, 6, 7, 8, 10, 11, 13)]
     + [f"{event} handed out" for event in
        ("head", "body", "trailers", "reset", "unprocessed", "goaway", "acked", "pong")]
+    + ["rounds", "no round at quiet ends", "rounds where client failed", "rounds where server failed"]
     + ["a part that is cut", "an end alone", "a list with parts both ways", "a list with an open message at its end",
        "a list with bodies both ways", "a list with a reset", "a list with a go_away",
        "a list with changed settings", "a list with a connection that its end ends",

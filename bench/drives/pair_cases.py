@@ -6,6 +6,7 @@ from coverage import Marks
 from joined import EndRefused, Joined
 from messages import ENDINGS, GOOD_ENDINGS, REQUESTS, RESPONSES, TRAILERS, any_begun, any_list, any_message
 from model import FIRST_FRAME, Config
+from settling import settle
 from text import counted, fields_text, last_text
 
 KINDS = {"request": 70, "respond": 80, "begin": 60, "begin_response": 70, "body": 170, "trailers": 30, "pump": 60,
@@ -227,6 +228,19 @@ class Play:
                     self.joined.act(*act)
         raise AssertionError("never quiet")
 
+    def drive(self):
+        """As the library's `settle` does it, which is given as many rounds as what waits needs at most."""
+        count, most = settle(self.joined)
+        self.command(f"rounds {most}", [f"{count} quiet"])
+        self.show_handed()
+        self.marks.reach("rounds" if count else "no round at quiet ends")
+
+    def drive_failed(self):
+        """The library makes no round where an end has failed; the client is named, if both have."""
+        ends = [side for side, half in self.joined.halves.items() if half.end.failed is not None]
+        self.command("rounds 100", [f"0 {ends[0]} failed"])
+        self.marks.reach(f"rounds where {' and '.join(ends)} failed")
+
     def finish(self):
         """What was accepted was handed out whole, but for open messages, and streams that were reset or not
         processed."""
@@ -305,11 +319,14 @@ class Play:
             self.command("ends", self.joined.lines())
         if self.failed:
             self.hear()
+            self.drive_failed()
         else:
-            self.drain()
+            if self.is_heavy:
+                self.drain()
+            self.drive()
             if random.percent(70):
                 self.end_messages()
-                self.drain()
+                self.drive()
         self.finish()
 
 

@@ -8,23 +8,40 @@
  * refused or fails (bj_error_text has its text); those named bj_is_.. answer 1 for yes and 0 for
  * no, and BJ_EMPTY where the place holds no end: compare with 1. What else they say goes through
  * the pointers that stand last; those are written where the answer is BJ_OK, and otherwise only as
- * their function says. Errors are listed in the order in which they are looked for: the first that
- * holds is answered. Where it does not say otherwise, nothing has changed after one. BJ_EMPTY,
- * that the place holds no end, comes first, of every function that takes a place and has an
- * answer.
+ * their function says, but a count of what was done (`sent`, `taken`, and `count` of bj_fields and
+ * bj_put_out) and `user` are 0 after each error. What is written need not have a value before.
+ * Errors are listed in the order in which they are looked for: the first that holds is answered.
+ * Where it does not say otherwise, nothing has changed after one. BJ_EMPTY, that the place holds
+ * no end, comes first, of every function that takes a place but the two that make an end.
  *
- * What the caller owes. No pointer is null, not even of zero octets or fields: give "" or any
- * other address then (BJ_NO_OCTETS, BJ_NO_FIELDS). A pointer and a length that follow each other
+ * What the caller owes. No pointer is null, and each is aligned as its type is, also of no octets
+ * or fields: give BJ_NO_OCTETS or BJ_NO_FIELDS then. A pointer and a length that follow each other
  * are so many octets, or fields, that may be read, or written where the pointer isn't const, while
  * the call lasts; the places that one call writes don't overlap each other or what it reads. A
- * bj_end is all zero or as these functions have left it, and is not copied and then used twice. It
- * belongs to one thread at a time. No function is called in a signal handler, or in the child of a
+ * bj_end is all zero (BJ_END_EMPTY) or as these functions have left it, and is not copied and then
+ * used twice. It belongs to one thread at a time; what hands it to another orders the two: a lock,
+ * or a thread's start or join. No function is called in a signal handler, or in the child of a
  * fork of a program with threads. malloc, realloc and free are those of one allocator, whose
  * blocks are aligned to 16.
  *
  * What is lent. Addresses that are handed out are good until the next call with the same place,
- * and what lies there is not written. What the caller gives is copied, unless it is written at
- * once.
+ * and not in that call: what an end has lent is copied before it is given to the same end. Octets
+ * of a body that lie in the caller's piece may be given. What is lent is not written. What the
+ * caller gives is copied, unless it is written at once.
+ *
+ * The loop of an end, for each piece that was read:
+ *
+ *   do {
+ *     if (bj_take(&end, piece, length, &event) != BJ_OK) break; // write what waits, and close
+ *     piece += event.used, length -= event.used;
+ *     // event.kind says what was handed out: bj_respond, ..
+ *   } while (length > 0 || event.kind != BJ_NOTHING);
+ *   bj_release_all(&end);
+ *   do {
+ *     bj_pump(&end, &sent);
+ *     bj_ready(&end), bj_waiting(&end, &one, &two); // write some of both
+ *     bj_consume(&end, written, &taken);
+ *   } while (one.length + two.length > 0);
  */
 #ifndef BELKJOEF_H
 #define BELKJOEF_H
@@ -35,6 +52,13 @@
 
 #ifdef __cplusplus
 extern "C" {
+#endif
+
+/* Compilers report a null pointer that they see. */
+#if defined __GNUC__
+#define BJ_CALL __attribute__((__nonnull__))
+#else
+#define BJ_CALL
 #endif
 
 /* The version of this header, and of the library: 0x00MMmmpp. */
@@ -62,7 +86,7 @@ enum {
   /* Refusals of the connection. */
   BJ_CLOSED = -21,            /* it has failed */
   BJ_NO_SUCH_STREAM = -22,    /* the stream isn't active */
-  BJ_ENDED = -23,             /* this end has ended the stream */
+  BJ_ENDED = -23,             /* this end has ended the stream: of no function here */
   BJ_TOO_MANY_STREAMS = -24,  /* as many streams are active as the peer allows */
   BJ_STREAMS_EXHAUSTED = -25, /* no number is left for a stream */
   BJ_GOING_AWAY = -26,        /* a GOAWAY was sent, or read */
@@ -75,25 +99,25 @@ enum {
   BJ_SETTINGS_WAIT = -33,     /* settings await their acknowledgment */
 
   /* Rules that a message breaks, the first one of several. */
-  BJ_BAD_NAME = -41,
-  BJ_BAD_VALUE = -42,
-  BJ_PSEUDO_PLACE = -43,
-  BJ_PSEUDO_UNKNOWN = -44,
-  BJ_PSEUDO_TWICE = -45,
-  BJ_PSEUDO_MISSING = -46,
-  BJ_BAD_METHOD = -47,
-  BJ_BAD_PATH = -48,
-  BJ_BAD_STATUS = -49,
-  BJ_CONNECTION_FIELD = -50,
-  BJ_BAD_LENGTH = -51,
-  BJ_BAD_ORDER = -52,
+  BJ_BAD_NAME = -41,         /* a name is empty, or has an octet that no name has */
+  BJ_BAD_VALUE = -42,        /* a value has an octet that no value has, or a blank at an end */
+  BJ_PSEUDO_PLACE = -43,     /* a pseudo-field after a regular field, or in trailers */
+  BJ_PSEUDO_UNKNOWN = -44,   /* a pseudo-field that this kind of message does not have */
+  BJ_PSEUDO_TWICE = -45,     /* a pseudo-field stands twice */
+  BJ_PSEUDO_MISSING = -46,   /* a pseudo-field is missing */
+  BJ_BAD_METHOD = -47,       /* the method is no token, or CONNECT */
+  BJ_BAD_PATH = -48,         /* the path does not begin with a slash, nor is it '*' with OPTIONS */
+  BJ_BAD_STATUS = -49,       /* the status is not one that can be sent or read */
+  BJ_CONNECTION_FIELD = -50, /* a field that is specific to one connection */
+  BJ_BAD_LENGTH = -51,       /* a bad content-length, or a body of another length */
+  BJ_BAD_ORDER = -52,        /* the parts of a message that was read are out of order */
 
   BJ_NOT_ASKED = -61, /* the stream isn't active, or has no request, or no open message */
   BJ_ANSWERED = -62   /* the request has its answer, or one was begun */
 };
 
 /* Says the text of an error, which ends in an octet of zero and is never freed. */
-void bj_error_text(int error, const char **text);
+BJ_CALL void bj_error_text(int error, const char **text);
 
 /* ---- what is passed ---- */
 
@@ -154,24 +178,33 @@ typedef struct bj_event {
   uintptr_t user; /* what bj_set_user keeps beside the stream, or 0 */
 } bj_event;
 
-#define BJ_TEXT(text) ((const uint8_t *)("" text)), (sizeof(text) - 1)
+/* A place that holds nothing. */
+#define BJ_END_EMPTY {NULL, 0}
+
+/* Octets and fields of texts, and none: an address that is aligned, and is not read. */
+#ifdef __cplusplus
+#define BJ_AT(type, place) (reinterpret_cast<const type *>(place))
+#else
+#define BJ_AT(type, place) ((const type *)(place))
+#endif
+#define BJ_TEXT(text) BJ_AT(uint8_t, "" text), (sizeof(text) - 1)
 #define BJ_FIELD(name, value) {BJ_TEXT(name), BJ_TEXT(value), 0}
-#define BJ_NO_OCTETS ((const uint8_t *)""), 0
-#define BJ_NO_FIELDS ((const bj_field *)(const void *)""), 0
+#define BJ_NO_OCTETS BJ_AT(uint8_t, ""), 0
+#define BJ_NO_FIELDS BJ_AT(bj_field, sizeof(void *)), 0
 
 /* ---- making and freeing ---- */
 
 /* Writes the values with which a connection begins: 4,096, 65,535, 100 and 16,384. */
-void bj_config_default(bj_config *config);
+BJ_CALL void bj_config_default(bj_config *config);
 
 /* Makes a server, or a client, in a place that holds none. Its opening waits as output.
  * BJ_HELD: the place holds an end, and still does. BJ_TABLE_LIMIT, BJ_INITIAL_WINDOW,
  * BJ_MAX_STREAMS or BJ_MAX_FRAME: the value is out of its bounds. BJ_MEMORY. */
-int bj_server_new(const bj_config *config, bj_end *end);
-int bj_client_new(const bj_config *config, bj_end *end);
+BJ_CALL int bj_server_new(const bj_config *config, bj_end *end);
+BJ_CALL int bj_client_new(const bj_config *config, bj_end *end);
 
 /* Frees the end and all that it keeps, and the place holds none. */
-int bj_free(bj_end *end);
+BJ_CALL int bj_free(bj_end *end);
 
 /* ---- taking ---- */
 
@@ -182,135 +215,143 @@ int bj_free(bj_end *end);
  * or from the end, and the fields from the end.
  * BJ_FAILED: the connection fails, or has failed, with the code in event->code. A GOAWAY waits as
  * output, and then the transport is to be closed. With 2, INTERNAL_ERROR, an allocation was
- * refused. Members that an event does not name are 0, but for octets, which is the address that
- * was given, and user, which is of event->stream; after BJ_EMPTY all others are 0. */
-int bj_take(bj_end *end, const uint8_t *octets, size_t length, bj_event *event);
+ * refused, or bj_fail was given it: bj_why says which. Members that an event does not name are 0,
+ * but for octets, which is the address that was given, and user, which is of event->stream; after
+ * BJ_EMPTY all others are 0. */
+BJ_CALL int bj_take(bj_end *end, const uint8_t *octets, size_t length, bj_event *event);
 
 /* Says a field of the list that was handed out last, by its place: 0 is the first.
  * BJ_NO_FIELD: there are no more than so many. */
-int bj_field_at(bj_end *end, size_t place, bj_field *field);
+BJ_CALL int bj_field_at(bj_end *end, size_t place, bj_field *field);
 
 /* Says the fields of the list that was handed out last, from a place on, and how many were said:
  * as many as there are, and at most as there is room for. */
-int bj_fields(bj_end *end, size_t from, bj_field *fields, size_t room, size_t *count);
+BJ_CALL int bj_fields(bj_end *end, size_t from, bj_field *fields, size_t room, size_t *count);
 
 /* Says the value of the first field with this name, octet for octet.
  * BJ_NO_FIELD: there is none. */
-int bj_field_value(bj_end *end, const uint8_t *name, size_t name_length, const uint8_t **value,
-                   size_t *length);
+BJ_CALL int bj_field_value(bj_end *end, const uint8_t *name, size_t name_length,
+                           const uint8_t **value, size_t *length);
 
 /* ---- whole messages ---- */
 
 /* Gives a response to the request on a stream: its head, :status first, is sent, and its body
  * waits for bj_pump. The request need not be whole.
- * BJ_MEMORY, of the copies. BJ_ROLE, at a client. BJ_NOT_ASKED. BJ_ANSWERED. One of BJ_BAD_NAME to
+ * BJ_ROLE, at a client. BJ_MEMORY, of the copies. BJ_NOT_ASKED. BJ_ANSWERED. One of BJ_BAD_NAME to
  * BJ_BAD_LENGTH. BJ_CLOSED. BJ_OUTPUT_FULL. BJ_LIST_TOO_LARGE. BJ_MEMORY. */
-int bj_respond(bj_end *end, uint32_t stream, const bj_field *head, size_t head_count,
-               const uint8_t *body, size_t length);
+BJ_CALL int bj_respond(bj_end *end, uint32_t stream, const bj_field *head, size_t head_count,
+                       const uint8_t *body, size_t length);
 
 /* Gives a request, and says the stream on which it goes: 1, 3, 5 and so on. Its head, the four
  * pseudo-fields first, is sent, and its body waits for bj_pump.
- * BJ_MEMORY, of the copies. BJ_ROLE, at a server. One of BJ_BAD_NAME to BJ_BAD_LENGTH. BJ_CLOSED.
+ * BJ_ROLE, at a server. BJ_MEMORY, of the copies. One of BJ_BAD_NAME to BJ_BAD_LENGTH. BJ_CLOSED.
  * BJ_TOO_MANY_STREAMS. BJ_STREAMS_EXHAUSTED. BJ_GOING_AWAY. BJ_OUTPUT_FULL. BJ_LIST_TOO_LARGE.
  * BJ_MEMORY. */
-int bj_request(bj_end *end, const bj_field *head, size_t head_count, const uint8_t *body,
-               size_t length, uint32_t *stream);
+BJ_CALL int bj_request(bj_end *end, const bj_field *head, size_t head_count, const uint8_t *body,
+                       size_t length, uint32_t *stream);
 
 /* Sends what waits of bodies, lower streams first, each as far as its windows go, until nothing
  * more could go or 65,536 octets of output wait; says how many octets of bodies were sent.
- * BJ_CLOSED. BJ_MEMORY: what was sent stays sent, and *sent is 0. */
-int bj_pump(bj_end *end, size_t *sent);
+ * BJ_CLOSED. BJ_MEMORY: what was sent stays sent. */
+BJ_CALL int bj_pump(bj_end *end, size_t *sent);
 
 /* Sends a share of what waits on each stream, in turn, each at most `most` octets (0 counts as 1,
  * more than 65,536 as 65,536) and as far as its windows go, in one pass over the streams; says how
  * many octets of bodies were sent. Where a share is cut short, since 65,536 octets of output wait
  * or the connection's window is used up, the next pass begins with what is left of it. So no long
  * body keeps the others waiting.
- * BJ_CLOSED. BJ_MEMORY: what was sent stays sent, and *sent is 0. */
-int bj_pump_some(bj_end *end, size_t most, size_t *sent);
+ * BJ_CLOSED. BJ_MEMORY: what was sent stays sent. */
+BJ_CALL int bj_pump_some(bj_end *end, size_t most, size_t *sent);
 
 /* ---- messages in parts ---- */
 
 /* Begins a response, or a request on a new stream: sends the head, without END_STREAM. The body
- * and its end, or trailers, follow. Errors as of bj_respond and bj_request. */
-int bj_begin_response(bj_end *end, uint32_t stream, const bj_field *head, size_t head_count);
-int bj_begin_request(bj_end *end, const bj_field *head, size_t head_count, uint32_t *stream);
+ * and its end, or trailers, follow. Errors as of bj_respond and bj_request. The copies are kept
+ * for the next head, and only a name or a value that differs from the one in its place is copied:
+ * the same head again takes no memory for them. At most 64 fields are kept, of at most 8,192
+ * octets, where each field counts 32 more; of a greater list none. */
+BJ_CALL int bj_begin_response(bj_end *end, uint32_t stream, const bj_field *head,
+                              size_t head_count);
+BJ_CALL int bj_begin_request(bj_end *end, const bj_field *head, size_t head_count,
+                             uint32_t *stream);
 
 /* Sends octets of the body of a message that was begun, and its end with them where ends is set
  * and all are sent; says how many were: as many as windows let through, at most 65,536, which may
  * be none. No octet is kept: give the rest again, once output was written and bj_room is above 0.
  * BJ_NOT_ASKED. BJ_BAD_LENGTH: the body would be longer than its head says, or, with its end,
- * shorter. BJ_CLOSED. BJ_OUTPUT_FULL. BJ_MEMORY. *sent is 0 then. */
-int bj_send_body(bj_end *end, uint32_t stream, const uint8_t *octets, size_t length, bool ends,
-                 size_t *sent);
+ * shorter. BJ_CLOSED. BJ_OUTPUT_FULL. BJ_MEMORY. */
+BJ_CALL int bj_send_body(bj_end *end, uint32_t stream, const uint8_t *octets, size_t length,
+                         bool ends, size_t *sent);
 
-/* Sends trailers, which end the message. BJ_MEMORY, of the copies. BJ_NOT_ASKED. BJ_BAD_NAME,
- * BJ_BAD_VALUE, BJ_PSEUDO_PLACE, BJ_CONNECTION_FIELD or BJ_BAD_LENGTH. BJ_CLOSED. BJ_OUTPUT_FULL.
- * BJ_LIST_TOO_LARGE. BJ_MEMORY. */
-int bj_send_trailers(bj_end *end, uint32_t stream, const bj_field *trailers, size_t count);
+/* Sends trailers, which end the message. Their copies are kept for the next trailers, as those of
+ * a head are.
+ * BJ_MEMORY, of the copies. BJ_NOT_ASKED. BJ_BAD_NAME, BJ_BAD_VALUE, BJ_PSEUDO_PLACE,
+ * BJ_CONNECTION_FIELD or BJ_BAD_LENGTH. BJ_CLOSED. BJ_OUTPUT_FULL. BJ_LIST_TOO_LARGE.
+ * BJ_MEMORY. */
+BJ_CALL int bj_send_trailers(bj_end *end, uint32_t stream, const bj_field *trailers, size_t count);
 
 /* ---- the connection's calls ---- */
 
 /* Lets the peer send so many octets more on a stream, of those that were handed out.
- * BJ_CLOSED. BJ_NO_SUCH_STREAM. BJ_NOT_OWED. BJ_OUTPUT_FULL. BJ_MEMORY. */
-int bj_release(bj_end *end, uint32_t stream, uint32_t count);
+ * BJ_CLOSED. BJ_NO_SUCH_STREAM. BJ_OUTPUT_FULL. BJ_NOT_OWED. BJ_MEMORY. */
+BJ_CALL int bj_release(bj_end *end, uint32_t stream, uint32_t count);
 
 /* The same of all that is owed, on all streams. BJ_CLOSED. BJ_OUTPUT_FULL or BJ_MEMORY: what was
  * released stays released. Without one of the two the peer stops at its window. */
-int bj_release_all(bj_end *end);
+BJ_CALL int bj_release_all(bj_end *end);
 
 /* Resets a stream with an error code, and gives up what waits on it.
  * BJ_CLOSED. BJ_NO_SUCH_STREAM. BJ_OUTPUT_FULL. BJ_TOO_MANY_RESETS. BJ_MEMORY. */
-int bj_reset(bj_end *end, uint32_t stream, uint32_t code);
+BJ_CALL int bj_reset(bj_end *end, uint32_t stream, uint32_t code);
 
 /* Sends PING. BJ_CLOSED. BJ_OUTPUT_FULL. BJ_PING_WAITS. BJ_MEMORY. */
-int bj_ping(bj_end *end, const uint8_t octets[8]);
+BJ_CALL int bj_ping(bj_end *end, const uint8_t octets[8]);
 
-/* Sends GOAWAY: the peer opens no further streams. BJ_CLOSED. BJ_GOING_AWAY. BJ_OUTPUT_FULL.
- * BJ_MEMORY. */
-int bj_go_away(bj_end *end);
+/* Sends GOAWAY: the peer opens no further streams. BJ_CLOSED. BJ_GOING_AWAY: this end has sent
+ * one. BJ_OUTPUT_FULL. BJ_MEMORY. */
+BJ_CALL int bj_go_away(bj_end *end);
 
 /* Ends the connection with an error code (RFC 9113, section 7): a GOAWAY with it is the last frame
  * that waits. BJ_BAD_CODE: the number is above 13. BJ_CLOSED. */
-int bj_fail(bj_end *end, uint32_t code);
+BJ_CALL int bj_fail(bj_end *end, uint32_t code);
 
 /* Changes this end's settings. The first of those of a bj_config; BJ_CLOSED.
  * BJ_OUTPUT_FULL. BJ_SETTINGS_WAIT. BJ_MEMORY. */
-int bj_change_settings(bj_end *end, const bj_config *config);
+BJ_CALL int bj_change_settings(bj_end *end, const bj_config *config);
 
 /* ---- output ---- */
 
 /* Makes the output ready: call it before bj_waiting, so that nothing is missing there.
  * BJ_MEMORY. */
-int bj_ready(bj_end *end);
+BJ_CALL int bj_ready(bj_end *end);
 
 /* Lends the output that waits, in two parts, of which the first comes first; each may be empty. */
-int bj_waiting(bj_end *end, bj_span *first, bj_span *second);
+BJ_CALL int bj_waiting(bj_end *end, bj_span *first, bj_span *second);
 
 /* Takes octets of the output away, at most count of them, which were written; says how many.
  * BJ_MEMORY, but not after bj_ready with no other call in between that changes the end. */
-int bj_consume(bj_end *end, size_t count, size_t *taken);
+BJ_CALL int bj_consume(bj_end *end, size_t count, size_t *taken);
 
 /* Copies as many octets of the output as wait and there is room for, and takes them away; says how
- * many. BJ_MEMORY; *count is 0 then. */
-int bj_put_out(bj_end *end, uint8_t *buffer, size_t room, size_t *count);
+ * many. BJ_MEMORY. */
+BJ_CALL int bj_put_out(bj_end *end, uint8_t *buffer, size_t room, size_t *count);
 
 /* ---- readers: none of them takes memory ---- */
 
 /* Whether 65,536 octets of output or more wait, so that what writes a frame is refused. */
-int bj_is_full(bj_end *end);
+BJ_CALL int bj_is_full(bj_end *end);
 
 /* Whether no output waits, and no stream is active or the connection has failed. */
-int bj_is_drained(bj_end *end);
+BJ_CALL int bj_is_drained(bj_end *end);
 
 /* Whether the connection is up, no output waits, nothing is owed, and nothing could be sent. */
-int bj_is_quiet(bj_end *end);
+BJ_CALL int bj_is_quiet(bj_end *end);
 
-/* Whether a stream is active: open or half-closed. */
-int bj_is_active(bj_end *end, uint32_t stream);
+/* Whether a stream is active: open or half-closed. That does not end with the connection. */
+BJ_CALL int bj_is_active(bj_end *end, uint32_t stream);
 
 /* Says the error code with which the connection has failed. BJ_NONE: it has not. */
-int bj_failed(bj_end *end, uint32_t *code);
+BJ_CALL int bj_failed(bj_end *end, uint32_t *code);
 
 /* Why a connection has failed. */
 enum {
@@ -345,41 +386,67 @@ enum {
 
 /* Says why the connection has failed: one of the above; bj_failed says its code. BJ_NONE: it has
  * not. */
-int bj_why(bj_end *end, uint32_t *why);
+BJ_CALL int bj_why(bj_end *end, uint32_t *why);
 
 /* Says the text of such a reason, which ends in an octet of zero and is never freed. */
-void bj_why_text(uint32_t why, const char **text);
+BJ_CALL void bj_why_text(uint32_t why, const char **text);
 
 /* Says the stream of the part of a message that was refused last, and the rule that it breaks, one
  * of BJ_BAD_NAME to BJ_BAD_ORDER. BJ_NONE: none was. It stays after the connection has failed. */
-int bj_last_malformed(bj_end *end, uint32_t *stream, int *error);
+BJ_CALL int bj_last_malformed(bj_end *end, uint32_t *stream, int *error);
 
 /* Says how many octets the payload of the last DATA had, padding included, 0 before any: after
  * BJ_BODY what bj_release is given once they are used, where it is not 0 and the stream is active
  * still. */
-int bj_last_flow(bj_end *end, uint32_t *flow);
+BJ_CALL int bj_last_flow(bj_end *end, uint32_t *flow);
+
+/* Says how many RST_STREAM frames of the peer's were read, and 2^32 - 1 where it is more than
+ * that; one at fault is not among them. This end sets no limit on them: a caller may end the
+ * connection (bj_fail) where the peer opens streams and resets them at once. It works after a
+ * failure too. */
+BJ_CALL int bj_resets_received(bj_end *end, uint32_t *count);
+
+/* Says how many frames without octets of the peer's were read that say nothing: DATA, padded or
+ * not, without END_STREAM, and HEADERS and CONTINUATION without END_HEADERS; 2^32 - 1 where it is
+ * more than that. It works after a failure too. */
+BJ_CALL int bj_empty_frames_received(bj_end *end, uint32_t *count);
+
+/* Values of the peer's settings (RFC 9113, section 6.5.2). */
+typedef struct bj_settings {
+  uint32_t initial_window; /* octets of a new stream's window */
+  uint32_t max_frame;      /* octets of a payload that the peer reads */
+} bj_settings;
+
+/* Says the values of the peer's settings that are in force: those that were read last, and 65,535
+ * and 16,384 before. Once the connection has failed they are written too, and say nothing. */
+BJ_CALL int bj_peer_settings(bj_end *end, bj_settings *settings);
 
 /* Says how many octets may be sent on a stream, or on the connection, which is 0; below zero where
  * settings have shifted the window so. BJ_NONE: the stream isn't active, or it has failed. */
-int bj_room(bj_end *end, uint32_t stream, int64_t *room);
+BJ_CALL int bj_room(bj_end *end, uint32_t stream, int64_t *room);
 
-/* Says how many octets of a stream were handed out and are not released. */
-int bj_owed(bj_end *end, uint32_t stream, uint32_t *owed);
+/* Says how many octets of a stream were handed out and are not released: 0 once the connection has
+ * failed. */
+BJ_CALL int bj_owed(bj_end *end, uint32_t stream, uint32_t *owed);
 
-/* Says how many octets of the body that was given for a stream wait for bj_pump. */
-int bj_unsent(bj_end *end, uint32_t stream, size_t *unsent);
+/* Says how many octets of the body that was given for a stream wait for bj_pump; they do so still
+ * once the connection has failed. */
+BJ_CALL int bj_unsent(bj_end *end, uint32_t stream, size_t *unsent);
 
-/* Says the least active stream above a number. BJ_NONE: there is none. */
-int bj_next_live(bj_end *end, uint32_t above, uint32_t *stream);
+/* Says the least active stream above a number. BJ_NONE: there is none, or the connection has
+ * failed. */
+BJ_CALL int bj_next_live(bj_end *end, uint32_t above, uint32_t *stream);
 
 /* ---- numbers of the caller's ---- */
 
 /* Keeps a number beside a stream, as a pointer of the caller's; 0 forgets it. It stays until then,
- * or until the end is freed, also when the stream is over. BJ_MEMORY. */
-int bj_set_user(bj_end *end, uint32_t stream, uintptr_t user);
+ * or until the end is freed, also when the stream is over. The stream may be any number; what is
+ * kept beside 0 comes with events of no stream. No call says all numbers: what is to be freed when
+ * a connection fails is in a list of the caller's. BJ_MEMORY: the stream had no number. */
+BJ_CALL int bj_set_user(bj_end *end, uint32_t stream, uintptr_t user);
 
 /* Says the number beside a stream, or 0. */
-int bj_user(bj_end *end, uint32_t stream, uintptr_t *user);
+BJ_CALL int bj_user(bj_end *end, uint32_t stream, uintptr_t *user);
 
 #ifdef __cplusplus
 }

@@ -28,6 +28,16 @@ pub struct Config {
     pub max_frame: u32,
 }
 
+/// The values of the peer's settings that are in force (RFC 9113, section 6.5.2):
+/// [`End::peer_settings`](crate::End::peer_settings).
+#[derive(Clone, Copy, Debug, PartialEq, Eq, Hash)]
+pub struct PeerSettings {
+    /// Octets of a new stream's window.
+    pub initial_window: u32,
+    /// Octets of a payload that the peer reads.
+    pub max_frame: u32,
+}
+
 impl Config {
     pub(crate) fn raw(&self) -> ffi::Config {
         ffi::Config {

@@ -1,7 +1,7 @@
 //! An end of a connection: what a client and a server share.
 
 use crate::error::check;
-use crate::{ffi, Code, Config, Error, Event, Field, Fields, Rule, Taken, Why};
+use crate::{ffi, Code, Config, Error, Event, Field, Fields, PeerSettings, Rule, Taken, Why};
 use std::cell::UnsafeCell;
 use std::fmt;
 use std::io::{self, IoSlice, Write};
@@ -15,7 +15,8 @@ use std::ptr;
 ///
 /// It may be sent to another thread, and belongs to one at a time.
 pub struct End<Role> {
-    /// The place of the library. Readers write it too, and put back what was there.
+    /// The place of the library. Readers write it too, and put back what was there. It holds no
+    /// address of itself, so a move of the end moves it.
     place: UnsafeCell<ffi::End>,
     /// Room for the fields that are lent; they are used only while an event lends them.
     fields: Vec<Field<'static>>,
@@ -199,7 +200,7 @@ impl<Role> End<Role> {
         Ok(sent)
     }
 
-    /// Sends trailers, which end the message that was begun.
+    /// Sends trailers, which end the message that was begun. Copies are kept, as of a head.
     ///
     /// # Errors
     ///
@@ -215,7 +216,7 @@ impl<Role> End<Role> {
     ///
     /// # Errors
     ///
-    /// `Closed`. `NoSuchStream`. `NotOwed`. `OutputFull`. `Memory`.
+    /// `Closed`. `NoSuchStream`. `OutputFull`. `NotOwed`. `Memory`.
     pub fn release(&mut self, stream: u32, count: u32) -> Result<(), Error> {
         // SAFETY: the place is as the library has left it.
         check(unsafe { ffi::bj_release(self.place(), stream, count) })
@@ -256,7 +257,7 @@ impl<Role> End<Role> {
     ///
     /// # Errors
     ///
-    /// `Closed`. `GoingAway`. `OutputFull`. `Memory`.
+    /// `Closed`. `GoingAway`: this end has sent one. `OutputFull`. `Memory`.
     pub fn go_away(&mut self) -> Result<(), Error> {
         // SAFETY: the place is as the library has left it.
         check(unsafe { ffi::bj_go_away(self.place()) })
@@ -369,7 +370,7 @@ impl<Role> End<Role> {
         self.is(ffi::bj_is_quiet)
     }
 
-    /// Whether a stream is active: open or half-closed.
+    /// Whether a stream is active: open or half-closed. That does not end with the connection.
     pub fn is_active(&self, stream: u32) -> bool {
         // SAFETY: the place is as the library has left it.
         unsafe { ffi::bj_is_active(self.place(), stream) == 1 }
@@ -412,6 +413,36 @@ impl<Role> End<Role> {
         flow
     }
 
+    /// How many RST_STREAM frames of the peer's were read, and [`u32::MAX`] where it is more than
+    /// that; one at fault is not among them. An end sets no limit on them: a caller may
+    /// [end](End::fail) the connection where the peer opens streams and resets them at once.
+    pub fn resets_received(&self) -> u32 {
+        let mut count = 0;
+        // SAFETY: the pointers are of the place and of a number.
+        unsafe { ffi::bj_resets_received(self.place(), &mut count) };
+        count
+    }
+
+    /// How many frames without octets of the peer's were read that say nothing: DATA, padded or
+    /// not, without END_STREAM, and HEADERS and CONTINUATION without END_HEADERS; [`u32::MAX`]
+    /// where it is more than that.
+    pub fn empty_frames_received(&self) -> u32 {
+        let mut count = 0;
+        // SAFETY: the pointers are of the place and of a number.
+        unsafe { ffi::bj_empty_frames_received(self.place(), &mut count) };
+        count
+    }
+
+    /// The values of the peer's settings that are in force: those that were read last, and those of
+    /// the standard before. Once the connection has failed they say nothing.
+    pub fn peer_settings(&self) -> PeerSettings {
+        let mut settings = ffi::Settings { initial_window: 0, max_frame: 0 };
+        // SAFETY: the pointers are of the place and of a `bj_settings`.
+        unsafe { ffi::bj_peer_settings(self.place(), &mut settings) };
+        let ffi::Settings { initial_window, max_frame } = settings;
+        PeerSettings { initial_window, max_frame }
+    }
+
     /// How many octets may be sent on a stream, or on the connection, which is 0; below zero where
     /// settings have shifted the window so. `None`: the stream isn't active, or the connection has
     /// failed.
@@ -422,7 +453,8 @@ impl<Role> End<Role> {
         (answer == ffi::OK).then_some(room)
     }
 
-    /// How many octets of a stream were handed out and are not released.
+    /// How many octets of a stream were handed out and are not released: 0 once the connection has
+    /// failed.
     pub fn owed(&self, stream: u32) -> u32 {
         let mut owed = 0;
         // SAFETY: the pointers are of the place and of a number.
@@ -438,15 +470,17 @@ impl<Role> End<Role> {
         unsent
     }
 
-    /// The streams that are active, lowest first.
+    /// The streams that are active, lowest first; none once the connection has failed.
     pub fn live(&self) -> impl Iterator<Item = u32> + '_ {
         let mut above = 0;
         std::iter::from_fn(move || {
             let mut stream = 0;
             // SAFETY: the pointers are of the place and of a number.
             let answer = unsafe { ffi::bj_next_live(self.place(), above, &mut stream) };
-            above = stream;
-            (answer == ffi::OK).then_some(stream)
+            (answer == ffi::OK).then(|| {
+                above = stream;
+                stream
+            })
         })
     }
 

@@ -141,7 +141,11 @@ pub enum Error {
     /// A value of a `Config` is out of its bounds.
     BadConfig(BadConfig),
     /// The connection fails, or has failed, with this code. A GOAWAY waits as output: write it,
-    /// and close. INTERNAL_ERROR means that memory was refused.
+    /// and close. INTERNAL_ERROR means that memory was refused, or that [`End::fail`] was given it
+    /// ([`End::why`] says which).
+    ///
+    /// [`End::fail`]: crate::End::fail
+    /// [`End::why`]: crate::End::why
     Failed(Code),
     /// No error code has this number.
     BadCode,

@@ -15,6 +15,13 @@ pub(crate) struct Config {
     pub(crate) max_frame: u32,
 }
 
+/// `bj_settings`.
+#[repr(C)]
+pub(crate) struct Settings {
+    pub(crate) initial_window: u32,
+    pub(crate) max_frame: u32,
+}
+
 /// `bj_end`.
 #[repr(C)]
 pub(crate) struct End {
@@ -163,6 +170,9 @@ extern "C" {
     pub(crate) fn bj_why_text(why: u32, text: *mut *const c_char);
     pub(crate) fn bj_last_malformed(end: *mut End, stream: *mut u32, error: *mut c_int) -> c_int;
     pub(crate) fn bj_last_flow(end: *mut End, flow: *mut u32) -> c_int;
+    pub(crate) fn bj_resets_received(end: *mut End, count: *mut u32) -> c_int;
+    pub(crate) fn bj_empty_frames_received(end: *mut End, count: *mut u32) -> c_int;
+    pub(crate) fn bj_peer_settings(end: *mut End, settings: *mut Settings) -> c_int;
     pub(crate) fn bj_room(end: *mut End, stream: u32, room: *mut i64) -> c_int;
     pub(crate) fn bj_owed(end: *mut End, stream: u32, owed: *mut u32) -> c_int;
     pub(crate) fn bj_unsent(end: *mut End, stream: u32, unsent: *mut usize) -> c_int;

@@ -70,7 +70,7 @@ mod server;
 mod why;
 
 pub use client::{AsClient, Client};
-pub use config::Config;
+pub use config::{Config, PeerSettings};
 pub use end::End;
 pub use error::{BadConfig, Code, Error, Rule};
 pub use event::{Event, Taken};

@@ -86,6 +86,8 @@ impl Server {
     }
 
     /// Begins a response: sends its head, after which its body, and its end or trailers, follow.
+    /// Copies of the last head are kept, at most 64 fields of 8,192 octets, and only what differs
+    /// in its place is copied anew.
     ///
     /// # Errors
     ///

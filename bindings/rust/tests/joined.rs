@@ -1,6 +1,8 @@
 //! A client and a server that are joined in memory.
 
-use belkjoef::{BadConfig, Client, Code, Config, End, Error, Event, Field, Rule, Server, Why};
+use belkjoef::{
+    BadConfig, Client, Code, Config, End, Error, Event, Field, PeerSettings, Rule, Server, Why,
+};
 
 /// What an end has handed out, owned.
 #[derive(Debug, PartialEq)]
@@ -500,4 +502,72 @@ fn padding_counts_for_windows() {
     assert_eq!((server.last_flow(), server.owed(1)), (6, 6));
     server.release(1, 6).unwrap();
     assert_eq!(server.owed(1), 0);
+}
+
+#[test]
+fn resets_and_empty_frames_are_counted() {
+    let mut pair = Pair::new(&Config::default());
+    assert_eq!((pair.server.resets_received(), pair.server.empty_frames_received()), (0, 0));
+    for _ in 0..3 {
+        let id = pair.client.request(&fields(&POST), &[1; 10]).unwrap();
+        pair.client.reset(id, Code::CANCEL).unwrap();
+    }
+    pair.up();
+    assert_eq!(pair.server.resets_received(), 3);
+    let id = pair.client.begin(&fields(&POST)).unwrap();
+    pair.up();
+    give(&mut pair.server, &[0, 0, 0, 0, 0, 0, 0, 0, id as u8]).unwrap(); // DATA without octets
+    assert_eq!(pair.server.empty_frames_received(), 1);
+    pair.server.fail(Code::ENHANCE_YOUR_CALM).unwrap();
+    assert_eq!((pair.server.resets_received(), pair.server.empty_frames_received()), (3, 1));
+}
+
+#[test]
+fn the_settings_of_the_peer_are_said() {
+    let config = Config { initial_window: 70_000, max_frame: 20_000, ..Config::default() };
+    let mut client = Client::new(&Config::default()).unwrap();
+    let mut server = Server::new(&config).unwrap();
+    let first = PeerSettings { initial_window: 65_535, max_frame: 16_384 };
+    assert_eq!(client.peer_settings(), first);
+    carry(&mut server, &mut client);
+    let read = PeerSettings { initial_window: 70_000, max_frame: 20_000 };
+    assert_eq!(client.peer_settings(), read);
+    carry(&mut client, &mut server);
+    assert_eq!(server.peer_settings(), first);
+}
+
+#[test]
+fn heads_in_parts_are_those_that_were_given() {
+    let mut pair = Pair::new(&Config::default());
+    let long = "x".repeat(20_000);
+    let many: Vec<(String, String)> =
+        (0..100).map(|number| (format!("x-{number}"), format!("{}", number * 7))).collect();
+    let many = || many.iter().map(|(name, value)| (name.as_str(), value.as_str()));
+    let status = |rest: Vec<(&'static str, &'static str)>| {
+        let mut head = vec![(":status", "200")];
+        head.extend(rest);
+        head
+    };
+    let mut all = vec![(":status", "200")];
+    all.extend(many());
+    let lists: Vec<Vec<(&str, &str)>> = vec![
+        status(vec![("server", "one"), ("x-a", "1"), ("x-b", "")]),
+        status(vec![("server", "one"), ("x-a", "2")]),
+        status(vec![("server", "one"), ("x-a", "2")]),
+        vec![(":status", "404")],
+        all.clone(),
+        vec![(":status", "200"), ("x-long", &long)],
+        status(vec![("x-a", "1"), ("x-b", "22"), ("x-c", "333"), ("x-d", "4444")]),
+        all,
+        vec![(":status", "200"), ("x-long", "short")],
+    ];
+    for list in lists {
+        let id = pair.client.request(&fields(&GET), b"").unwrap();
+        pair.up();
+        pair.server.begin(id, &fields(&list)).unwrap();
+        pair.server.send_trailers(id, &fields(&list[1..])).unwrap();
+        let notes = pair.down();
+        let (head, trailers) = (owned(&list), owned(&list[1..]));
+        assert_eq!(notes, [Note::Head(id, head, false), Note::Trailers(id, trailers)]);
+    }
 }

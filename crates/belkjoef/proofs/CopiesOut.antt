@@ -1,5 +1,5 @@
 -- The output made ready, copied and taken away.
-use Rattle.std.proofs.Common.{◌≡◌, ◌∙◌, refl, sym, ap, subst, ℕ, ◌+◌, ◌-◌, List, ◌++◌, length}
+use Rattle.std.proofs.Common.{◌≡◌, ◌∙◌, refl, sym, ap, subst, ℕ, ◌+◌, List, ◌++◌, length}
 use Rattle.std.proofs.Common.{take, drop, arith, length-drop}
 use Rattle.std.specs.Prelude.{false, if◌then◌else◌, min, Result, Ok, Err, IsOk}
 use Rattle.std.proofs.lemmas.Bool.{false≢true}

@@ -1,4 +1,5 @@
 pub mod Bounds
+pub mod CopiedFields
 pub mod CopiedOctets
 pub mod CopiesOut
 pub mod LentFields

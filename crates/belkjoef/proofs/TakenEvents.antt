@@ -1,6 +1,6 @@
 -- The event of C's after a call of `take`.
 use Rattle.std.proofs.Common.{◌≡◌, ◌∙◌, refl, sym, ap, List, ℕ}
-use Rattle.std.specs.Prelude.{Option, None, Some, Ok, Err}
+use Rattle.std.specs.Prelude.{None, Some, Ok, Err}
 use Rattle.h2_frame.specs.Codes.{code_number}
 use Rattle.h2_conn.specs.declared.taken.ConnFault.{ConnFault}
 use Rattle.h2_ends.specs.declared.end.End.{End}

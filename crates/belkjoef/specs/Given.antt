@@ -1,5 +1,5 @@
 -- Fields and messages that C gives, and what is done with copies of them.
-use Rattle.std.specs.Prelude.{◌≡◌, ◌⊎◌, ◌<◌, ◌==◌, ℕ, ℤ, not, List, map as each, Option, None}
+use Rattle.std.specs.Prelude.{◌≡◌, ◌⊎◌, ◌<◌, ◌==◌, ℕ, ℤ, not, List, map as each, None}
 use Rattle.std.specs.Prelude.{Result, Ok, Err}
 use Rattle.h2_frame.specs.declared.code.Code.{Code}
 use Rattle.h2_frame.specs.Codes.{code_number}
@@ -81,8 +81,7 @@ abbrev pub PumpsPass : ℕ → End → Result ℕ EndRefusal → End → Type 0
 PumpsPass most old outcome new = EndPumpsSome old most outcome new
 
 -- Where the number is that of an error code this is done with it; a number above 13 is of none,
--- and
--- nothing has changed.
+-- and nothing has changed.
 -- rule: c (own) A call of C's is that of the end in its place
 abbrev pub WithCode : ℕ → ℤ → (Code → Held → Held → Type 0) → Held → Held → Type 0
 WithCode number answer Does old new =

@@ -1,8 +1,6 @@
 -- What a place holds.
 use Rattle.std.specs.Prelude.{◌≡◌, ℕ, List, Option, None, Some}
-use Rattle.std.specs.Map.{lookup}
-use Rattle.std.specs.Ordering.{nat_cmp}
-use Rattle.std.specs.BTreeMap.{is_at}
+use Rattle.h2_numbers.specs.Entries.{value_at}
 use Rattle.h2_spec_log.specs.declared.role.Role.{Role}
 use Rattle.h2_spec_log.specs.declared.role.Role.TheVariants as roles
 use Rattle.h2_ends.specs.declared.end.End.{End}
@@ -34,4 +32,4 @@ user_in None = 0
 user_in (Some user) = user
 
 abbrev pub user_at : List (ℕ × ℕ) → ℕ → ℕ
-user_at entries id = user_in (lookup (is_at (nat_cmp id)) entries)
+user_at entries id = user_in (value_at id entries)

@@ -16,8 +16,7 @@ pub record IsNewSide (role : Role) (values : Values) (side : Side) : Type 0 wher
   pub end : EndRepresents values (end_in side) (new_end_log role values)
 
 -- The place holds this end, without a number of C's beside any stream; or memory was refused, and
--- it
--- holds none.
+-- it holds none.
 abbrev pub PutsNew : Side → ℤ → Option Held → Type 0
 PutsNew side answer None = answer ≡ no_memory
 PutsNew side answer (Some made) =
@@ -31,8 +30,7 @@ HoldsNew role values answer (Some made) =
     (answer ≡ ok) × IsNewSide role values made.side × (made.users.entries ≡ [])
 
 -- Where a value is out of its bounds the answer is the number of the first one, and the place
--- holds
--- none.
+-- holds none.
 abbrev pub MakesWithin : Option BadConfig → Role → Values → ℤ → Option Held → Type 0
 MakesWithin (Some bad) role values answer new = (answer ≡ config_number bad) × (new ≡ None)
 MakesWithin None role values answer new = HoldsNew role values answer new

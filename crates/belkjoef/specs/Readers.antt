@@ -4,9 +4,12 @@ use Rattle.std.specs.Prelude.{option_map}
 use Rattle.h2_frame.specs.Codes.{code_number}
 use Rattle.h2_spec_log.specs.Acts.{Values}
 use Rattle.h2_spec_log.specs.CallRules.{reader_room, reader_owed}
+use Rattle.h2_spec_log.specs.Counted.{counted, empty_among, resets_among}
 use Rattle.h2_spec_log.specs.Limits.{full_output}
 use Rattle.h2_spec_log.specs.Log.{Log, waiting, active, reader_next_live}
 use Rattle.h2_spec_log.specs.LogView.{log_view}
+use Rattle.h2_spec_log.specs.Settings.{value_read}
+use Rattle.h2_spec_log.specs.Windows.{first_window}
 use Rattle.h2_conn.specs.Conn.{ConnRepresents}
 use Rattle.h2_conn.specs.Counts.{last_flow}
 use Rattle.h2_message.specs.declared.malformed.Malformed.{Malformed}
@@ -15,6 +18,7 @@ use Rattle.h2_ends.specs.Ends.{EndLog}
 use Rattle.h2_ends.specs.EndCalls.{unsent_on}
 use Rattle.h2_ends.specs.Quiet.{IsQuietEnd}
 use Rattle.h2_ends.specs.Represents.{EndRepresents}
+use Rattle.belkjoef.specs.declared.readers.BjSettings.{BjSettings}
 use Rattle.belkjoef.specs.Numbers.{rule_number}
 
 -- 1 for yes, 0 for no
@@ -74,3 +78,18 @@ malformed_number (id, rule) = (id, rule_number rule)
 abbrev pub SaysMalformed : End → Option (ℕ × ℤ) → Type 0
 SaysMalformed end said = (values : Values) (happened : EndLog) → EndRepresents values end happened
     → said ≡ option_map malformed_number happened.malformed
+
+abbrev pub resets_read : Log → ℕ
+resets_read log = counted (resets_among log.frames)
+
+abbrev pub empty_frames_read : Log → ℕ
+empty_frames_read log = counted (empty_among log.frames)
+
+-- Unless the connection has failed, these are the values of the peer's settings that were read
+-- last, and those of the standard before.
+-- rule: c (own) A reader says what the end in its place answers
+pub record SaysPeerSettings (end : End) (said : BjSettings) : Type 0 where
+  pub window : (values : Values) (log : Log) → ConnRepresents values end.conn log
+      → log.failed ≡ None → said.initial_window ≡ value_read 4 first_window log.received
+  pub frame : (values : Values) (log : Log) → ConnRepresents values end.conn log
+      → log.failed ≡ None → said.max_frame ≡ value_read 5 16384 log.received

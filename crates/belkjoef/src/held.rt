@@ -15,10 +15,11 @@ ghost use Rattle.belkjoef.specs.Given.{PumpsPass};
 ghost use Rattle.belkjoef.specs.Output.{OctetsWait, IsReadyOutput, OkIfReady};
 ghost use Rattle.belkjoef.specs.WhyNumbers.{SaysWhy};
 
+use crate::kept::KeptFields;
 use crate::numbers::{of_rule, of_why};
+use crate::users::Users;
 use h2_conn::Conn;
 use h2_ends::{Client, Code, Config, EndRefusal, Refusal, Server};
-use std::collections::BTreeMap;
 
 /// A client or a server.
 #[derive(Drop)]
@@ -35,7 +36,11 @@ pub struct Held {
     /// The end.
     pub(crate) side: Side,
     /// The numbers of C's, by stream.
-    pub(crate) users: BTreeMap<u32, usize>,
+    pub(crate) users: Users,
+    /// Copies of the head that was sent last in parts.
+    pub(crate) heads: KeptFields,
+    /// Copies of the trailers that were sent last.
+    pub(crate) trailers: KeptFields,
 }
 
 impl Side {
@@ -241,10 +246,7 @@ impl Held {
     pub(crate) fn user_of(&self, id: u32) -> usize
         ensures { result ≡ user_at self.now.users.entries id }
     {
-        match self.users.get(&id) {
-            Some(user) => *user,
-            None => 0,
-        }
+        self.users.of(id)
     }
 
     /// How many octets of the body that was given for a stream wait.

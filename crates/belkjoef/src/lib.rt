@@ -14,6 +14,7 @@ mod control;
 mod event;
 mod fields;
 mod held;
+mod kept;
 mod loose;
 mod making;
 mod numbers;
@@ -37,8 +38,9 @@ pub use output::{BjSpan, bj_consume, bj_put_out, bj_ready, bj_waiting};
 pub use parts::{bj_begin_request, bj_begin_response, bj_send_body, bj_send_trailers};
 pub use place::BjEnd;
 pub use readers::{
-    bj_failed, bj_is_active, bj_is_drained, bj_is_full, bj_is_quiet, bj_last_flow,
-    bj_last_malformed, bj_next_live, bj_owed, bj_room, bj_unsent, bj_why,
+    BjSettings, bj_empty_frames_received, bj_failed, bj_is_active, bj_is_drained, bj_is_full,
+    bj_is_quiet, bj_last_flow, bj_last_malformed, bj_next_live, bj_owed, bj_peer_settings,
+    bj_resets_received, bj_room, bj_unsent, bj_why,
 };
 pub use sending::{bj_pump, bj_pump_some, bj_request, bj_respond};
 pub use taking::bj_take;

@@ -9,11 +9,12 @@ ghost use Rattle.belkjoef.specs.Making.{IsNewSide, MakesEnd, PutsNew};
 
 use crate::config::BjConfig;
 use crate::held::{Held, Side};
+use crate::kept::KeptFields;
 use crate::numbers::{EMPTY, HELD, MEMORY, OK, of_config};
 use crate::place::BjEnd;
+use crate::users::Users;
 use h2_ends::{Client, Config, Server};
 use std::alloc::Global;
-use std::collections::BTreeMap;
 
 // contract: c (own) A new end is made in an empty place, of values within bounds
 // rule: c (own) A new end is made in an empty place, of values within bounds
@@ -95,8 +96,13 @@ fn make(alloc: Global, side: Side, end: &mut BjEnd) -> i32
     requires { end.old.held ≡ None }
     ensures { PutsNew side result end.new.held }
 {
-    let users = BTreeMap::new(alloc);
-    match Box::new(alloc, Held { side, users }) {
+    let held = Held {
+        side,
+        users: Users::new(alloc),
+        heads: KeptFields::new(alloc),
+        trailers: KeptFields::new(alloc),
+    };
+    match Box::new(alloc, held) {
         Ok(held) => {
             end.keep(held);
             OK

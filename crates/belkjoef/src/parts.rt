@@ -7,8 +7,9 @@ ghost use Rattle.belkjoef.specs.Given.{BeginsAnswerWith, BeginsWith, TrailsWith}
 ghost use Rattle.belkjoef.specs.Helds.{held_end, KeepsAllElse};
 ghost use Rattle.belkjoef.specs.Numbers.{end_answer_number, count_in, ok};
 
-use crate::fields::{BjField, copies};
+use crate::fields::BjField;
 use crate::held::{Held, Side};
+use crate::kept::recopy;
 use crate::numbers::{EMPTY, MEMORY, OK, ROLE, of_end_answer, of_end_count, of_end_refusal};
 use crate::place::BjEnd;
 use h2_ends::{EndRefusal, Field};
@@ -23,7 +24,7 @@ pub extern "C" fn bj_begin_response(
     stream: u32,
     head: &[BjField<'_>],
 ) -> i32
-    ensures { OnPlace result (Copies result (AtServer result (Answers end_answer_number
+    ensures { OnPlace result (AtServer result (Copies result (Answers end_answer_number
         (BeginsAnswerWith stream (fields_given head.now)) result)))
         end.old.held end.new.held }
 {
@@ -44,7 +45,7 @@ pub extern "C" fn bj_begin_request(
     head: &[BjField<'_>],
     stream: &mut u32,
 ) -> i32
-    ensures call { OnPlace result (Copies result (AtClient result (AnswersWith end_answer_number
+    ensures call { OnPlace result (AtClient result (Copies result (AnswersWith end_answer_number
         (stream_or stream.old) (BeginsWith (fields_given head.now)) result stream.new)))
         end.old.held end.new.held }
     ensures refused { result ≢ ok → stream.new ≡ stream.old }
@@ -104,13 +105,33 @@ pub extern "C" fn bj_send_trailers(
 }
 
 impl Held {
-    /// Begins a response with copies.
+    /// Begins a response, at a server.
     fn begin_response_with(&mut self, alloc: Global, stream: u32, head: &[BjField<'_>]) -> i32
+        ensures { AtServer result (Copies result (Answers end_answer_number
+            (BeginsAnswerWith stream (fields_given head.now)) result)) self.old self.new }
+    {
+        if let Side::Client(_) = &self.side {
+            return ROLE;
+        }
+        let mut copies = self.heads.take(alloc);
+        let answer = self.begin_response_copied(alloc, stream, head, &mut copies);
+        self.heads.keep(copies);
+        answer
+    }
+
+    /// Begins a response with copies.
+    fn begin_response_copied(
+        &mut self,
+        alloc: Global,
+        stream: u32,
+        head: &[BjField<'_>],
+        copies: &mut Vec<Field>,
+    ) -> i32
         ensures { Copies result (AtServer result (Answers end_answer_number
             (BeginsAnswerWith stream (fields_given head.now)) result)) self.old self.new }
     {
-        match copies(alloc, head) {
-            Ok(head) => self.begin_response(stream, &head),
+        match recopy(alloc, head, copies) {
+            Ok(()) => self.begin_response(stream, copies),
             Err(_) => MEMORY,
         }
     }
@@ -126,15 +147,37 @@ impl Held {
         }
     }
 
-    /// Begins a request with copies, and says the stream.
+    /// Begins a request, at a client, and says the stream.
     fn begin_request_with(&mut self, alloc: Global, head: &[BjField<'_>], stream: &mut u32) -> i32
+        ensures call { AtClient result (Copies result (AnswersWith end_answer_number
+            (stream_or stream.old) (BeginsWith (fields_given head.now)) result stream.new))
+            self.old self.new }
+        ensures refused { result ≢ ok → stream.new ≡ stream.old }
+    {
+        if let Side::Server(_) = &self.side {
+            return ROLE;
+        }
+        let mut copies = self.heads.take(alloc);
+        let answer = self.begin_request_copied(alloc, head, stream, &mut copies);
+        self.heads.keep(copies);
+        answer
+    }
+
+    /// Begins a request with copies, and says the stream.
+    fn begin_request_copied(
+        &mut self,
+        alloc: Global,
+        head: &[BjField<'_>],
+        stream: &mut u32,
+        copies: &mut Vec<Field>,
+    ) -> i32
         ensures call { Copies result (AtClient result (AnswersWith end_answer_number
             (stream_or stream.old) (BeginsWith (fields_given head.now)) result stream.new))
             self.old self.new }
         ensures refused { result ≢ ok → stream.new ≡ stream.old }
     {
-        match copies(alloc, head) {
-            Ok(head) => self.begin_request(&head, stream),
+        match recopy(alloc, head, copies) {
+            Ok(()) => self.begin_request(copies, stream),
             Err(_) => MEMORY,
         }
     }
@@ -157,13 +200,30 @@ impl Held {
         }
     }
 
-    /// Sends copies of trailers.
+    /// Sends trailers that C gives.
     fn send_trailers_with(&mut self, alloc: Global, stream: u32, trailers: &[BjField<'_>]) -> i32
         ensures { Copies result (Answers end_answer_number
             (TrailsWith stream (fields_given trailers.now)) result) self.old self.new }
     {
-        match copies(alloc, trailers) {
-            Ok(trailers) => of_end_answer(self.send_trailers(stream, &trailers)),
+        let mut copies = self.trailers.take(alloc);
+        let answer = self.send_trailers_copied(alloc, stream, trailers, &mut copies);
+        self.trailers.keep(copies);
+        answer
+    }
+
+    /// Sends copies of trailers.
+    fn send_trailers_copied(
+        &mut self,
+        alloc: Global,
+        stream: u32,
+        trailers: &[BjField<'_>],
+        copies: &mut Vec<Field>,
+    ) -> i32
+        ensures { Copies result (Answers end_answer_number
+            (TrailsWith stream (fields_given trailers.now)) result) self.old self.new }
+    {
+        match recopy(alloc, trailers, copies) {
+            Ok(()) => of_end_answer(self.send_trailers(stream, copies)),
             Err(_) => MEMORY,
         }
     }

@@ -13,8 +13,12 @@ use crate::loose::Loose;
 use std::alloc::Global;
 use std::marker::Model;
 
-/// `bj_end`: a place of C's that holds an end, or nothing where its state is 0, as C makes it. It
-/// owns the end, which lies on the heap.
+/// The state of a place that holds an end: "belkjoef" in ASCII. Memory that was never set has it by
+/// chance alone.
+const HOLDS_ONE: u64 = 0x6265_6c6b_6a6f_6566;
+
+/// `bj_end`: a place of C's that holds an end, or nothing where its state is another number, as the
+/// 0 of a new one. It owns the end, which lies on the heap.
 #[repr(C)]
 pub struct BjEnd {
     at: *mut u8,
@@ -32,7 +36,7 @@ impl BjEnd {
         ensures value { result ≡ is_some self.old.held }
         ensures same { self.new ≡ self.old }
     {
-        self.state != 0
+        self.state == HOLDS_ONE
     }
 
     /// Puts an end here, where there is none.
@@ -42,7 +46,7 @@ impl BjEnd {
     {
         let Loose { at, alloc: _ } = loose;
         self.at = at as *mut u8;
-        self.state = 1;
+        self.state = HOLDS_ONE;
     }
 
     /// Takes the end that is here.

@@ -5,6 +5,7 @@ ghost use Rattle.belkjoef.specs.Calls.{OnPlace, AnswersOfEnd, FindsInEnd, SaysOf
 ghost use Rattle.belkjoef.specs.Readers.{truth, AnswersLog, IsFull, IsDrained, AnswersQuiet};
 ghost use Rattle.belkjoef.specs.Readers.{SaysLog, room_on, owed_at, next_above, failed_with};
 ghost use Rattle.belkjoef.specs.Readers.{active_on, SaysUnsent, SaysMalformed, flow_of_data};
+ghost use Rattle.belkjoef.specs.Readers.{resets_read, empty_frames_read, SaysPeerSettings};
 ghost use Rattle.belkjoef.specs.WhyNumbers.{SaysWhy};
 
 use crate::numbers::{EMPTY, NONE, OK};
@@ -252,4 +253,68 @@ pub extern "C" fn bj_last_malformed(
     };
     end.keep(held);
     answer
+}
+
+// contract: c (own) A reader says what the end in its place answers
+// rule: c (own) A reader says what the end in its place answers
+/// Says how many RST_STREAM frames of the peer's were read.
+#[unsafe(no_mangle)]
+pub extern "C" fn bj_resets_received(alloc: Global, end: &mut BjEnd, count: &mut u32) -> i32
+    ensures call { OnPlace result (SaysOfEnd (SaysLog resets_read) result count.new)
+        end.old.held end.new.held }
+    ensures unheld { end.old.held ≡ None → count.new ≡ count.old }
+{
+    let Some(held) = end.open(alloc) else {
+        return EMPTY;
+    };
+    *count = held.side.conn().resets_received();
+    end.keep(held);
+    OK
+}
+
+// contract: c (own) A reader says what the end in its place answers
+// rule: c (own) A reader says what the end in its place answers
+/// Says how many frames without octets of the peer's were read that say nothing.
+#[unsafe(no_mangle)]
+pub extern "C" fn bj_empty_frames_received(alloc: Global, end: &mut BjEnd, count: &mut u32) -> i32
+    ensures call { OnPlace result (SaysOfEnd (SaysLog empty_frames_read) result count.new)
+        end.old.held end.new.held }
+    ensures unheld { end.old.held ≡ None → count.new ≡ count.old }
+{
+    let Some(held) = end.open(alloc) else {
+        return EMPTY;
+    };
+    *count = held.side.conn().empty_frames_received();
+    end.keep(held);
+    OK
+}
+
+/// `bj_settings`: the values of the peer's settings that are in force (RFC 9113, section
+/// 6.5.2).
+#[repr(C)]
+#[derive(Drop)]
+pub struct BjSettings {
+    /// The octets of a new stream's window.
+    pub initial_window: u32,
+    /// The most octets of a payload that the peer reads.
+    pub max_frame: u32,
+}
+
+// contract: c (own) A reader says what the end in its place answers
+// rule: c (own) A reader says what the end in its place answers
+/// Says the values of the peer's settings that are in force.
+#[unsafe(no_mangle)]
+pub extern "C" fn bj_peer_settings(alloc: Global, end: &mut BjEnd, settings: &mut BjSettings) -> i32
+    ensures call { OnPlace result (SaysOfEnd SaysPeerSettings result settings.new)
+        end.old.held end.new.held }
+    ensures unheld { end.old.held ≡ None → settings.new ≡ settings.old }
+{
+    let Some(held) = end.open(alloc) else {
+        return EMPTY;
+    };
+    let peer = held.side.conn().peer_settings();
+    settings.initial_window = peer.initial_window_size;
+    settings.max_frame = peer.max_frame_size;
+    end.keep(held);
+    OK
 }

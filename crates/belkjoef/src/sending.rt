@@ -37,7 +37,7 @@ pub extern "C" fn bj_respond(
     head: &[BjField<'_>],
     body: &[u8],
 ) -> i32
-    ensures { OnPlace result (Copies result (AtServer result (Answers reply_number
+    ensures { OnPlace result (AtServer result (Copies result (Answers reply_number
         (RespondsWith stream (message_given head.now body.now)) result)))
         end.old.held end.new.held }
 {
@@ -59,7 +59,7 @@ pub extern "C" fn bj_request(
     body: &[u8],
     stream: &mut u32,
 ) -> i32
-    ensures call { OnPlace result (Copies result (AtClient result (AnswersWith reply_number
+    ensures call { OnPlace result (AtClient result (Copies result (AnswersWith reply_number
         (stream_or stream.old) (RequestsWith (message_given head.now body.now)) result
         stream.new))) end.old.held end.new.held }
     ensures refused { result ≢ ok → stream.new ≡ stream.old }
@@ -73,8 +73,25 @@ pub extern "C" fn bj_request(
 }
 
 impl Held {
-    /// Responds with copies.
+    /// Responds, at a server.
     fn respond_with(&mut self, alloc: Global, stream: u32, head: &[BjField<'_>], body: &[u8]) -> i32
+        ensures { AtServer result (Copies result (Answers reply_number
+            (RespondsWith stream (message_given head.now body.now)) result)) self.old self.new }
+    {
+        if let Side::Client(_) = &self.side {
+            return ROLE;
+        }
+        self.respond_copied(alloc, stream, head, body)
+    }
+
+    /// Responds with copies.
+    fn respond_copied(
+        &mut self,
+        alloc: Global,
+        stream: u32,
+        head: &[BjField<'_>],
+        body: &[u8],
+    ) -> i32
         ensures { Copies result (AtServer result (Answers reply_number
             (RespondsWith stream (message_given head.now body.now)) result)) self.old self.new }
     {
@@ -96,8 +113,27 @@ impl Held {
         }
     }
 
-    /// Requests with copies, and says the stream.
+    /// Requests, at a client, and says the stream.
     fn request_with(
+        &mut self,
+        alloc: Global,
+        head: &[BjField<'_>],
+        body: &[u8],
+        stream: &mut u32,
+    ) -> i32
+        ensures call { AtClient result (Copies result (AnswersWith reply_number
+            (stream_or stream.old) (RequestsWith (message_given head.now body.now)) result
+            stream.new)) self.old self.new }
+        ensures refused { result ≢ ok → stream.new ≡ stream.old }
+    {
+        if let Side::Server(_) = &self.side {
+            return ROLE;
+        }
+        self.request_copied(alloc, head, body, stream)
+    }
+
+    /// Requests with copies, and says the stream.
+    fn request_copied(
         &mut self,
         alloc: Global,
         head: &[BjField<'_>],

@@ -1,13 +1,89 @@
 //! Numbers that C keeps beside streams.
 
-ghost use Rattle.std.specs.Prelude.{◌≡◌, None};
+ghost use Rattle.std.specs.Prelude.{◌≡◌, [], None, Some, OnOk, OnErr};
+ghost use Rattle.h2_numbers.specs.Entries.{SetsValue, value_at};
 ghost use Rattle.belkjoef.specs.Calls.{OnPlace};
+ghost use Rattle.belkjoef.specs.Helds.{user_at};
 ghost use Rattle.belkjoef.specs.Users.{SetsUser, SaysUser};
 
 use crate::held::Held;
 use crate::numbers::{EMPTY, MEMORY, OK};
 use crate::place::BjEnd;
-use std::alloc::Global;
+use h2_numbers::NumberMap;
+use std::alloc::{AllocError, Global};
+use std::marker::Model;
+
+/// The numbers of C's, by stream.
+#[derive(Drop)]
+pub(crate) struct Users {
+    /// The numbers.
+    kept: NumberMap<usize>,
+    /// Whether there may be any. Where there is none, none is looked for.
+    any: bool,
+}
+
+impl Model for Users {
+    ghost use Rattle.std.specs.Prelude.{◌≡◌, ℕ, false, None};
+    ghost use Rattle.std.specs.Coded.{coded_ℕ};
+    ghost use Rattle.h2_numbers.specs.Entries.{NumberEntries, entries_code, value_at};
+
+    ghost Value = { NumberEntries ℕ };
+
+    ghost coded = { entries_code coded_ℕ };
+
+    ghost view = { λ users. users.kept };
+
+    ghost invariant = { λ users. users.any ≡ false
+        → (id : ℕ) → value_at id users.kept.entries ≡ None };
+}
+
+impl Users {
+    /// No number beside any stream. It takes no memory.
+    pub(crate) fn new(alloc: Global) -> Users
+        ensures { result.entries ≡ [] }
+    {
+        Users {
+            kept: NumberMap::new(alloc),
+            any: false,
+        }
+    }
+
+    /// The number beside a stream; 0 where there is none. It takes no memory.
+    pub(crate) fn of(&self, id: u32) -> usize
+        ensures { result ≡ user_at self.now.entries id }
+    {
+        if !self.any {
+            return 0;
+        }
+        match self.kept.get(id) {
+            Some(user) => *user,
+            None => 0,
+        }
+    }
+
+    // rule: c (own) A number of C's stays beside its stream until it is forgotten
+    /// Keeps a number beside a stream. Only for a stream that has none it takes memory.
+    fn set(&mut self, id: u32, user: usize) -> Result<(), AllocError>
+        ensures updates { OnOk result (SetsValue id (Some user) self.old.entries
+            self.new.entries) }
+        ensures err { OnErr result ((value_at id self.old.entries ≡ None)
+            × (self.new.entries ≡ self.old.entries)) }
+    {
+        self.any = true;
+        if let Some(kept) = self.kept.get_mut(id) {
+            *kept = user;
+            return Ok(());
+        }
+        self.kept.insert(id, user)
+    }
+
+    /// Forgets the number beside a stream. It takes no memory.
+    fn forget(&mut self, id: u32)
+        ensures { SetsValue id None self.old.entries self.new.entries }
+    {
+        self.kept.remove(id);
+    }
+}
 
 // contract: c (own) A number of C's stays beside its stream until it is forgotten
 // rule: c (own) A number of C's stays beside its stream until it is forgotten
@@ -30,11 +106,11 @@ impl Held {
         ensures { SetsUser stream user result self.old self.new }
     {
         if user == 0 {
-            self.users.remove(&stream);
+            self.users.forget(stream);
             return OK;
         }
-        match self.users.insert(stream, user) {
-            Ok(_) => OK,
+        match self.users.set(stream, user) {
+            Ok(()) => OK,
             Err(_) => MEMORY,
         }
     }

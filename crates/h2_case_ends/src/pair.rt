@@ -17,6 +17,9 @@
 //!   and `trailers SIDE ID FIELDS`: acts of a message that is given in parts. Fields are written as
 //!   the head of a message; there may be no octets.
 //! - `settle`: both ends pump, release, move and deliver all, until they are quiet.
+//! - `rounds MOST`: the library drives both until they are quiet, by so many rounds at most: how
+//!   many it has made, what has stopped it (`without memory`, `client failed` or
+//!   `server failed`), and `quiet` where both are.
 //! - `quiet`: whether they are. `waits SIDE`: the number of octets of an end's queued output.
 //!   `pipes SIDE`: the number of octets on its pipe, and `piped SIDE`: those octets, as frames.
 //! - `room SIDE ID`: the number of octets that an end may send on a stream, or on the connection

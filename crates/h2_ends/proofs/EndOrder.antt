@@ -1,13 +1,13 @@
--- What was sent and handed out at an end keeps the order, after each call that sends what waits and
--- each call of `take`.
+-- What was sent and handed out at an end keeps the order, after each call that sends what waits
+-- and each call of `take`.
 use Rattle.h2_ends.proofs.Names
 use Names.{◌≡◌, ◌≢◌, ℕ, ◌==◌, ◌&&◌, Bool, true, false, List, [], ◌∷◌, ◌++◌, length, take, drop}
 use Names.{Option, Some, None, inl, inr, refl, sym, ap, ◌∙◌, append_assoc, append-nil}
-use Names.{drop-append_seam, and_parts, cases_eq, eqb-true, Field, Refusal, Act, Answer, SendFields}
-use Names.{SendData, Refuse, Count, Done, Refused, Event, FieldsEvent, DataEvent, ResetEvent, Log}
-use Names.{MayAnswer, with_call, IsOver, is_number_used, TakeAnswer, MayTake, Took, Failed}
-use Names.{fields_in_use, data_in_use, log_after_take, Said, Part, FieldsPart, OctetsPart}
-use Names.{Token, OctetToken, EndToken, tokens_of_call, tokens_of_event, tokens_heard}
+use Names.{drop-append_seam, and_parts, cases_eq, eqb-true, Field, Refusal, Act, Answer}
+use Names.{SendFields, SendData, Refuse, Count, Done, Refused, Event, FieldsEvent, DataEvent}
+use Names.{ResetEvent, Log, MayAnswer, with_call, IsOver, is_number_used, TakeAnswer, MayTake}
+use Names.{Took, Failed, fields_in_use, data_in_use, log_after_take, Said, Part, FieldsPart}
+use Names.{OctetsPart, Token, OctetToken, EndToken, tokens_of_call, tokens_of_event, tokens_heard}
 use Names.{trailers_tokens, IsPrefixOfTokens, EndLog, Passed, EndAnswer, parts_on, reads_on}
 use Names.{handed_as, tokens_of_part, tokens_handed, tokens_out, said_for, tokens_waiting}
 use Names.{IsReadableWith, end_with_log, end_with_handed, hands_nothing, passes, hands_out}
@@ -349,7 +349,8 @@ order_by_take end piece answer after is
     rw same (order_named _ _ (order_reset end (with_call log (Refuse id 1) refused) id
     (order_refused end piece count event log may is id part of 1 refused may_refuse)))
 order_by_take end piece answer after is
-    (refusal_fails count event log may id part of stops refused may_refuse code down answers same) =
+    (refusal_fails count event log may id part of stops refused may_refuse code down answers
+    same) =
     rw same (order_named _ _
     (order_refused end piece count event log may is id part of 1 refused may_refuse))
 order_by_take end piece answer after is

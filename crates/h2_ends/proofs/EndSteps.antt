@@ -353,7 +353,8 @@ pub handed_on : (values : Values) (end new : End) (happened : EndLog) (id : ℕ)
     → new.conn ≡ end.conn → new.role ≡ end.role
     → RepresentsMessages values new (end_with_handed happened happened.log
     (handed_as (reads_on happened id) (parts_on id happened.handed) id part))
-handed_on values end new happened id part stream is keeps_one was follows outgoing keeps conn role =
+handed_on values end new happened id part stream is keeps_one was follows outgoing keeps conn
+    role =
     let reads = reads_on happened id in
     let parts = parts_on id happened.handed in
     let handed = handed_as reads parts id part in

@@ -34,7 +34,7 @@ pub mod PartBegins
 mod PartLengths
 pub mod PartSends
 mod PartAnswers
-mod Unsent
+pub mod Unsent
 mod PumpCalls
 mod PumpSends
 mod SendingRelease
@@ -42,8 +42,10 @@ mod SendingBody
 mod SendingStreams
 mod SendingPump
 mod ShareSteps
+mod ShareTrailers
 mod ShareCases
 mod ShareIdle
+mod PassBegins
 mod PassSteps
 mod PassEnds
 mod TurnOrder
@@ -55,6 +57,7 @@ mod QuietSends
 mod QuietEnds
 pub mod ReadableParts
 pub mod SoundParts
+mod LentStreams
 pub mod MessageTokensPlaced
 pub mod MessageTokensSaid
 pub mod EndOrder

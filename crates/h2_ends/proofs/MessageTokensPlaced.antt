@@ -1,5 +1,5 @@
--- What is handed out on a stream, part by part, is what its place says: interim heads, the head and
--- trailers.
+-- What is handed out on a stream, part by part, is what its place says: interim heads, the head
+-- and trailers.
 use Rattle.h2_ends.proofs.Names
 use Names.{◌≡◌, ◌≢◌, ℕ, ◌==◌, ◌-◌, Bool, true, false, List, [], if◌then◌else◌, ◌∷◌, ◌++◌, length}
 use Names.{Option, None, Some, refl, sym, ap, ◌∙◌, append-nil, append_assoc, eq-eqb, ne_eqb, Field}
@@ -14,8 +14,8 @@ use Rattle.std.proofs.Common.{map as each}
 use Rattle.std.specs.Prelude.{nat_lt, is_some, not, ◌||◌}
 use Rattle.h2_message.specs.declared.reading.Place.TheVariants as places
 
--- what a list of fields is, by whether a final head has come before it, and by whether requests are
--- read
+-- what a list of fields is, by whether a final head has come before it, and by whether requests
+-- are read
 abbrev pub place_where : (begun server : Bool) → List Field → Place
 place_where true server list = places.Trailers
 place_where false true list = places.Head
@@ -129,8 +129,8 @@ part_begins (Responses to_head) AtHead next (FieldsPart list, end) is =
     (begun_by_final (Responses to_head) list end next) is
 part_begins reads AtHead next (OctetsPart octets, end) is = cc
 part_begins reads (InBody left) next (FieldsPart list, end) is =
-    let last = passed_test (not end || is_short left || is_some (first_broken (trailer_rules list)))
-    (Some AtEnd) next is in
+    let last = passed_test (not end || is_short left
+    || is_some (first_broken (trailer_rules list))) (Some AtEnd) next is in
     let same : AtEnd ≡ next = cc in rw (← same) refl
 part_begins reads (InBody left) next (OctetsPart octets, end) is =
     sym (begun_by_data left (length octets) end next is)

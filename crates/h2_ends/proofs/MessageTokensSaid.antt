@@ -1,12 +1,12 @@
 -- Where the tokens that have come are a prefix of a message's, so are its parts: what each part is
 -- follows from the tokens, since the first list is the head and a later one the trailers.
-use Rattle.h2_ends.proofs.Names.{◌≡◌, ℕ, Bool, true, false, List, [], ◌∷◌, ◌++◌, Option, None, Some}
-use Rattle.h2_ends.proofs.Names.{refl, sym, ap, ◌∙◌, subst, Field, SentMessage, Said, Form, AtOnce}
-use Rattle.h2_ends.proofs.Names.{Begun, Ended, given_end, first_broken}
-use Rattle.h2_ends.proofs.Names.{interim_rules, broken_by_response, Part, FieldsPart, OctetsPart}
-use Rattle.h2_ends.proofs.Names.{Token, FieldsToken, OctetToken, EndToken, IsPrefixOfTokens}
-use Rattle.h2_ends.proofs.Names.{final_rules, end_tokens, trailers_tokens, said_tokens}
-use Rattle.h2_ends.proofs.Names.{tokens_of_part, tokens_of_parts, tokens_given, sent_response}
+use Rattle.h2_ends.proofs.Names.{◌≡◌, ℕ, Bool, true, false, List, [], ◌∷◌, ◌++◌, Option, None}
+use Rattle.h2_ends.proofs.Names.{Some, refl, sym, ap, ◌∙◌, subst, Field, SentMessage, Said, Form}
+use Rattle.h2_ends.proofs.Names.{AtOnce, Begun, Ended, given_end, first_broken, interim_rules}
+use Rattle.h2_ends.proofs.Names.{broken_by_response, Part, FieldsPart, OctetsPart, Token}
+use Rattle.h2_ends.proofs.Names.{FieldsToken, OctetToken, EndToken, IsPrefixOfTokens, final_rules}
+use Rattle.h2_ends.proofs.Names.{end_tokens, trailers_tokens, said_tokens, tokens_of_part}
+use Rattle.h2_ends.proofs.Names.{tokens_of_parts, tokens_given, sent_response}
 use Rattle.std.proofs.lemmas.List.{map-append}
 use Rattle.h2_ends.specs.MessageTokens.{MessageToken, ListToken, BodyToken, last_tokens, LastToken}
 use Rattle.h2_ends.specs.MessageTokens.{trailers_listed, given_last, parts_of_said, parts_said}
@@ -143,7 +143,11 @@ pub parts_prefix : (server : Bool) (parts : List (Part × Bool)) (given : Option
 parts_prefix server parts given final (rest, is) =
     let tokens = tokens_of_parts parts in
     let first = subst (HeadFirst server) is (head_first server given final) in
-    rw (parts_by_tokens server parts (first_begins server tokens rest first), said_placed given, is)
+    rw (
+      parts_by_tokens server parts (first_begins server tokens rest first),
+      said_placed given,
+      is,
+    )
     (placed_begins tokens rest)
 
 -- and where they are the message's, the parts are its parts.

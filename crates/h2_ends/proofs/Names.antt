@@ -4,8 +4,9 @@ pub use Rattle.h2_conn.specs.Conn.{answer_by, ConnAnswers, ConnRepresents, reade
 pub use Rattle.h2_conn.specs.declared.conn.Conn.{Conn}
 unfoldable pub use Rattle.h2_ends.specs.EndCalls.{MayPump, MayReleaseAll}
 pub use Rattle.h2_ends.specs.EndCalls.{BodyWaits, end_with_said, IsNextOwed, IsStuckOn, Pumps}
-pub use Rattle.h2_ends.specs.EndCalls.{end_with_more, IsNotOpen, IsOpen, with_octets, with_trailers}
-pub use Rattle.h2_ends.specs.EndCalls.{answered_with, answer_reads, begun, opened_with}
+pub use Rattle.h2_ends.specs.EndCalls.{end_with_more, IsNotOpen, IsOpen, with_octets}
+pub use Rattle.h2_ends.specs.EndCalls.{with_trailers, answered_with, answer_reads, begun}
+pub use Rattle.h2_ends.specs.EndCalls.{opened_with}
 pub use Rattle.h2_message.specs.Lengths.{broken_by_head}
 pub use Rattle.h2_ends.specs.EndCalls.{RefusesMessage, TrailersWait}
 pub use Rattle.h2_ends.specs.EndEvents.{end_event_with_parts, LocatedPart}
@@ -24,11 +25,12 @@ pub use Rattle.h2_ends.specs.Pumping.{LacksSpace, PumpsSoFar, sends_data, sends_
 pub use Rattle.h2_ends.specs.Pumping.{sends_trailers, with_outgoing}
 pub use Rattle.h2_ends.specs.Quiet.{HasRoom, IsQuietEnd}
 unfoldable pub use Rattle.h2_ends.specs.Represents.{IsKept, IsOutgoing}
-pub use Rattle.h2_ends.specs.Represents.{EndPumps, EndReleases, EndRepresents, HandsInOrder, InSpan}
-pub use Rattle.h2_ends.specs.Represents.{IsCutShort, IsInStep, IsStream, IsUntouched, IsWaiting}
-pub use Rattle.h2_ends.specs.Represents.{KeepsActive, kept_at, new_end_log, outgoing_in, OwesWithin}
-pub use Rattle.h2_ends.specs.Represents.{reads_of_new, RepresentsBut, RepresentsMessages}
-pub use Rattle.h2_ends.specs.Represents.{SendsInOrder, tokens_kept, WaitsWithin, WasRefused}
+pub use Rattle.h2_ends.specs.Represents.{EndPumps, EndReleases, EndRepresents, HandsInOrder}
+pub use Rattle.h2_ends.specs.Represents.{InSpan, IsCutShort, IsInStep, IsStream, IsUntouched}
+pub use Rattle.h2_ends.specs.Represents.{IsWaiting, KeepsActive, kept_at, new_end_log, outgoing_in}
+pub use Rattle.h2_ends.specs.Represents.{OwesWithin, reads_of_new, RepresentsBut}
+pub use Rattle.h2_ends.specs.Represents.{RepresentsMessages, SendsInOrder, tokens_kept}
+pub use Rattle.h2_ends.specs.Represents.{WaitsWithin, WasRefused}
 unfoldable pub use Rattle.h2_ends.specs.Sends.{HasGone, HasPumped}
 pub use Rattle.h2_ends.specs.Sends.{IsNextIn, IsNextKept, IsPumped, keeps_of, NoneWaits, PumpGoes}
 pub use Rattle.h2_ends.specs.Sends.{PumpsOn, Sends, StopsBy, WaitsAsBefore}
@@ -120,9 +122,10 @@ pub use Rattle.hpack.specs.declared.types.field.Field.{Field}
 pub use Rattle.std.proofs.Common.{[], ap, append-nil, append_assoc, arith, Bool, cond, drop, Err}
 pub use Rattle.std.proofs.Common.{false, Global, IfOk, if◌then◌else◌, inl, inr, is_none, is_some}
 pub use Rattle.std.proofs.Common.{leb-true, length, length-drop, List, ltb-false, ltb-true, min}
-pub use Rattle.std.proofs.Common.{nat_le, nat_lt, None, not, Ok, Option, option_map, refl, Result}
-pub use Rattle.std.proofs.Common.{Some, subst, suc, sym, take, true, Vec, zero, ℕ, ◌&&◌, ◌++◌, ◌+◌}
-pub use Rattle.std.proofs.Common.{◌-◌, ◌<◌, ◌==◌, ◌^◌, ◌||◌, ◌↔◌, ◌∙◌, ◌∷◌, ◌≡◌, ◌≢◌, ◌≤◌, ◌⊎◌}
+pub use Rattle.std.proofs.Common.{nat_eq, nat_le, nat_lt, None, not, Ok, Option, option_map, refl}
+pub use Rattle.std.proofs.Common.{Result, Some, subst, suc, sym, take, true, Vec, zero, ℕ, ◌&&◌}
+pub use Rattle.std.proofs.Common.{◌++◌, ◌+◌, ◌-◌, ◌<◌, ◌==◌, ◌^◌, ◌||◌, ◌↔◌, ◌∙◌, ◌∷◌, ◌≡◌, ◌≢◌}
+pub use Rattle.std.proofs.Common.{◌≤◌, ◌⊎◌}
 pub use Rattle.std.proofs.Math.Seq.{drop-append_seam, take-length}
 pub use Rattle.std.proofs.lemmas.Bool.{and_from, and_parts, and_right, both_ways, cases_Bool}
 pub use Rattle.std.proofs.lemmas.Bool.{cases_eq, eq-eqb, eqb-true, false_from_ne_true, le-ltb}
@@ -130,7 +133,7 @@ pub use Rattle.std.proofs.lemmas.Bool.{lt-ltb, ne_eqb, or_from}
 pub use Rattle.std.proofs.lemmas.Bool.Decides.{nat_tests}
 pub use Rattle.std.proofs.lemmas.List.{drop_all, length-append}
 pub use Rattle.std.proofs.lemmas.Result.{err_from_is_err_and}
-pub use Rattle.std.specs.Cmp.{eq_by_cmp_equiv, nat_cmp_total, unsigned_tied}
+pub use Rattle.std.specs.Cmp.{nat_eq_equiv, unsigned_tied}
 pub use Rattle.std.specs.List.{AllByRecursion, Contains, list_any}
 pub use Rattle.std.specs.Ordering.{is_eq, nat_cmp}
 pub use denote.Enum.Bare.{sameb}

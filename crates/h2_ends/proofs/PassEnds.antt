@@ -7,9 +7,10 @@ use Names.{Result, Ok, Err, EndRepresents, InSpan, WaitsWithin, keeps_of, is_som
 use Names.{outgoing_in}
 use Rattle.h2_ends.specs.declared.passing.Pass.{Pass}
 use Rattle.h2_ends.specs.Passes.{Halt, Stopped, PassesOver, Passes, passes_part, passes_round}
-use Rattle.h2_ends.specs.Passes.{IsNoError, numbers, share_most, share_size, sizes_by, end_with_turn}
+use Rattle.h2_ends.specs.Passes.{IsNoError, numbers, share_most, share_size, sizes_by}
+use Rattle.h2_ends.specs.Passes.{end_with_turn}
 use Rattle.h2_ends.specs.declared.span.Turn.{Turn}
-use Rattle.h2_ends.proofs.PassSteps.{with_turn, turned}
+use Rattle.h2_ends.proofs.PassBegins.{with_turn, turned}
 unfoldable use Rattle.h2_ends.specs.Passes.{MayPumpSome}
 unfoldable use Rattle.h2_ends.specs.Passing.{IsPassed}
 use Rattle.h2_ends.specs.Passing.{IsSpanOf, HasPassed, HasHalted, PassesSpan}
@@ -227,7 +228,8 @@ module _ (old : End) (most turn : ℕ) (same_turn : turn ≡ old.spans.turn.id) 
                     None half passed.passes)
                     (sized (went.same.turn ∙ sizes_at values start is)
                     (went.same.most ∙ size) half 0
-                    start.turn.id has.sent (Some (over.0, Stopped Memory over.1)) after has.passes),
+                    start.turn.id has.sent (Some (over.0, Stopped Memory over.1)) after
+                    has.passes),
                 refl,
               ),
               has.represents,
@@ -269,7 +271,8 @@ module _ (old : End) (most turn : ℕ) (same_turn : turn ≡ old.spans.turn.id) 
                   (left_represents values start half after is passed over)),
             )
           where
-            left_in : (values : Values) (start half after : EndLog) → EndRepresents values old start
+            left_in : (values : Values) (start half after : EndLog)
+                → EndRepresents values old start
                 → HasPassed values old start start.turn.id numbers first mid between half
                 → HasPassed values mid half 0 start.turn.id between new last after
                 → (i : ℕ) → WaitsWithin last.left (keeps_of new i) i

@@ -4,8 +4,8 @@ use Names.{◌≡◌, ◌≢◌, ◌⊎◌, inl, inr, ℕ, ◌+◌, ◌-◌, ◌
 use Names.{sym, ap, ◌∙◌, subst, arith, both_ways, cases_eq, Role, OutputFull, Memory, Closed}
 use Names.{Values, full_output, Log, active, waiting, IsOver, Conn, End, Stream, Waiting, Span}
 use Names.{Spans, EndLog, IsStuckOn, Pumps, EndRepresents, IsKept, IsInStep, InSpan, WaitsWithin}
-use Names.{KeepsActive, outgoing_in, IsPumping, KeepsActiveOnly, sends_nothing, PumpGoes, NoneWaits}
-use Names.{WaitsAsBefore, keeps_of, MayPump, Ok, Err, IsStuckBelow}
+use Names.{KeepsActive, outgoing_in, IsPumping, KeepsActiveOnly, sends_nothing, PumpGoes}
+use Names.{NoneWaits, WaitsAsBefore, keeps_of, MayPump, Ok, Err, IsStuckBelow}
 use Rattle.h2_laws_machine.proofs.BoundedLogs.{few_wait}
 use Rattle.h2_ends.proofs.PumpEnds.{by_end, to_end, stuck_unless_waiting}
 use Rattle.h2_ends.proofs.PumpSteps.{IsNext, pumps_all, zero_inactive, up_to_or}

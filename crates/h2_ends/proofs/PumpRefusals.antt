@@ -1,11 +1,11 @@
 -- Why calls of a pump and of a release may be refused: the output is full, or memory was refused.
 use Rattle.h2_ends.proofs.Names
-use Names.{◌≡◌, ◌≢◌, inl, inr, ℕ, ◌==◌, Bool, true, false, if◌then◌else◌, List, [], ◌∷◌, Some, None}
-use Names.{refl, sym, ap, ◌∙◌, arith, list_any, nat_tests, Field, Refusal, OutputFull, Closed}
-use Names.{SendFields, SendData, Release, Refused, ends, full_output, Log, active, unreleased}
-use Names.{waiting, owed_on, when, log_view, stream_of_log, refusal_of, is_full, is_too_large}
-use Names.{reader_owed, is_no_stream, MayAnswer, accepts, lacks, LacksSpace, owed, nat_lt, ◌||◌}
-use Names.{is_some, leb-true, StreamView, refuses, fails, NoSuchStream}
+use Names.{◌≡◌, ◌≢◌, inl, inr, ℕ, ◌==◌, Bool, true, false, if◌then◌else◌, List, [], ◌∷◌, Some}
+use Names.{None, refl, sym, ap, ◌∙◌, arith, list_any, nat_tests, Field, Refusal, OutputFull}
+use Names.{Closed, SendFields, SendData, Release, Refused, ends, full_output, Log, active}
+use Names.{unreleased, waiting, owed_on, when, log_view, stream_of_log, refusal_of, is_full}
+use Names.{is_too_large, reader_owed, is_no_stream, MayAnswer, accepts, lacks, LacksSpace, owed}
+use Names.{nat_lt, ◌||◌, is_some, leb-true, StreamView, refuses, fails, NoSuchStream}
 use Rattle.h2_spec_log.specs.CallRules.{conditions, first_of, is_not_owed}
 use Rattle.h2_laws_log.proofs.LogViewLemmas.{owed_there}
 use Rattle.h2_spec_log.specs.declared.refusal.Refusal.TheVariants.{NotOwed}

@@ -20,8 +20,8 @@ use Rattle.h2_ends.proofs.PumpStays.{stays_active}
 use Rattle.h2_ends.proofs.PumpSteps.{pumps_until}
 use Rattle.h2_ends.proofs.PumpStuck.{data_none, fields_none, stuck_by_data, stuck_by_fields}
 use Rattle.h2_ends.proofs.PumpTokens.{octets_left, sent_more, waiting_goes_on, stuck_waiting}
-use Rattle.h2_ends.proofs.PumpTokens.{waits_after, sent_after_data, sent_after_fields, trailers_fit}
-use Rattle.h2_ends.proofs.PumpTokens.{trailers_left, body_waits, trailers_wait}
+use Rattle.h2_ends.proofs.PumpTokens.{waits_after, sent_after_data, sent_after_fields}
+use Rattle.h2_ends.proofs.PumpTokens.{trailers_fit, trailers_left, body_waits, trailers_wait}
 use Rattle.h2_ends.proofs.PumpWindows.{none_without_room, data_waits, data_within, data_failed}
 use Rattle.h2_ends.proofs.PumpWindows.{fields_failed, fields_wait, refused_waits}
 use Rattle.h2_ends.proofs.RequestSteps.{refused_fields_keep}
@@ -162,8 +162,8 @@ module _ (values : Values) (start : EndLog) (role : Role) (spans : Spans)
           → IsInStep spans (keeps_to outgoing i) (end_after_call happened act answer) i
       in_step_after outgoing i =
           let was = in_step_called _ values spans (keeps_to (outgoings.Waiting waits) i) happened
-          act answer happened.accepted i is.pumping.represents.represents.machine.came may (opens i)
-          (is.pumping.in_step i) in
+          act answer happened.accepted i is.pumping.represents.represents.machine.came may
+          (opens i) (is.pumping.in_step i) in
           elim (cases_eq i id) [
             | inl same ↦ subst (λ (j : ℕ). IsInStep spans (keeps_to outgoing j)
                 (end_after_call happened act answer) j) (sym same)
@@ -208,7 +208,8 @@ module _ (values : Values) (start : EndLog) (role : Role) (spans : Spans)
 
     module _ (new : Conn) (n : ℕ) (typed : IsTypedAct (data_act id waits))
         (may : MayAnswer happened.log (data_act id waits) (Count n))
-        (conn_is : ConnRepresents values new (with_call happened.log (data_act id waits) (Count n)))
+        (conn_is : ConnRepresents values new
+        (with_call happened.log (data_act id waits) (Count n)))
       where
         -- Octets were accepted, and this is to be sent then.
         data_pumping : (outgoing : Outgoing) → waits.sent < length waits.body.items
@@ -259,7 +260,8 @@ module _ (values : Values) (start : EndLog) (role : Role) (spans : Spans)
             record {
               pumping = data_pumping (outgoings.Waiting (sent_more waits n)) some rest;
               alive = stays_active happened.log id octets end n may
-                  (waiting_goes_on _ values after id (sent_more waits n) conn_is.machine.came rest);
+                  (waiting_goes_on _ values after id (sent_more waits n) conn_is.machine.came
+                  rest);
               others = data_others (outgoings.Waiting (sent_more waits n));
             }
 
@@ -290,7 +292,8 @@ module _ (values : Values) (start : EndLog) (role : Role) (spans : Spans)
     -- Where it sends none, nothing could go on the stream.
     module _ (new : Conn) (typed : IsTypedAct (data_act id waits))
         (may : MayAnswer happened.log (data_act id waits) (Count 0))
-        (conn_is : ConnRepresents values new (with_call happened.log (data_act id waits) (Count 0)))
+        (conn_is : ConnRepresents values new
+        (with_call happened.log (data_act id waits) (Count 0)))
         (some : waits.sent < length waits.body.items) where
       sends_still : IsSendingOn count new
           (end_after_call happened (data_act id waits) (Count 0)) waits
@@ -313,7 +316,8 @@ module _ (values : Values) (start : EndLog) (role : Role) (spans : Spans)
       data_is_stuck =
           let after = end_after_call happened (data_act id waits) (Count 0) in
           let left = length-drop waits.sent waits.body.items in
-          let octets : length (octets_left waits) ≢ 0 = λ none. omega (arith, left, none, some) in (
+          let octets : length (octets_left waits) ≢ 0 =
+          λ none. omega (arith, left, none, some) in (
             sends_still,
             stuck_waiting after id waits (waits_on count new after waits sends_still) octets
                 (no_room_by_call happened.log (data_act id waits) (Count 0) id
@@ -358,7 +362,8 @@ module _ (values : Values) (start : EndLog) (role : Role) (spans : Spans)
         (λ i. data_closes_none i id octets end refusal)
         (data_refused happened id octets end refusal next_here typed
         (body_waits happened id waits waits_here some) may)
-        (refused.data_refused happened.log id octets end refusal is.pumping.up is.alive goes_on may)
+        (refused.data_refused happened.log id octets end refusal is.pumping.up is.alive goes_on
+        may)
 
     module _ (new : Conn) (fields : List Field) (typed : IsTypedAct (SendFields id fields true))
         (are : option_map (λ list. list.items) waits.trailers ≡ Some fields) where
@@ -405,8 +410,8 @@ module _ (values : Values) (start : EndLog) (role : Role) (spans : Spans)
           (λ i. refused_fields_keep i id fields true refusal)
           (trailers_refused happened id fields refusal next_here typed
           (trailers_wait happened id waits fields waits_here (omega (arith, left, none)) are) may)
-          (refused.fields_refused happened.log id fields true refusal is.pumping.up is.alive goes_on
-          (trailers_fit happened id waits fields waits_here are) may)
+          (refused.fields_refused happened.log id fields true refusal is.pumping.up is.alive
+          goes_on (trailers_fit happened id waits fields waits_here are) may)
 
   -- Once all was sent, no message waits on the stream.
   pub none_waits_sent : (waits : Waiting)

@@ -2,9 +2,10 @@
 use Rattle.h2_ends.proofs.Names
 use Names.{◌≡◌, ℕ, zero, suc, ◌==◌, ◌&&◌, nat_le, Bool, true, false, if◌then◌else◌, List, [], ◌∷◌}
 use Names.{◌++◌, length, take, drop, None, refl, inl, inr, ap, subst, sym, list_any, and_right}
-use Names.{Data, Item, alone, Role, Client, Server, SendData, Count, is_block_on, ends, Log, active}
-use Names.{max_payload_sent, log_view, MayAnswer, with_call, grows_call, Writes, call_writes}
-use Names.{items_of, not, WindowUpdate, IsCredit, or_from, active_parts, data_frames, data_items}
+use Names.{Data, Item, alone, Role, Client, Server, SendData, Count, is_block_on, ends, Log}
+use Names.{active, max_payload_sent, log_view, MayAnswer, with_call, grows_call, Writes}
+use Names.{call_writes, items_of, not, WindowUpdate, IsCredit, or_from, active_parts, data_frames}
+use Names.{data_items}
 use Rattle.h2_laws_log.proofs.ReaderStates.{active_from, lasts_parts, lasts_from}
 use Rattle.h2_spec_log.specs.Items.{resets, is_goaway_below}
 use Rattle.h2_spec_log.specs.States.{openings, is_above}
@@ -106,8 +107,8 @@ stays_active log id octets end n may goes =
     let kept = none_written (resets id) (data_resets id) (update_resets id) log after id octets end
     n writes lasts.kept in
     let below = below_after log.role id log.sent after.sent
-    (none_written (is_goaway_below id) (data_goaway id) (update_goaway id) log after id octets end n
-    writes) parts.below in
+    (none_written (is_goaway_below id) (data_goaway id) (update_goaway id) log after id octets
+    end n writes) parts.below in
     let opened = subst (λ (sent : List Item).
     list_any (is_block_on id) (openings log.role log.received sent) ≡ true) (sym grows.sent)
     (opened_after log.role id grows.items log.received log.sent parts.opened) in

@@ -1,9 +1,10 @@
 -- The calls of a pump, one more at their end; and which streams come next.
 use Rattle.h2_ends.proofs.Names
 use Names.{◌≡◌, ◌⊎◌, inl, inr, ℕ, ◌+◌, ◌<◌, ◌≤◌, true, false, Option, Some, None, subst, arith}
-use Names.{ltb-true, ltb-false, eqb-true, cases_Bool, false_from_ne_true, Refusal, Log, active, End}
-use Names.{EndLog, InSpan, IsInStep, KeepsActiveOnly, keeps_of, Pumps, sends_nothing, sends_data}
-use Names.{Span, Spans, Stream, IsNextKept, nat_lt, sends_trailers, PumpsSoFar, active_parts}
+use Names.{ltb-true, ltb-false, eqb-true, cases_Bool, false_from_ne_true, Refusal, Log, active}
+use Names.{End, EndLog, InSpan, IsInStep, KeepsActiveOnly, keeps_of, Pumps, sends_nothing}
+use Names.{sends_data, Span, Spans, Stream, IsNextKept, nat_lt, sends_trailers, PumpsSoFar}
+use Names.{active_parts}
 use Rattle.h2_ends.specs.EndCalls.{pumps_no_more, pumps_data, pumps_trailers}
 
 -- Calls after them are calls of the pump.

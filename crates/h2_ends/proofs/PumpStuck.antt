@@ -3,9 +3,9 @@ use Rattle.h2_ends.proofs.Names
 use Names.{◌≡◌, ◌≢◌, inl, inr, ℕ, Bool, false, List, [], ◌∷◌, ◌++◌, length, drop, refl, sym, ap}
 use Names.{◌∙◌, append-nil, subst, list_any, both_ways, and_parts, and_from, cases_Bool, ne_eqb}
 use Names.{Field, Act, Answer, SendFields, SendData, Count, Done, is_block_on, Log, active}
-use Names.{log_view, items_of, with_call, has_room, no_room_by_call, Token, FieldsToken, OctetToken}
-use Names.{EndToken, call_calls, EndLog, tokens_out, tokens_said, tokens_waiting, IsStuckOn}
-use Names.{end_after_call, tokens_of_call, tokens_sent, items_no_block, call_keeps}
+use Names.{log_view, items_of, with_call, has_room, no_room_by_call, Token, FieldsToken}
+use Names.{OctetToken, EndToken, call_calls, EndLog, tokens_out, tokens_said, tokens_waiting}
+use Names.{IsStuckOn, end_after_call, tokens_of_call, tokens_sent, items_no_block, call_keeps}
 use Rattle.h2_laws_pair.specs.Quiet.{NoneCouldGo}
 use Rattle.h2_laws_end.proofs.OverLists.{IsInactive, inactive_sent}
 

@@ -1,14 +1,14 @@
 -- What waits of a message, as sending goes on.
 use Rattle.h2_ends.proofs.Names
-use Names.{◌≡◌, ◌≢◌, ◌⊎◌, inl, inr, ℕ, zero, suc, ◌+◌, ◌-◌, ◌<◌, ◌≤◌, ◌==◌, ◌&&◌, Bool, true, false}
-use Names.{List, [], ◌∷◌, ◌++◌, length, take, drop, Option, Some, None, refl, sym, ap, ◌∙◌, subst}
-use Names.{append_assoc, append-nil, length-drop, arith, list_any, both_ways, and_from}
+use Names.{◌≡◌, ◌≢◌, ◌⊎◌, inl, inr, ℕ, zero, suc, ◌+◌, ◌-◌, ◌<◌, ◌≤◌, ◌==◌, ◌&&◌, Bool, true}
+use Names.{false, List, [], ◌∷◌, ◌++◌, length, take, drop, Option, Some, None, refl, sym, ap, ◌∙◌}
+use Names.{subst, append_assoc, append-nil, length-drop, arith, list_any, both_ways, and_from}
 use Names.{false_from_ne_true, eq-eqb, drop-append_seam, take-length, nat_tests, Role, Values}
-use Names.{SendFields, SendData, Count, Done, ends, IsLog, has_room, Field, is_too_large}
-use Names.{Said, Token, FieldsToken, OctetToken, EndToken, Waiting, EndLog, said_for}
-use Names.{tokens_out, tokens_said, tokens_waiting, IsStuckOn, BodyWaits, TrailersWait}
-use Names.{end_after_call, IsWaiting, tokens_kept, trailer_fields, end_tokens, tokens_of_call}
-use Names.{trailers_tokens, said_tokens, tokens_given, IsOutgoing, is_none, option_map}
+use Names.{SendFields, SendData, Count, Done, ends, IsLog, has_room, Field, is_too_large, Said}
+use Names.{Token, FieldsToken, OctetToken, EndToken, Waiting, EndLog, said_for, tokens_out}
+use Names.{tokens_said, tokens_waiting, IsStuckOn, BodyWaits, TrailersWait, end_after_call}
+use Names.{IsWaiting, tokens_kept, trailer_fields, end_tokens, tokens_of_call, trailers_tokens}
+use Names.{said_tokens, tokens_given, IsOutgoing, is_none, option_map}
 use Rattle.std.proofs.lemmas.List.{map-append, take-append-drop, drop-drop}
 use Rattle.std.proofs.Common.{map as each}
 use Rattle.h2_laws_end.specs.Sendings.{lists_accepted, settings_received}
@@ -48,7 +48,8 @@ some_kept waiting =
 
 -- As long as something waits on a stream, this end hasn't ended it.
 pub waiting_goes_on : (role : Role) (values : Values) (end : EndLog) (id : ℕ) (waiting : Waiting)
-    → IsLog role values end.log → IsWaiting end id waiting → list_any (ends id) end.log.sent ≡ false
+    → IsLog role values end.log → IsWaiting end id waiting
+    → list_any (ends id) end.log.sent ≡ false
 waiting_goes_on role values end id waiting is waits = false_from_ne_true _ (λ here.
     let log = end.log in
     let some = some_kept waiting in
@@ -236,8 +237,8 @@ kept_all waiting n true all none ended =
     (sym (as_none (λ fields. fields.items) waiting.trailers) ∙ none)
 kept_all waiting n false all none ended = cc
 
-pub sent_after_data : (end : EndLog) (id : ℕ) (waiting : Waiting) (n : ℕ) → IsWaiting end id waiting
-    → is_none waiting.trailers ≡ true → n ≡ length (octets_left waiting)
+pub sent_after_data : (end : EndLog) (id : ℕ) (waiting : Waiting) (n : ℕ)
+    → IsWaiting end id waiting → is_none waiting.trailers ≡ true → n ≡ length (octets_left waiting)
     → IsOutgoing (end_after_call end (SendData id (octets_left waiting) (is_none waiting.trailers))
     (Count n)) id outgoings.Sent
 unfolding IsOutgoing
@@ -256,7 +257,8 @@ sent_after_data end id waiting n waits none all =
 
 -- Once no octets are left and the trailers were sent, all was sent.
 pub fields_tokens : (id : ℕ) (fields : List Field)
-    → tokens_of_call id (SendFields id fields true) Done ≡ FieldsToken fields true ∷ (EndToken ∷ [])
+    → tokens_of_call id (SendFields id fields true) Done
+    ≡ FieldsToken fields true ∷ (EndToken ∷ [])
 unfolding tokens_of_call end_tokens
 fields_tokens id fields = rw (eq-eqb id id refl) refl
 

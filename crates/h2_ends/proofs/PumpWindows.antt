@@ -2,8 +2,8 @@
 use Rattle.h2_ends.proofs.Names
 use Names.{◌≡◌, ◌≢◌, ℕ, zero, suc, ◌+◌, ◌-◌, ◌≤◌, ◌<◌, ◌==◌, min, nat_le, ◌&&◌, Bool, true, false}
 use Names.{if◌then◌else◌, List, [], ◌∷◌, ◌++◌, length, take, drop, None, refl, sym, ap, ◌∙◌, arith}
-use Names.{length-drop, ltb-true, and_parts, false_from_ne_true, eqb-true, Field, Data, Item, alone}
-use Names.{Refusal, Act, SendFields, SendData, Release, Count, Done, Refused, Log, active}
+use Names.{length-drop, ltb-true, and_parts, false_from_ne_true, eqb-true, Field, Data, Item}
+use Names.{alone, Refusal, Act, SendFields, SendData, Release, Count, Done, Refused, Log, active}
 use Names.{max_payload_sent, log_view, refusal_of, MayAnswer, accepts, lacks, has_room, Writes}
 use Names.{call_writes, waiting, output, items_of, with_call, refuses, fails, with_items, not}
 use Names.{max_data, window_test, none_holds, data_frames, data_items, total, data_on, data_of}

@@ -1,6 +1,6 @@
 -- Whether both windows let an octet go on a stream, by what a connection answers of them.
-use Rattle.h2_ends.proofs.Names.{◌≡◌, ℕ, Bool, true, false, if◌then◌else◌, Option, Some, None, refl}
-use Rattle.h2_ends.proofs.Names.{sym, ap, subst, and_parts, false_from_ne_true, ne_eqb, Code}
+use Rattle.h2_ends.proofs.Names.{◌≡◌, ℕ, Bool, true, false, if◌then◌else◌, Option, Some, None}
+use Rattle.h2_ends.proofs.Names.{refl, sym, ap, subst, and_parts, false_from_ne_true, ne_eqb, Code}
 use Rattle.h2_ends.proofs.Names.{reader_room, Log, active, log_view, has_room, HasRoom, is_some}
 use Rattle.std.proofs.Common.{pos, ℤ, int_lt}
 use Rattle.h2_spec_log.specs.Log.{send_window}

@@ -1,5 +1,5 @@
--- Whether something that waits on a stream could be sent: those of the span are looked at in rising
--- order, as in a pump that has sent nothing.
+-- Whether something that waits on a stream could be sent: those of the span are looked at in
+-- rising order, as in a pump that has sent nothing.
 use Rattle.h2_ends.proofs.Names
 use Names.{◌≡◌, ◌≢◌, ◌↔◌, ℕ, ◌+◌, ◌-◌, ◌<◌, ◌≤◌, true, false, Bool, List, [], ◌∷◌, ◌++◌, length}
 use Names.{Option, Some, None, refl, sym, ap, ◌∙◌, inl, inr, subst, length-drop, arith, both_ways}

@@ -158,7 +158,8 @@ module _ (values : Values) (start : EndLog) (end : End) (happened : EndLog) (las
     | inl here ↦ is.below i here
     | inr above ↦ elim (cases_eq (owed happened.log i) 0) [
       | inl zero ↦ zero
-      | inr some ↦ owed_inactive happened.log i (none i above ((is.represents.in_step i).owes some))
+      | inr some ↦ owed_inactive happened.log i
+          (none i above ((is.represents.in_step i).owes some))
     ]
   ]
 

@@ -2,9 +2,10 @@
 use Rattle.h2_ends.proofs.Names.{◌≡◌, ℕ, Some, None, refl, ◌∙◌, End, Stream, Span, InSpan}
 use Rattle.h2_ends.proofs.Names.{Outgoing, Waiting, kept_at, IsGiven, given_stream}
 use Rattle.h2_ends.specs.declared.outgoing.Outgoing.TheVariants as outgoings
-use Rattle.h2_ends.proofs.TableSteps.{ChangesAt, keeps_but}
+use Rattle.h2_ends.proofs.TableSteps.{SetsValue, keeps_but}
 
--- The span of those that wait has the number too, where something waits, and all else is as before.
+-- The span of those that wait has the number too, where something waits, and all else is as
+-- before.
 pub record IsWidened (old : End) (id : ℕ) (outgoing : Outgoing) (new : End) : Type 0 where
   pub conn : new.conn ≡ old.conn
   pub role : new.role ≡ old.role
@@ -52,7 +53,7 @@ pub given_here : (old mid new : End) (id : ℕ) (outgoing : Outgoing) (stream se
     → IsWidened old id outgoing mid → Some stream ≡ kept_at id mid.streams.entries
     → set ≡ given_stream outgoing stream → new.conn ≡ mid.conn → new.role ≡ mid.role
     → new.spans ≡ mid.spans
-    → ChangesAt id (Some set) mid.streams.entries new.streams.entries
+    → SetsValue id (Some set) mid.streams.entries new.streams.entries
     → IsGiven old id outgoing new
 given_here old mid new id outgoing stream set widened was is conn role waiting changes =
     let keeps = keeps_but mid new id (Some set) changes in

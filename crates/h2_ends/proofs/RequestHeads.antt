@@ -16,8 +16,8 @@ use Rattle.h2_laws_end.proofs.OverNumbers.{opened_is_new}
 use Rattle.h2_ends.proofs.EndSteps.{called_end, stepped}
 use Rattle.h2_laws_end.proofs.ActivityOpened.{active_by_open}
 use Rattle.h2_ends.proofs.InSteps.{owes_called, in_step_called, represents_all}
-use Rattle.h2_ends.proofs.RequestSteps.{stepped_but, opens_one, open_keeps, fields_keep, head_keeps}
-use Rattle.h2_ends.proofs.RequestSteps.{handed_open, within_given}
+use Rattle.h2_ends.proofs.RequestSteps.{stepped_but, opens_one, open_keeps, fields_keep}
+use Rattle.h2_ends.proofs.RequestSteps.{head_keeps, handed_open, within_given}
 use Rattle.h2_ends.proofs.RequestSent.{head_tokens, sent_in_order, sent_first, accepted_here}
 use Rattle.h2_ends.proofs.RequestSent.{accepted_elsewhere}
 use Rattle.h2_ends.specs.declared.refusal.EndRefusal.TheVariants as refusals

@@ -19,7 +19,7 @@ use Rattle.h2_ends.proofs.RequestRefusals.{is_refused, refused_so, refuses_fitti
 use Rattle.h2_ends.proofs.RequestRefusals.{open_too_large, trailers_refuse_open}
 use Rattle.h2_ends.proofs.RequestRefusals.{no_number_refuses}
 use Rattle.h2_ends.proofs.RequestSends.{unchanged_by}
-use Rattle.h2_ends.proofs.TableSteps.{ChangesAt, keeps_but}
+use Rattle.h2_ends.proofs.TableSteps.{SetsValue, keeps_but}
 use Rattle.h2_laws_log.proofs.InvariantSends.{client_since as client_by}
 use Rattle.h2_ends.specs.declared.outgoing.Outgoing.TheVariants as outgoings
 
@@ -43,8 +43,8 @@ or_memory first (Some one) refusal same is = inl (sym same ∙ ap Some (sym is))
 
 module _ (values : Values) (old new : End) (end : EndLog) (said : Said) where
   -- The call is refused for sure, and so the message.
-  opens_surely : (list : List Field) (ends : Bool) (result : Result ℕ Refusal) → (refusal : Refusal)
-      × (refusal_of (log_view end.log) (Open list ends) ≡ Some refusal)
+  opens_surely : (list : List Field) (ends : Bool) (result : Result ℕ Refusal)
+      → (refusal : Refusal) × (refusal_of (log_view end.log) (Open list ends) ≡ Some refusal)
       → ((refusal : Refusal) → refusal_of (log_view end.log) (Open list ends) ≡ Some refusal
       → RefusesMessage end.log (opened_with said) said.message refusal)
       → IsTypedAct (Open list ends) → EndRepresents values old end
@@ -71,7 +71,8 @@ module _ (values : Values) (old new : End) (end : EndLog) (said : Said) where
   -- Trailers that are too large are refused in place of the message.
   pub opens_trailers : (result : Result ℕ Refusal)
       → is_too_large (trailer_fields said.message.trailers) ≡ true
-      → IsTypedAct (Open (trailer_fields said.message.trailers) true) → EndRepresents values old end
+      → IsTypedAct (Open (trailer_fields said.message.trailers) true)
+      → EndRepresents values old end
       → MayAnswer end.log (Open (trailer_fields said.message.trailers) true)
       (answer_by (λ id. Number id) result)
       → ConnRepresents values new.conn (with_call end.log
@@ -118,8 +119,8 @@ next_is_new log id next =
 
 -- The stream that was inserted and removed again is none.
 pub keeps_none : (old mid new : End) (id : ℕ) (stream : Stream)
-    → ChangesAt id (Some stream) old.streams.entries mid.streams.entries
-    → ChangesAt id None mid.streams.entries new.streams.entries → KeepsOne old new id None
+    → SetsValue id (Some stream) old.streams.entries mid.streams.entries
+    → SetsValue id None mid.streams.entries new.streams.entries → KeepsOne old new id None
 keeps_none old mid new id stream put away =
     let first = keeps_but old mid id (Some stream) put in
     let last = keeps_but mid new id None away in

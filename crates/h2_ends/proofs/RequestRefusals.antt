@@ -1,12 +1,12 @@
 -- Why the connection refuses a message: as the call that sends its head, and C10 of its trailers.
 use Rattle.h2_ends.proofs.Names
 use Names.{◌≡◌, ◌⊎◌, ℕ, ◌<◌, ◌≤◌, ◌^◌, ◌-◌, min, Bool, true, false, List, [], ◌∷◌, ◌++◌}
-use Names.{if◌then◌else◌, Option, Some, None, refl, sym, ap, ◌∙◌, inl, inr, arith, both_ways, Field}
-use Names.{Refusal, Memory, Closed, OutputFull, Act, Answer, Open, SendFields, Refused, is_server}
-use Names.{View, Log, next_number, log_view, refusal_of, is_too_large, is_full, is_no_stream}
-use Names.{MayAnswer, accepts, lacks, reader_next_number, SentMessage, trailer_fields}
-use Names.{RefusesMessage, ◌||◌, ended_out, refuses, fails, or_from, lt-ltb, le-ltb, NoSuchStream}
-use Names.{Ended, none_holds, has_all_streams}
+use Names.{if◌then◌else◌, Option, Some, None, refl, sym, ap, ◌∙◌, inl, inr, arith, both_ways}
+use Names.{Field, Refusal, Memory, Closed, OutputFull, Act, Answer, Open, SendFields, Refused}
+use Names.{is_server, View, Log, next_number, log_view, refusal_of, is_too_large, is_full}
+use Names.{is_no_stream, MayAnswer, accepts, lacks, reader_next_number, SentMessage}
+use Names.{trailer_fields, RefusesMessage, ◌||◌, ended_out, refuses, fails, or_from, lt-ltb}
+use Names.{le-ltb, NoSuchStream, Ended, none_holds, has_all_streams}
 use Rattle.h2_spec_log.specs.CallRules.{conditions, first_of, has_failed, has_no_number, answer_of}
 use Rattle.h2_spec_log.specs.declared.refusal.Refusal.TheVariants.{ListTooLarge, TooManyStreams}
 use Rattle.h2_spec_log.specs.declared.refusal.Refusal.TheVariants.{StreamsExhausted, GoingAway}

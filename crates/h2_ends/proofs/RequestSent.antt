@@ -3,8 +3,9 @@ use Rattle.h2_ends.proofs.Names
 use Names.{◌≡◌, ◌≢◌, ◌⊎◌, ℕ, ◌<◌, ◌==◌, ◌&&◌, Bool, true, false, List, [], ◌∷◌, ◌++◌, length}
 use Names.{if◌then◌else◌, Option, Some, None, refl, sym, ap, ◌∙◌, inl, inr, arith, both_ways}
 use Names.{and_parts, eqb-true, eq-eqb, ne_eqb, Field, Act, Answer, is_too_large, Message}
-use Names.{Outgoing, Said, Form, AtOnce, Begun, Ended, at_once, given_end, is_ended_by_head}
-use Names.{trailer_fields, message_value, Token, FieldsToken, OctetToken, EndToken}
+use Names.{Outgoing, Waiting, Said, Form, AtOnce, Begun, Ended, at_once, given_end}
+use Names.{is_ended_by_head, trailer_fields, message_value, Token, FieldsToken, OctetToken}
+use Names.{EndToken}
 use Names.{tokens_of_call, EndLog, tokens_out, is_head_alone, SendsInOrder, end_tokens}
 use Names.{trailers_tokens, said_tokens, said_for, tokens_given, IsOutgoing, outgoing_for}
 use Rattle.std.proofs.Common.{map as each}
@@ -115,6 +116,14 @@ pub left_of_message : (end : EndLog) (id : ℕ) (message : Message) (outgoing : 
     → IsOutgoing end id outgoing
 left_of_message end id message outgoing is fits accepted sent =
     rw is (outgoing_after_head end id message accepted sent fits)
+
+-- Nothing waits of a message that is its head alone.
+pub alone_waits_not : (message : Message) (outgoing : Outgoing) → outgoing ≡ outgoing_for message
+    → is_head_alone (message_value message) ≡ true → (waiting : Waiting)
+    → outgoing ≡ outgoings.Waiting waiting → ⊥
+alone_waits_not message outgoing is alone waiting waits =
+    let sent : outgoing ≡ outgoings.Sent = is ∙ rw alone refl in
+    let wrong = sym sent ∙ waits in cc
 
 -- The call that sends the head is the first one that sends a token.
 pub sent_first : (happened : EndLog) (act : Act) (answer : Answer)

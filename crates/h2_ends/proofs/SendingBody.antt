@@ -1,11 +1,11 @@
 -- The loop that sends a message on a stream, whatever had happened in the pump when it began.
 use Rattle.h2_ends.proofs.Names
 use Names.{◌≡◌, inl, inr, ℕ, ◌+◌, ◌<◌, ◌≤◌, ◌^◌, Bool, true, false, List, length, take, drop}
-use Names.{length-drop, ◌-◌, Vec, Global, Option, Some, None, min, refl, sym, ap, ◌∙◌, subst, arith}
-use Names.{take-length, AllByRecursion, Field, Role, Refusal, Values, Act, Answer, SendFields}
-use Names.{SendData, Count, Done, Refused, Conn, ConnAnswers, Stream, Waiting, Spans, Sent, Stuck}
-use Names.{SendState, EndLog, end_after_call, IsStopped, Sends, IsTypedAct, HasGone, StopsBy, not}
-use Names.{is_some, is_none, option_map, Result, Ok, IsSendingOn, HasSent}
+use Names.{length-drop, ◌-◌, Vec, Global, Option, Some, None, min, refl, sym, ap, ◌∙◌, subst}
+use Names.{arith, take-length, AllByRecursion, Field, Role, Refusal, Values, Act, Answer}
+use Names.{SendFields, SendData, Count, Done, Refused, Conn, ConnAnswers, Stream, Waiting, Spans}
+use Names.{Sent, Stuck, SendState, EndLog, end_after_call, IsStopped, Sends, IsTypedAct, HasGone}
+use Names.{StopsBy, not, is_some, is_none, option_map, Result, Ok, IsSendingOn, HasSent}
 use Rattle.hpack_text.specs.Bits.{IsOctet}
 use Rattle.h2_ends.proofs.PumpCalls.{pump_is_short}
 use Rattle.h2_ends.proofs.PumpSends.{IsUnderWay, data_act, data_goes, data_is_stuck}
@@ -210,7 +210,8 @@ module _ (conn : Conn) (id : ℕ) (waits : Waiting) (count : ℕ) (now new : Con
 
     -- or refused.
     pub trailers_refused : (refusal : Refusal) (result : Result SendState Refusal)
-        → StopsBy refusal result → ConnAnswers now (SendFields id fields true) (Refused refusal) new
+        → StopsBy refusal result
+        → ConnAnswers now (SendFields id fields true) (Refused refusal) new
         → Sends conn id waits count result new left sum
     trailers_refused refusal result stops answers =
         λ values start role spans keeps stream happened begun.

@@ -2,9 +2,9 @@
 use Rattle.h2_ends.proofs.Names.{◌≡◌, ◌⊎◌, inl, inr, ℕ, ◌+◌, ◌-◌, true, false, Option, Some, None}
 use Rattle.h2_ends.proofs.Names.{refl, sym, ap, ◌∙◌, subst, Code, Refusal, Closed, Values, End}
 use Rattle.h2_ends.proofs.Names.{SendState, Idle, Sent, Stuck, Full, Span, EndLog, Pumps, MayPump}
-use Rattle.h2_ends.proofs.Names.{KeepsActiveOnly, EndRepresents, RepresentsBut, InSpan, outgoing_in}
-use Rattle.h2_ends.proofs.Names.{PumpsOn, PumpGoes, NoneWaits, WaitsAsBefore, IsNextIn, keeps_of}
-use Rattle.h2_ends.proofs.Names.{HasPumped, is_some, Ok, Err, EndPumps, Result}
+use Rattle.h2_ends.proofs.Names.{KeepsActiveOnly, EndRepresents, RepresentsBut, InSpan}
+use Rattle.h2_ends.proofs.Names.{outgoing_in, PumpsOn, PumpGoes, NoneWaits, WaitsAsBefore}
+use Rattle.h2_ends.proofs.Names.{IsNextIn, keeps_of, HasPumped, is_some, Ok, Err, EndPumps, Result}
 use Rattle.h2_ends.proofs.PumpCalls.{WaitsIn, pump_begins, waits_at_first, pump_comes}
 use Rattle.h2_ends.proofs.PumpCalls.{waits_between, waits_past, pump_ends, ends_represent}
 use Rattle.h2_ends.proofs.PumpCalls.{pump_is_full, pump_lacks, pump_is_closed}
@@ -97,8 +97,8 @@ module _ (old now : End) (left : Span) (count last : ℕ) (goes : PumpsTo old no
           → PumpsTo old new left sum id
       unfolding HasPumped
       past_idle progress same sends as_before = λ values start is.
-          let (up, before, (after, gone)) = comes_there (Ok Idle) (at_that progress Idle same sends)
-          values start is in (
+          let (up, before, (after, gone)) = comes_there (Ok Idle)
+          (at_that progress Idle same sends) values start is in (
             up,
             (
               after,
@@ -141,8 +141,8 @@ module _ (old now : End) (left : Span) (count last : ℕ) (goes : PumpsTo old no
           → EndRepresents values forgotten end) → PumpsTo old forgotten left sum id
       unfolding HasPumped
       past_sent progress same sends as_before forgotten forgets one represents = λ values start is.
-          let (up, before, (after, gone)) = comes_there (Ok Sent) (at_that progress Sent same sends)
-          values start is in
+          let (up, before, (after, gone)) = comes_there (Ok Sent)
+          (at_that progress Sent same sends) values start is in
           let there = represents values after (record {
             streams = to_end values new (keeps_of new) after gone.0.represents (λ i. refl);
             in_step = gone.0.in_step;

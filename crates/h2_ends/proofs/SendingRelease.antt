@@ -3,8 +3,8 @@ use Rattle.h2_ends.proofs.Names
 use Names.{◌≡◌, ◌≢◌, ◌<◌, ℕ, ◌+◌, ◌-◌, ◌^◌, Bool, true, false, Option, if◌then◌else◌, Some, None}
 use Names.{refl, sym, ap, ◌∙◌, subst, Code, Refusal, Closed, Values, Release, Done, Refused}
 use Names.{reader_owed, Log, active, log_view, stream_of_log, when, owed_on, Conn, ConnRepresents}
-use Names.{ConnAnswers, End, EndLog, Span, EndRepresents, IsNextIn, IsTypedAct, owed, MayReleaseAll}
-use Names.{is_some, Ok, Err, EndReleases}
+use Names.{ConnAnswers, End, EndLog, Span, EndRepresents, IsNextIn, IsTypedAct, owed}
+use Names.{MayReleaseAll, is_some, Ok, Err, EndReleases}
 use Rattle.h2_ends.proofs.PumpSteps.{next_kept, none_active}
 use Rattle.h2_ends.proofs.ReleaseSteps.{IsReleasing, release_begins, release_comes, release_passes}
 use Rattle.h2_ends.proofs.ReleaseSteps.{release_goes_on, release_ends, release_is_refused}

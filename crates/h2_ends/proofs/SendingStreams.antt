@@ -1,52 +1,53 @@
 -- One stream of a pump: what the end keeps of it is written back once sending on it stops.
 use Rattle.h2_ends.proofs.Names
 use Names.{◌≡◌, ◌≢◌, inl, inr, ℕ, ◌==◌, Bool, true, Option, Some, ◌+◌, ◌≤◌, if◌then◌else◌, refl}
-use Names.{sym, ap, ◌∙◌, subst, cases_eq, nat_cmp, is_eq, unsigned_tied, Refusal, OutputFull}
+use Names.{sym, ap, ◌∙◌, subst, cases_eq, nat_eq, nat_eq_equiv, Refusal, OutputFull}
 use Names.{Memory, Values, full_output, active, waiting, Conn, End, Stream, Waiting, SendState}
 use Names.{Idle, Sent, Stuck, Full, EndLog, IsStuckOn, IsInStep, KeepsActive, outgoing_in}
 use Names.{with_outgoing, keeps_with, IsPumping, IsStopped, LacksSpace, KeepsActiveOnly}
 use Names.{KeepsActiveBut, Sends, PumpsOn, PumpGoes, NoneWaits, WaitsAsBefore, keeps_of, HasGone}
-use Names.{HasPumped, IsPumped, Result, Ok, Err, nat_cmp_total, eq_by_cmp_equiv}
-use Rattle.std.specs.BTreeMap.{BTreeMap, WritesThrough, get_by}
+use Names.{HasPumped, IsPumped, Result, Ok, Err, kept_at}
+use Rattle.h2_numbers.specs.Entries.{NumberEntries}
+use Rattle.h2_numbers.specs.Lends.{WritesThrough}
 use Rattle.h2_ends.proofs.PumpCalls.{pump_keeps, pump_passes}
 use Rattle.h2_ends.proofs.PumpEnds.{same_by, stuck_unless_waiting, to_end}
 use Rattle.h2_ends.proofs.PumpSends.{send_begins, sent_is_stuck, none_waits_sent}
 use Rattle.h2_ends.specs.declared.outgoing.Outgoing.TheVariants as outgoings
 
 -- A number is found by its own test.
-test_of : (id i : ℕ) → is_eq (nat_cmp id i) ≡ (i == id)
-test_of id i = (eq_by_cmp_equiv nat_cmp_total).symm id i ∙ unsigned_tied i id
+test_of : (id i : ℕ) → nat_eq id i ≡ (i == id)
+test_of id i = nat_eq_equiv.symm id i
 
 -- What the map keeps once a stream was written through what it lent.
-pub written : (old new : BTreeMap ℕ Stream) (id : ℕ) (one stream : Stream) (i : ℕ)
-    → get_by (nat_cmp id) old ≡ Some one → WritesThrough nat_cmp (nat_cmp id) old stream new
-    → get_by (nat_cmp i) new ≡ keeps_with (λ j. get_by (nat_cmp j) old) id stream i
+pub written : (old new : NumberEntries Stream) (id : ℕ) (one stream : Stream) (i : ℕ)
+    → kept_at id old.entries ≡ Some one → WritesThrough id old stream new
+    → kept_at i new.entries ≡ keeps_with (λ j. kept_at j old.entries) id stream i
 written old new id one stream i here writes =
-    (writes.3 (rw here refl)).0 i
-    ∙ ap (λ (b : Bool). if b then Some stream else get_by (nat_cmp i) old) (test_of id i)
+    writes.changes (rw here refl) i
+    ∙ ap (λ (b : Bool). if b then Some stream else kept_at i old.entries) (test_of id i)
 
 -- It keeps the same if that is what was there.
-pub unwritten : (old new : BTreeMap ℕ Stream) (id : ℕ) (one : Stream) (i : ℕ)
-    → get_by (nat_cmp id) old ≡ Some one → WritesThrough nat_cmp (nat_cmp id) old one new
-    → get_by (nat_cmp i) new ≡ get_by (nat_cmp i) old
+pub unwritten : (old new : NumberEntries Stream) (id : ℕ) (one : Stream) (i : ℕ)
+    → kept_at id old.entries ≡ Some one → WritesThrough id old one new
+    → kept_at i new.entries ≡ kept_at i old.entries
 unwritten old new id one i here writes =
     written old new id one one i here writes
-    ∙ sym (same_by (λ j. get_by (nat_cmp j) old) id one i (i == id) refl here)
+    ∙ sym (same_by (λ j. kept_at j old.entries) id one i (i == id) refl here)
 
 -- an end with another connection and other streams
-abbrev pub with_streams : End → Conn → BTreeMap ℕ Stream → End
+abbrev pub with_streams : End → Conn → NumberEntries Stream → End
 with_streams end conn streams = record end { conn = conn; streams = streams }
 
 -- Where the same is kept, messages wait as before.
-pub all_as : (old : End) (conn : Conn) (streams : BTreeMap ℕ Stream) (id : ℕ)
-    → ((i : ℕ) → get_by (nat_cmp i) streams ≡ keeps_of old i)
+pub all_as : (old : End) (conn : Conn) (streams : NumberEntries Stream) (id : ℕ)
+    → ((i : ℕ) → kept_at i streams.entries ≡ keeps_of old i)
     → WaitsAsBefore old (with_streams old conn streams) id
 all_as old conn streams id same = record { spans = refl; others = λ i other. same i }
 
 module _ (old : End) (id count : ℕ) where
   -- On a stream on which nothing waits, nothing could go.
-  pub none_goes : (streams : BTreeMap ℕ Stream)
-      → ((i : ℕ) → get_by (nat_cmp i) streams ≡ keeps_of old i) → NoneWaits old id
+  pub none_goes : (streams : NumberEntries Stream)
+      → ((i : ℕ) → kept_at i streams.entries ≡ keeps_of old i) → NoneWaits old id
       → PumpsOn old id count (Ok Idle) (with_streams old old.conn streams) count
   unfolding HasPumped
   none_goes streams same other = λ values start happened is active alive.
@@ -68,14 +69,14 @@ module _ (old : End) (id count : ℕ) where
 
   module _ (stream : Stream) (waits : Waiting) (here : keeps_of old id ≡ Some stream)
       (waiting_is : stream.outgoing ≡ outgoings.Waiting waits) (conn : Conn) (left : Waiting)
-      (sum : ℕ) (streams : BTreeMap ℕ Stream) where
+      (sum : ℕ) (streams : NumberEntries Stream) where
     -- what the end is then
     abbrev new_end : End
     new_end = with_streams old conn streams
 
     -- Another stream was written through what the map lent.
     abbrev pub Writes : Stream → Type 0
-    Writes other = WritesThrough nat_cmp (nat_cmp id) old.streams other streams
+    Writes other = WritesThrough id old.streams other streams
 
     written_so : (other : Stream) → Writes other → (i : ℕ)
         → keeps_of new_end i ≡ keeps_with (keeps_of old) id other i

@@ -1,53 +1,35 @@
--- What a share makes of an end, by what its calls answer.
+-- What a share of octets makes of an end, by what its calls answer.
 use Rattle.h2_ends.proofs.Names
-use Names.{◌≡◌, ◌≢◌, ◌⊎◌, inl, inr, ℕ, ◌+◌, ◌-◌, ◌<◌, ◌≤◌, ◌==◌, ◌&&◌, Bool, true, false, List, []}
-use Names.{◌∷◌}
-use Names.{length, take, Option, Some, None, refl, sym, ap, ◌∙◌, arith, min, nat_cmp, length-drop}
-use Names.{Values, Act, Answer, IsTypedAct, SendFields, SendData, Count, Done, Refused, MayAnswer}
-use Names.{with_call, active, waiting, Log, Refusal, Conn, ConnRepresents}
-use Names.{ConnAnswers, End, Stream, Waiting, SendState, Sent, Stuck, Full, EndLog, Result, Ok}
-use Names.{StopsBy, end_after_call, with_outgoing, keeps_of, KeepsOne, EndRepresents}
-use Names.{WaitsAsBefore, outgoing_in, is_none, option_map, Field}
-use Names.{LacksSpace, subst, Vec, Global, ◌↔◌, take-length, nat_tests}
-use Names.{BodyWaits}
+use Names.{◌≡◌, ◌≢◌, ◌⊎◌, inl, inr, ℕ, ◌+◌, ◌-◌, ◌<◌, ◌≤◌, ◌==◌, ◌&&◌, Bool, true, false, List}
+use Names.{length, take, Option, Some, None, refl, sym, ap, ◌∙◌, arith, min, length-drop, Values}
+use Names.{Act, Answer, IsTypedAct, SendFields, SendData, Count, Done, Refused, MayAnswer}
+use Names.{with_call, active, waiting, Log, Refusal, Conn, ConnRepresents, ConnAnswers, End}
+use Names.{Stream, Waiting, SendState, Sent, Stuck, Full, EndLog, Result, Ok, StopsBy}
+use Names.{end_after_call, with_outgoing, keeps_of, EndRepresents, outgoing_in, is_none}
+use Names.{option_map, Field, subst, Vec, Global, ◌↔◌, take-length, nat_tests, BodyWaits}
 use Rattle.std.specs.Prelude.{nat_le}
-use Rattle.std.specs.BTreeMap.{BTreeMap, WritesThrough}
+use Rattle.h2_numbers.specs.Entries.{NumberEntries}
+use Rattle.h2_numbers.specs.Lends.{WritesThrough}
 use Rattle.std.proofs.Common.{length-take, take_all}
 use Rattle.h2_laws_machine.proofs.BoundedLogs.{few_wait}
 use Rattle.h2_ends.specs.declared.passing.Pass.{Pass}
-use Rattle.h2_ends.specs.Passes.{Waits, IsSpent, Halt, CutShort, Stopped, Shares, share_act}
+use Rattle.h2_ends.specs.Passes.{IsSpent, Halt, CutShort, Stopped, Shares, share_act}
 use Rattle.h2_ends.specs.Passes.{shares_octets, shares_some, share_is_cut, shares_rest}
-use Rattle.h2_ends.specs.Passes.{shares_trailers, octets_refused, list_refused, IsNoError}
+use Rattle.h2_ends.specs.Passes.{shares_trailers, octets_refused, list_refused, IsNoError, rest_of}
 unfoldable use Rattle.h2_ends.specs.Passing.{IsShared}
-use Rattle.h2_ends.specs.Passing.{GivesShare, HasShare, SendsShare, stream_left, size_of}
-use Rattle.h2_ends.specs.Passing.{IsSamePass}
-use Rattle.h2_ends.specs.Passes.{rest_of}
-use Rattle.h2_ends.proofs.PumpEnds.{keeps_here, keeps_other}
+use Rattle.h2_ends.specs.Passing.{GivesShare, HasShare, size_of, IsSamePass}
 use Rattle.h2_ends.proofs.PumpSends.{data_closes_none}
 use Rattle.h2_ends.proofs.PumpTokens.{octets_left, sent_more, body_waits, trailers_wait}
-use Rattle.h2_ends.proofs.PumpTokens.{trailers_left, waiting_is_kept, some_kept, trailers_fit}
-use Rattle.h2_ends.proofs.PumpTokens.{waiting_goes_on}
+use Rattle.h2_ends.proofs.PumpTokens.{trailers_fit, waiting_goes_on}
 use Rattle.h2_ends.proofs.PumpWindows.{data_waits, data_failed, fields_wait, fields_failed}
 use Rattle.h2_ends.proofs.PumpWindows.{refused_waits, refused_failed, data_within}
 use Rattle.h2_ends.proofs.RequestSteps.{refused_fields_keep}
-use Rattle.h2_ends.proofs.SendingStreams.{with_streams, written}
+use Rattle.h2_ends.proofs.SendingStreams.{with_streams}
 use Rattle.h2_ends.proofs.ShareSteps.{waiting_here, share_goes, share_ends, list_goes}
 use Rattle.h2_ends.proofs.ShareSteps.{share_refused, below_or}
 use Rattle.h2_ends.specs.declared.outgoing.Outgoing.TheVariants as outgoings
 use Rattle.h2_ends.proofs.PumpRefusals as refused
-
--- What the end keeps once a stream was written.
-pub keeps_written : (old : End) (conn : Conn) (streams : BTreeMap ℕ Stream) (id : ℕ)
-    (one stream : Stream) → keeps_of old id ≡ Some one
-    → WritesThrough nat_cmp (nat_cmp id) old.streams stream streams
-    → KeepsOne old (with_streams old conn streams) id (Some stream)
-keeps_written old conn streams id one stream here writes =
-    record {
-      one = written old.streams streams id one stream id here writes
-          ∙ keeps_here (keeps_of old) id stream;
-      others = λ i other. written old.streams streams id one stream i here writes
-          ∙ keeps_other (keeps_of old) id stream i other;
-    }
+use Rattle.h2_ends.proofs.ShareTrailers.{keeps_written, rest_by, stopped_at, waits_now, gives}
 
 -- So few octets wait that a sum that they bound is exact.
 exact : (count n total few : ℕ) → total ≡ min (count + n) 18446744073709551615
@@ -62,25 +44,6 @@ more_left most left n sent size all is some more = omega (arith, all, is, some, 
 -- The message goes on after a share without the last octets.
 not_last : (none : Bool) (n size : ℕ) → n < size → (none && n == size) ≡ false
 not_last none n size fewer = grind (arith, nat_tests)
-
--- What the share has left is what the pass says, where it ended there.
-rest_by : (halt stop : Halt) (rest : ℕ) → rest ≡ rest_of halt → Some halt ≡ Some stop
-    → rest ≡ rest_of stop
-rest_by halt stop rest is same = is ∙ ap rest_of (let one : halt ≡ stop = cc in one)
-
--- A call was refused: the pass ends there.
-stopped_at : (values : Values) (happened : EndLog) (id : ℕ) (pass then : Pass) (refusal : Refusal)
-    (result : Result SendState Refusal) → StopsBy refusal result → (new : End) (after : EndLog)
-    (log : Log) (rest : ℕ) → HasShare happened id pass then (Some (Stopped refusal rest)) after
-    → EndRepresents values new after → LacksSpace log refusal
-    → IsShared values happened id pass result new then after
-unfolding IsShared IsNoError
-stopped_at values happened id pass then refusal result (inl (full, is)) new after log rest has
-    represents lacks = rw is (Stopped refusal rest, has, full, represents)
-stopped_at values happened id pass then refusal result (inr (other, is)) new after log rest has
-    represents (inl (full, wait)) = absurd (other full)
-stopped_at values happened id pass then refusal result (inr (other, is)) new after log rest has
-    represents (inr memory) = rw is (rest, has, memory, represents)
 
 -- The octets that a share hands over, and whether the end is among them, as the code has them.
 pub share_octets : (most : ℕ) (octets rest : List ℕ) (size : ℕ) → rest ≡ octets
@@ -137,44 +100,6 @@ module _ (old : End) (id : ℕ) (pass then : Pass) (stream : Stream) (waits : Wa
   abbrev share : Act
   share = share_act most id rest (is_none waits.trailers)
 
-  -- Something waits.
-  waits_now : (values : Values) (happened : EndLog) → EndRepresents values old happened
-      → active happened.log id ≡ true → Waits happened id
-  waits_now values happened is alive =
-      record {
-        active = alive;
-        some = λ none.
-            let kept = waiting_is_kept happened id waits
-            (waiting_here values old happened id stream waits is here alive outgoing) in
-            let some = some_kept waits in
-            let wrong : [] ≡ some.0 ∷ some.1 = sym none ∙ kept ∙ some.2 in cc;
-      }
-
-  as_before : (conn : Conn) (streams : BTreeMap ℕ Stream) (next : Stream)
-      → WritesThrough nat_cmp (nat_cmp id) old.streams next streams
-      → WaitsAsBefore old (with_streams old conn streams) id
-  as_before conn streams next writes =
-      record {
-        spans = refl;
-        others = (keeps_written old conn streams id stream next here writes).others;
-      }
-
-  gives : (conn : Conn) (streams : BTreeMap ℕ Stream) (next : Stream)
-      (result : Result SendState Refusal)
-      → WritesThrough nat_cmp (nat_cmp id) old.streams next streams
-      → ((values : Values) (happened : EndLog) → EndRepresents values old happened
-      → happened.log.failed ≡ None → active happened.log id ≡ true
-      → pass.count ≤ waiting happened.log
-      → (after : EndLog) × IsShared values happened id pass result (with_streams old conn streams)
-      then after) → GivesShare old id pass result (with_streams old conn streams) then
-  gives conn streams next result writes shared =
-      record {
-        waits = as_before conn streams next writes;
-        same = goes;
-        left = left;
-        shared = shared;
-      }
-
   module _ (some : waits.sent < length waits.body.items) (typed : IsTypedAct share) where
     -- Octets were sent.
     module _ (n : ℕ) (conn : Conn) (answers : ConnAnswers old.conn share (Count n) conn)
@@ -194,7 +119,8 @@ module _ (old : End) (id : ℕ) (pass then : Pass) (stream : Stream) (waits : Wa
           both.1.machine.came in
           let total = exact pass.count n then.count _ sum (omega (arith, more, few)) bound in
           record {
-            waits = waits_now values happened is alive;
+            waits = waits_now old id pass then stream waits here outgoing goes left
+                values happened is alive;
             sent = n;
             shares = shares;
             rest = rests;
@@ -216,8 +142,8 @@ module _ (old : End) (id : ℕ) (pass then : Pass) (stream : Stream) (waits : Wa
           data_within happened.log id (take most rest) (is_none waits.trailers
           && nat_le (length rest) most) n (answers values happened.log is.streams.conn).0
 
-      module _ (streams : BTreeMap ℕ Stream)
-          (writes : WritesThrough nat_cmp (nat_cmp id) old.streams
+      module _ (streams : NumberEntries Stream)
+          (writes : WritesThrough id old.streams
           (with_outgoing stream (outgoings.Waiting (sent_more waits n))) streams) where
         -- and others wait still.
         goes_on : (values : Values) (happened : EndLog) → EndRepresents values old happened
@@ -238,7 +164,8 @@ module _ (old : End) (id : ℕ) (pass then : Pass) (stream : Stream) (waits : Wa
             → GivesShare old id pass (Ok state) (with_streams old conn streams) then
         unfolding IsShared IsNoError
         some_octets state left_is fewer spent (inl full) =
-            gives conn streams _ (Ok state) writes (λ values happened is up alive few.
+            gives old id pass then stream waits here outgoing goes left conn streams _ (Ok state)
+            writes (λ values happened is up alive few.
             let size = length-take most rest in
             let both = answers values happened.log is.streams.conn in
             rw full (
@@ -257,7 +184,8 @@ module _ (old : End) (id : ℕ) (pass then : Pass) (stream : Stream) (waits : Wa
               ),
             ))
         some_octets state left_is fewer spent (inr stuck) =
-            gives conn streams _ (Ok state) writes (λ values happened is up alive few.
+            gives old id pass then stream waits here outgoing goes left conn streams _ (Ok state)
+            writes (λ values happened is up alive few.
             let size = length-take most rest in
             let both = answers values happened.log is.streams.conn in
             rw stuck (
@@ -279,7 +207,8 @@ module _ (old : End) (id : ℕ) (pass then : Pass) (stream : Stream) (waits : Wa
             → GivesShare old id pass (Ok Stuck) (with_streams old conn streams) then
         unfolding IsShared
         all_octets all more =
-            gives conn streams _ (Ok Stuck) writes (λ values happened is up alive few.
+            gives old id pass then stream waits here outgoing goes left conn streams _ (Ok Stuck)
+            writes (λ values happened is up alive few.
             let size = length-take most rest in
             let is_left = length-drop waits.sent waits.body.items in
             let both = answers values happened.log is.streams.conn in (
@@ -297,14 +226,15 @@ module _ (old : End) (id : ℕ) (pass then : Pass) (stream : Stream) (waits : Wa
             ))
 
       -- The last octets went, and the end with them.
-      pub last_octets : (streams : BTreeMap ℕ Stream)
-          → WritesThrough nat_cmp (nat_cmp id) old.streams (with_outgoing stream outgoings.Sent)
+      pub last_octets : (streams : NumberEntries Stream)
+          → WritesThrough id old.streams (with_outgoing stream outgoings.Sent)
           streams → n ≡ length (take most rest) → length waits.body.items ≤ waits.sent + n
           → waits.trailers ≡ None
           → GivesShare old id pass (Ok Sent) (with_streams old conn streams) then
       unfolding IsShared
       last_octets streams writes all none no_trailers =
-          gives conn streams _ (Ok Sent) writes (λ values happened is up alive few.
+          gives old id pass then stream waits here outgoing goes left conn streams _ (Ok Sent)
+          writes (λ values happened is up alive few.
           let size = length-take most rest in
           let is_left = length-drop waits.sent waits.body.items in
           let both = answers values happened.log is.streams.conn in
@@ -316,9 +246,9 @@ module _ (old : End) (id : ℕ) (pass then : Pass) (stream : Stream) (waits : Wa
                   (shares_octets happened rest (is_none waits.trailers) n typed
                   (body_now values happened is alive) both.0 all (inr ends)),
               none_sent keeps.one,
-              share_ends values old (with_streams old conn streams) happened id stream waits is here
-                  alive outgoing refl refl most n (within_share values happened is) some both.0
-                  both.1 keeps ends (omega (arith, all, size, is_left, none, some)),
+              share_ends values old (with_streams old conn streams) happened id stream waits
+                  is here alive outgoing refl refl most n (within_share values happened is) some
+                  both.0 both.1 keeps ends (omega (arith, all, size, is_left, none, some)),
             ),
           ))
         where
@@ -327,8 +257,8 @@ module _ (old : End) (id : ℕ) (pass then : Pass) (stream : Stream) (waits : Wa
           none_sent same other is = cc
 
       -- Trailers follow, once no octets are left.
-      module _ (streams mid_streams : BTreeMap ℕ Stream)
-          (mid_writes : WritesThrough nat_cmp (nat_cmp id) old.streams
+      module _ (streams mid_streams : NumberEntries Stream)
+          (mid_writes : WritesThrough id old.streams
           (with_outgoing stream (outgoings.Waiting (sent_more waits n))) mid_streams)
           (all : n ≡ length (take most rest)) (none : length waits.body.items ≤ waits.sent + n)
           (list : List Field) (list_typed : IsTypedAct (SendFields id list true))
@@ -415,7 +345,8 @@ module _ (old : End) (id : ℕ) (pass then : Pass) (stream : Stream) (waits : Wa
             both.1.machine.came in
             let total = exact pass.count n then.count _ sum (omega (arith, grows, few)) bound in
             record {
-              waits = waits_now values happened is alive;
+              waits = waits_now old id pass then stream waits here outgoing goes left
+                  values happened is alive;
               sent = n;
               shares = shares_both values happened halt after is alive shares;
               rest = rests;
@@ -427,11 +358,12 @@ module _ (old : End) (id : ℕ) (pass then : Pass) (stream : Stream) (waits : Wa
 
         -- They were sent,
         pub both_go : ConnAnswers conn (SendFields id list true) Done last
-            → WritesThrough nat_cmp (nat_cmp id) old.streams (with_outgoing stream outgoings.Sent)
+            → WritesThrough id old.streams (with_outgoing stream outgoings.Sent)
             streams → GivesShare old id pass (Ok Sent) (with_streams old last streams) then
         unfolding IsShared
         both_go answered writes =
-            gives last streams _ (Ok Sent) writes (λ values happened is up alive few.
+            gives old id pass then stream waits here outgoing goes left last streams _ (Ok Sent)
+            writes (λ values happened is up alive few.
             let mid = end_after_call happened share (Count n) in
             let begun = first values happened is alive in
             let live = stays values happened is alive in
@@ -444,8 +376,9 @@ module _ (old : End) (id : ℕ) (pass then : Pass) (stream : Stream) (waits : Wa
             are in (
               end_after_call mid (SendFields id list true) Done,
               (
-                has_both values happened (end_after_call mid (SendFields id list true) Done) None is
-                    up alive few (λ stop none. cc) (shares_trailers mid list list_typed wait both.0)
+                has_both values happened (end_after_call mid (SendFields id list true) Done) None
+                    is up alive few (λ stop none. cc)
+                    (shares_trailers mid list list_typed wait both.0)
                     (fields_wait mid.log id list true begun.streams.conn.machine.output.given)
                     (fields_failed mid.log id list true),
                 none_sent keeps.one,
@@ -466,11 +399,12 @@ module _ (old : End) (id : ℕ) (pass then : Pass) (stream : Stream) (waits : Wa
         pub list_stopped : (refusal : Refusal) (result : Result SendState Refusal)
             → StopsBy refusal result → then.rest ≡ 0
             → ConnAnswers conn (SendFields id list true) (Refused refusal) last →
-            WritesThrough nat_cmp (nat_cmp id) old.streams
+            WritesThrough id old.streams
             (with_outgoing stream (outgoings.Waiting (sent_more waits n))) streams
             → GivesShare old id pass result (with_streams old last streams) then
         list_stopped refusal result stops none_left_of answered writes =
-            gives last streams _ result writes (λ values happened is up alive few.
+            gives old id pass then stream waits here outgoing goes left last streams _ result
+            writes (λ values happened is up alive few.
             let mid = end_after_call happened share (Count n) in
             let act = SendFields id list true in
             let after = end_after_call mid act (Refused refusal) in
@@ -504,15 +438,16 @@ module _ (old : End) (id : ℕ) (pass then : Pass) (stream : Stream) (waits : Wa
             ))
 
     -- The octets were refused.
-    pub octets_stopped : (conn : Conn) (streams : BTreeMap ℕ Stream) (refusal : Refusal)
+    pub octets_stopped : (conn : Conn) (streams : NumberEntries Stream) (refusal : Refusal)
         (result : Result SendState Refusal) → StopsBy refusal result
         → ConnAnswers old.conn share (Refused refusal) conn → then.count ≡ pass.count
         → then.rest ≡ most
-        → WritesThrough nat_cmp (nat_cmp id) old.streams
+        → WritesThrough id old.streams
         (with_outgoing stream (outgoings.Waiting waits)) streams
         → GivesShare old id pass result (with_streams old conn streams) then
     octets_stopped conn streams refusal result stops answers same whole writes =
-        gives conn streams _ result writes (λ values happened is up alive few.
+        gives old id pass then stream waits here outgoing goes left conn streams _ result
+        writes (λ values happened is up alive few.
         let after = end_after_call happened share (Refused refusal) in
         let both = answers values happened.log is.streams.conn in
         let keeps = keeps_written old conn streams id stream _ here writes in
@@ -522,7 +457,8 @@ module _ (old : End) (id : ℕ) (pass then : Pass) (stream : Stream) (waits : Wa
           after,
           stopped_at values happened id pass then refusal result stops
               (with_streams old conn streams) after _ most (record {
-                waits = waits_now values happened is alive;
+                waits = waits_now old id pass then stream waits here outgoing goes left
+                    values happened is alive;
                 sent = 0;
                 shares = octets_refused happened rest (is_none waits.trailers) refusal typed
                     (body_waits happened id waits waiting_is some) both.0;
@@ -537,144 +473,3 @@ module _ (old : End) (id : ℕ) (pass then : Pass) (stream : Stream) (waits : Wa
               (waiting_goes_on _ values happened id waits is.streams.conn.machine.came waiting_is)
               both.0),
         ))
-
-  -- No octets are left.
-  module _ (none : length waits.body.items ≤ waits.sent) (same : then.count ≡ pass.count) where
-    -- So trailers are.
-    pub nothing_left : (conn : Conn) (streams : BTreeMap ℕ Stream) (next : Stream)
-        → waits.trailers ≡ None → WritesThrough nat_cmp (nat_cmp id) old.streams next streams
-        → GivesShare old id pass (Ok Sent) (with_streams old conn streams) then
-    nothing_left conn streams next no_trailers writes =
-        gives conn streams next (Ok Sent) writes (λ values happened is up alive few.
-        absurd (trailers_left happened id waits
-        (waiting_here values old happened id stream waits is here alive outgoing) none no_trailers))
-
-    module _ (list : List Field) (typed : IsTypedAct (SendFields id list true))
-        (are : option_map (λ one. one.items) waits.trailers ≡ Some list) (conn : Conn)
-        (streams : BTreeMap ℕ Stream) where
-      no_octets : length (octets_left waits) ≡ 0
-      no_octets =
-          let is_left = length-drop waits.sent waits.body.items in omega (arith, is_left, none)
-
-      -- They were sent,
-      pub list_sent : ConnAnswers old.conn (SendFields id list true) Done conn
-          → WritesThrough nat_cmp (nat_cmp id) old.streams (with_outgoing stream outgoings.Sent)
-          streams → GivesShare old id pass (Ok Sent) (with_streams old conn streams) then
-      unfolding IsShared
-      list_sent answers writes =
-          gives conn streams _ (Ok Sent) writes (λ values happened is up alive few.
-          let act = SendFields id list true in
-          let both = answers values happened.log is.streams.conn in
-          let keeps = keeps_written old conn streams id stream _ here writes in
-          let waiting_is = waiting_here values old happened id stream waits is here alive outgoing
-          in
-          let more = fields_wait happened.log id list true is.streams.conn.machine.output.given in (
-            end_after_call happened act Done,
-            (
-              record {
-                waits = waits_now values happened is alive;
-                sent = 0;
-                shares = shares_trailers happened list typed
-                    (trailers_wait happened id waits list waiting_is no_octets are) both.0;
-                rest = λ stop none. cc;
-                sum = omega (arith, same);
-                few = omega (arith, same, few, more);
-                up = fields_failed happened.log id list true ∙ up;
-              },
-              none_sent keeps.one,
-              list_goes values old (with_streams old conn streams) happened id stream waits is here
-                  alive outgoing refl refl list no_octets are both.0 both.1 keeps,
-            ),
-          ))
-        where
-          none_sent : {kept : Option Stream} → kept ≡ Some (with_outgoing stream outgoings.Sent)
-              → (other : Waiting) → outgoing_in kept ≢ outgoings.Waiting other
-          none_sent same other is = cc
-
-      -- or refused.
-      pub list_is_stopped : (refusal : Refusal) (result : Result SendState Refusal)
-          → StopsBy refusal result → then.rest ≡ 0 → ConnAnswers old.conn
-          (SendFields id list true) (Refused refusal) conn → WritesThrough nat_cmp
-          (nat_cmp id) old.streams
-          (with_outgoing stream (outgoings.Waiting waits)) streams
-          → GivesShare old id pass result (with_streams old conn streams) then
-      list_is_stopped refusal result stops none_left_of answers writes =
-          gives conn streams _ result writes (λ values happened is up alive few.
-          let act = SendFields id list true in
-          let after = end_after_call happened act (Refused refusal) in
-          let both = answers values happened.log is.streams.conn in
-          let keeps = keeps_written old conn streams id stream _ here writes in
-          let waiting_is = waiting_here values old happened id stream waits is here alive outgoing
-          in
-          let kept_on = refused_waits happened.log act refusal in (
-            after,
-            stopped_at values happened id pass then refusal result stops
-                (with_streams old conn streams) after _ 0 (record {
-                  waits = waits_now values happened is alive;
-                  sent = 0;
-                  shares = list_refused happened list refusal typed
-                      (trailers_wait happened id waits list waiting_is no_octets are) both.0;
-                  rest = λ stop is_that. rest_by
-                      (Stopped refusal 0) stop then.rest none_left_of is_that;
-                  sum = omega (arith, same);
-                  few = omega (arith, same, few, kept_on);
-                  up = refused_failed happened.log act refusal ∙ up;
-                }) (share_refused values old (with_streams old conn streams) happened id stream
-                waits is here alive outgoing refl refl act refusal both.0 both.1 keeps
-                (λ i. refused_fields_keep i id list true refusal))
-                (refused.fields_refused happened.log id list true refusal up alive
-                (waiting_goes_on _ values happened id waits is.streams.conn.machine.came waiting_is)
-                (trailers_fit happened id waits list waiting_is are) both.0),
-          ))
-
--- What sending is said to make of a state that is the same.
-pub sent_as : (conn new : Conn) (id : ℕ) (waits left : Waiting) (pass then : Pass)
-    (state other : SendState) → state ≡ other
-    → SendsShare conn id waits pass (Ok state) new left then
-    → SendsShare conn id waits pass (Ok other) new left then
-sent_as conn new id waits left pass then state other same sends =
-    subst (λ (s : SendState). SendsShare conn id waits pass (Ok s) new left then) same sends
-
--- Where a call was refused, what is left of the message is kept.
-pub as_left : (old : End) (id : ℕ) (pass then : Pass) (conn : Conn) (stream : Stream)
-    (lend : Stream → BTreeMap ℕ Stream) (refusal : Refusal) (result : Result SendState Refusal)
-    (waits : Waiting) → StopsBy refusal result
-    → GivesShare old id pass result
-    (with_streams old conn (lend (with_outgoing stream (outgoings.Waiting waits)))) then
-    → GivesShare old id pass result
-    (with_streams old conn (lend (stream_left stream result waits))) then
-as_left old id pass then conn stream lend refusal result waits (inl (full, is)) gives =
-    rw is (rw is at gives)
-as_left old id pass then conn stream lend refusal result waits (inr (other, is)) gives =
-    rw is (rw is at gives)
-
--- What the tests say of numbers of octets.
-pub all_by : {size n : ℕ} → (most : ℕ) (rest left part whole : List ℕ) → size ≤ n
-    → size ≡ min (length rest) most → length whole ≡ min most (length left)
-    → length rest ≡ length left → n ≤ length part → length part ≡ length whole
-    → n ≡ length whole
-all_by most rest left part whole few least size same within is_part = omega
-    (arith, few, least, size, same, within, is_part)
-
--- The trailers are the same.
-pub trailers_as : {one other : Option (Vec Field Global)} → {list : List Field} → one ≡ other
-    → option_map (λ fields. fields.items) other ≡ Some list
-    → option_map (λ fields. fields.items) one ≡ Some list
-trailers_as same are = rw same are
-
--- So it is where fewer octets went than a share has.
-pub as_state : (old : End) (id : ℕ) (pass then : Pass) (conn : Conn) (stream : Stream)
-    (lend : Stream → BTreeMap ℕ Stream) (state : SendState) (waits : Waiting)
-    → (state ≡ Full) ⊎ (state ≡ Stuck) → GivesShare old id pass (Ok state)
-    (with_streams old conn (lend (with_outgoing stream (outgoings.Waiting waits)))) then
-    → GivesShare old id pass (Ok state)
-    (with_streams old conn (lend (stream_left stream (Ok state) waits))) then
-as_state old id pass then conn stream lend state waits (inl full) gives =
-    rw full (rw full at gives)
-as_state old id pass then conn stream lend state waits (inr stuck) gives =
-    rw stuck (rw stuck at gives)
-
--- Of the same connection the same is answered.
-pub for_conn : {one other : Conn} → (new : Conn) → {act : Act} → {answer : Answer} → one ≡ other
-    → ConnAnswers other act answer new → ConnAnswers one act answer new
-for_conn new same answers = rw same answers

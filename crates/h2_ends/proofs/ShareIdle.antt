@@ -1,11 +1,11 @@
 -- A stream on which nothing waits gets no share.
 use Rattle.h2_ends.proofs.Names
 use Names.{◌≡◌, ◌≢◌, inl, inr, ℕ, [], Option, Some, refl, sym, ap, ◌∙◌, both_ways}
-use Names.{drop-append_seam, append-nil, drop, length, nat_cmp, Values}
+use Names.{drop-append_seam, append-nil, drop, length, kept_at, Values}
 use Names.{Said, End, Stream, Waiting, Outgoing, Idle, EndLog, Ok, said_for}
 use Names.{said_tokens, tokens_out, tokens_waiting, keeps_of, EndRepresents, IsOutgoing}
 use Names.{outgoing_in, NoneWaits, subst, KeepsActive, IsInStep}
-use Rattle.std.specs.BTreeMap.{BTreeMap, get_by}
+use Rattle.h2_numbers.specs.Entries.{NumberEntries}
 use Rattle.h2_ends.specs.declared.passing.Pass.{Pass}
 use Rattle.h2_ends.specs.Passes.{Waits}
 unfoldable use Rattle.h2_ends.specs.Passing.{IsShared}
@@ -42,8 +42,8 @@ none_waits values end happened i is none waits = elim (is.streams.streams i) [
 ]
 
 -- An end that keeps the same of each stream represents the same.
-pub same_represents : (values : Values) (old : End) (streams : BTreeMap ℕ Stream)
-    (happened : EndLog) → ((i : ℕ) → get_by (nat_cmp i) streams ≡ keeps_of old i)
+pub same_represents : (values : Values) (old : End) (streams : NumberEntries Stream)
+    (happened : EndLog) → ((i : ℕ) → kept_at i streams.entries ≡ keeps_of old i)
     → EndRepresents values old happened
     → EndRepresents values (with_streams old old.conn streams) happened
 same_represents values old streams happened same is =
@@ -57,8 +57,8 @@ same_represents values old streams happened same is =
     }
 
 -- The pass goes on past it.
-pub idle_share : (old : End) (id : ℕ) (pass : Pass) (streams : BTreeMap ℕ Stream)
-    → ((i : ℕ) → get_by (nat_cmp i) streams ≡ keeps_of old i) → NoneWaits old id
+pub idle_share : (old : End) (id : ℕ) (pass : Pass) (streams : NumberEntries Stream)
+    → ((i : ℕ) → kept_at i streams.entries ≡ keeps_of old i) → NoneWaits old id
     → GivesShare old id pass (Ok Idle) (with_streams old old.conn streams) pass
 unfolding IsShared
 idle_share old id pass streams same none =

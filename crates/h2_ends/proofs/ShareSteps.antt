@@ -156,7 +156,8 @@ module _ (values : Values) (old new : End) (end : EndLog) (id : ℕ) (stream : S
 
   -- A call on the stream.
   called_there : (act : Act) (answer : Answer) (left : Outgoing)
-      → MayAnswer end.log act answer → ConnRepresents values new.conn (with_call end.log act answer)
+      → MayAnswer end.log act answer
+      → ConnRepresents values new.conn (with_call end.log act answer)
       → KeepsOne old new id (Some (with_outgoing stream left))
       → ((i : ℕ) → i ≢ id → tokens_of_call i act answer ≡ []) → ((i : ℕ) → answer ≢ Number i)
       → ((i : ℕ) → i ≢ id → call_may_close i act answer ≡ false)
@@ -190,7 +191,8 @@ module _ (values : Values) (old new : End) (end : EndLog) (id : ℕ) (stream : S
     module _ (may : MayAnswer end.log act (Count n))
         (conn : ConnRepresents values new.conn (with_call end.log act (Count n))) where
       shared : (left : Outgoing) → KeepsOne old new id (Some (with_outgoing stream left))
-          → IsOutgoing (end_after_call end (SendData id rest (is_none waits.trailers)) (Count n)) id
+          → IsOutgoing
+          (end_after_call end (SendData id rest (is_none waits.trailers)) (Count n)) id
           left → IsCalled values old new end act (Count n) id stream waits left
       shared left keeps sends =
           called_there act (Count n) left may conn keeps

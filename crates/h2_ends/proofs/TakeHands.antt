@@ -1,14 +1,15 @@
 -- What an end hands out of what its connection has reported.
 use Rattle.h2_ends.proofs.Names
-use Names.{◌≡◌, ℕ, Bool, true, false, List, [], Option, Some, None, refl, sym, ap, ◌∙◌, both_ways, eq-eqb}
-use Names.{Field, InternalError, Server, Values, Answer, Refuse, Event, FieldsEvent, DataEvent}
-use Names.{ResetEvent, Log, MayAnswer, with_call, MayTake, Took, fields_in_use, data_in_use}
-use Names.{log_after_take, Place, Part, FieldsPart, OctetsPart, End, EndLog, Handed, BodyHanded}
-use Names.{Passed, EndAnswer, EndTook, EndFailed, parts_on, IsReadableWith, end_with_log}
-use Names.{end_with_handed, passes, hands_out, refusal_fails, Span, EndRepresents, InSpan, IsReadOn}
-use Names.{MustRefuse, HasReported, code_unread, tokens_of_event, reads_on, handed_as, handed_at}
-use Names.{part_of_event, tokens_of_part, ReadsFields, ReadsData, AnswersRefusal, take_has_fields}
-use Names.{take_has_data, take_may_close, event_may_close, Ok, Err, Result, IfOk, LocatedPart}
+use Names.{◌≡◌, ℕ, Bool, true, false, List, [], Option, Some, None, refl, sym, ap, ◌∙◌, both_ways}
+use Names.{eq-eqb, Field, InternalError, Server, Values, Answer, Refuse, Event, FieldsEvent}
+use Names.{DataEvent, ResetEvent, Log, MayAnswer, with_call, MayTake, Took, fields_in_use}
+use Names.{data_in_use, log_after_take, Place, Part, FieldsPart, OctetsPart, End, EndLog, Handed}
+use Names.{BodyHanded, Passed, EndAnswer, EndTook, EndFailed, parts_on, IsReadableWith}
+use Names.{end_with_log, end_with_handed, passes, hands_out, refusal_fails, Span, EndRepresents}
+use Names.{InSpan, IsReadOn, MustRefuse, HasReported, code_unread, tokens_of_event, reads_on}
+use Names.{handed_as, handed_at, part_of_event, tokens_of_part, ReadsFields, ReadsData}
+use Names.{AnswersRefusal, take_has_fields, take_has_data, take_may_close, event_may_close, Ok}
+use Names.{Err, Result, IfOk, LocatedPart}
 use Rattle.h2_ends.specs.EndTakes.{EndMayTake, refuses, runs_out_of_memory, with_malformed}
 use Rattle.h2_ends.specs.EndTakes.{rule_broken}
 use Rattle.h2_ends.specs.Taking.{refused_last, with_unread}
@@ -63,8 +64,8 @@ unfolding tokens_of_event tokens_of_part take_has_fields take_has_data take_may_
 data_on values now end piece count id octets flow last log owing here more reported =
     let event = DataEvent id octets flow last in
     let same = eq-eqb id id refl in
-    read_on values (record now { spans = record now.spans { owing = owing } }) end piece count event
-    log id (OctetsPart octets, last)
+    read_on values (record now { spans = record now.spans { owing = owing } }) end piece count
+    event log id (OctetsPart octets, last)
     (reported_wider values now end piece count event log owing more reported)
     (data_in_use end.log log piece count id octets flow last reported.took) (rw same refl)
     (λ i other. rw (differs i id other) refl) (λ i other. refl)
@@ -174,7 +175,8 @@ module _ (values : Values) (now new : End) (end : EndLog) (piece : List ℕ) (co
   unfolding AnswersRefusal
   part_lacks id list last log fields octets one (Ok handed) reported goes server none may answers =
       let down = memory_fails log id one
-      (up_after end.log log piece count (FieldsEvent id list last) reported.took) may in absurd (cc)
+      (up_after end.log log piece count (FieldsEvent id list last) reported.took) may in
+      absurd (cc)
   part_lacks id list last log fields octets one (Err fault) reported goes server none may answers =
       let event = FieldsEvent id list last in
       let same = reads_after values now end piece count event log id reported in

@@ -87,7 +87,8 @@ differs i id other = ne_eqb id i (λ same. other (sym same))
 
 -- So it is with a stream that was reset, and with one that the peer won't process.
 pub reset_but : (values : Values) (now : End) (end : EndLog) (piece : List ℕ) (count id code : ℕ)
-    (ours : Bool) (log : Log) → HasReported values now end piece count (ResetEvent id code ours) log
+    (ours : Bool) (log : Log)
+    → HasReported values now end piece count (ResetEvent id code ours) log
     → RepresentsBut values now (end_with_log end log) id
 unfolding tokens_of_event take_has_fields take_has_data take_may_close event_may_close
 reset_but values now end piece count id code ours log reported =

@@ -2,7 +2,8 @@
 use Rattle.h2_ends.proofs.Names.{◌≡◌, ◌≢◌, ◌∙◌, ℕ, List, refl, sym, ap, InternalError, Failed}
 use Rattle.h2_ends.proofs.Names.{FieldsPart, OctetsPart, EndLog, EndAnswer, EndFailed}
 use Rattle.h2_ends.proofs.Names.{hands_nothing, passes, hands_out, refusal_fails, part_of_event}
-use Rattle.h2_ends.specs.EndTakes.{EndMayTake, EndNeedsNoMemory, fails, refuses, runs_out_of_memory}
+use Rattle.h2_ends.specs.EndTakes.{EndMayTake, EndNeedsNoMemory, fails, refuses}
+use Rattle.h2_ends.specs.EndTakes.{runs_out_of_memory}
 use Rattle.h2_laws_end.proofs.Promised.{never_out_of_memory}
 
 -- A call that took octets hasn't failed.

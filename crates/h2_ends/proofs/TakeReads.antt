@@ -5,8 +5,8 @@ use Names.{sym, ap, subst, ◌∙◌, inl, inr, cases_eq, Field, Role, Client, S
 use Names.{Place, Reads, Requests, Responses, Reading, Said, Part, FieldsPart, OctetsPart}
 use Names.{Follows, End, Stream, EndLog, said_for, parts_on, tokens_of_part, IsReadableWith}
 use Names.{RepresentsMessages, RepresentsBut, IsStream, IsUntouched, KeepsActive, kept_at}
-use Names.{outgoing_in, IsReadOn, MustRefuse, end_with_part, KeepsOne, reads_on, asked_head, IsKept}
-use Names.{ReadsFields, ReadsData, reads_of_new, Ok, Err, IsReadable, place_after}
+use Names.{outgoing_in, IsReadOn, MustRefuse, end_with_part, KeepsOne, reads_on, asked_head}
+use Names.{IsKept, ReadsFields, ReadsData, reads_of_new, Ok, Err, IsReadable, place_after}
 use Rattle.h2_message.specs.Reading.{trailers_parts, ended, message_parts, final_parts}
 use Rattle.h2_message.specs.Phases.{FollowsFields, FollowsData, phase_after_all}
 use Rattle.h2_message.specs.Broken.{broken_after, broken_in, rules_of_part}

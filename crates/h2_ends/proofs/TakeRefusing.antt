@@ -61,8 +61,8 @@ refused_last log id code one None may was is =
 refused_last log id code one (Some failed) may was is = inr (λ none. cc)
 
 -- So what was handed out of it is all that will be.
-pub cut_short : (end : EndLog) (id code : ℕ) (one : Answer) → MayAnswer end.log (Refuse id code) one
-    → is_number_used end.log id ≡ true
+pub cut_short : (end : EndLog) (id code : ℕ) (one : Answer)
+    → MayAnswer end.log (Refuse id code) one → is_number_used end.log id ≡ true
     → IsPrefixOfTokens (tokens_handed end id) (tokens_heard id end.log.reported)
     → IsCutShort (end_with_log end (with_call end.log (Refuse id code) one)) id
 cut_short end id code one may was prefix =

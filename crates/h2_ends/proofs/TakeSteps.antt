@@ -1,9 +1,9 @@
 -- What taking octets makes of an end, as its connection answers.
 use Rattle.h2_ends.proofs.Names.{◌≡◌, ℕ, List, Option, Some, None, ◌≤◌, refl, sym, subst, Code}
 use Rattle.h2_ends.proofs.Names.{Values, Event, Log, TakeAnswer, MayTake, Took, Failed}
-use Rattle.h2_ends.proofs.Names.{ConnRepresents, End, EndLog, Handed, EndAnswer, EndTook, EndFailed}
-use Rattle.h2_ends.proofs.Names.{end_with_log, hands_nothing, EndRepresents, HasReported}
-use Rattle.h2_ends.proofs.Names.{take_has_data, take_has_fields, take_may_close}
+use Rattle.h2_ends.proofs.Names.{ConnRepresents, End, EndLog, Handed, EndAnswer, EndTook}
+use Rattle.h2_ends.proofs.Names.{EndFailed, end_with_log, hands_nothing, EndRepresents}
+use Rattle.h2_ends.proofs.Names.{HasReported, take_has_data, take_has_fields, take_may_close}
 use Rattle.h2_ends.specs.EndTakes.{fails}
 use Rattle.h2_ends.proofs.EndSteps.{taken, taken_kept, kept}
 use Rattle.h2_ends.proofs.TakeHands.{Hands}

@@ -40,7 +40,8 @@ before_both t i j k (inr (inr (a, b))) (inr (inl (c, d))) = absurd (omega (arith
 before_both t i j k (inr (inr (a, b))) (inr (inr (c, d))) = inr (inr (omega (arith, a, c), d))
 
 module _ (t i j s : ℕ) where
-  -- Where the pass ends at a stream that comes after two, these come in the same order in the next.
+  -- Where the pass ends at a stream that comes after two, these come in the same order in the
+  -- next.
   pub both_served : ComesBefore t i j → ComesBefore t j s → ComesBefore s i j
   both_served (inl (a, b)) (inl (c, d)) = inr (inr (b, d))
   both_served (inl (a, b)) (inr (inl (c, d))) = inl (omega (arith, a, d), b)

@@ -69,7 +69,8 @@ module _ (turn : Turn) (most id : ℕ) (end : EndLog) (room : HasRoomFor end id)
       octets_went all ended sent waits may
   share_sends _ _ _ octets ends (shares_some _ all ended sent typed waits may fewer over) body on =
       octets_went all ended sent waits may
-  share_sends _ _ _ octets ends (share_is_cut _ all ended sent typed waits may fewer over) body on =
+  share_sends _ _ _ octets ends (share_is_cut _ all ended sent typed waits may fewer over) body
+      on =
       octets_went all ended sent waits may
   share_sends _ halt after octets ends (shares_rest _ all _ _ typed waits may few rest) body on =
       octets_wait end id all false waits

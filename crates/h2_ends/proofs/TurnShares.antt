@@ -19,7 +19,8 @@ use Rattle.h2_ends.specs.declared.span.Turn.{Turn}
 use Rattle.h2_ends.proofs.PumpSends.{data_elsewhere, fields_elsewhere}
 use Rattle.h2_ends.proofs.PumpSteps.{up_to_or}
 use Rattle.h2_ends.proofs.PumpStuck.{waiting_same, data_none, fields_none}
-use Rattle.h2_ends.proofs.TurnOrder.{before_or, before_both, both_served, none_served, later_served}
+use Rattle.h2_ends.proofs.TurnOrder.{before_or, before_both, both_served, none_served}
+use Rattle.h2_ends.proofs.TurnOrder.{later_served}
 
 -- The log comes about, and something waits on the stream.
 record StillWaits (role : Role) (values : Values) (end : EndLog) (i : ℕ) : Type 0 where
@@ -233,18 +234,19 @@ module _ (sizes : ℕ → ℕ) where
         (inr (inr (before, under))) =
         let at = (halts_from end end.turn.id numbers count s stop after part).0 in
         absurd (omega (arith, at, under))
-    waits_before_served end _ s stop after i (passes_round above below between _ _ one two) came low
-        waits (inl (from, before)) =
+    waits_before_served end _ s stop after i (passes_round above below between _ _ one two) came
+        low waits (inl (from, before)) =
         let at = (halts_from between 0 end.turn.id below s stop after two).1 in
         absurd (omega (arith, at, from, before))
-    waits_before_served end _ s stop after i (passes_round above below between _ _ one two) came low
-        waits (inr (inl (from, under))) =
+    waits_before_served end _ s stop after i (passes_round above below between _ _ one two) came
+        low waits (inr (inl (from, under))) =
         inl (all_get role values sizes end end.turn.id numbers above between i one from low
         (record { came = came; waits = waits }))
-    waits_before_served end _ s stop after i (passes_round above below between _ _ one two) came low
-        waits (inr (inr (before, under))) =
-        inr (some_get role values sizes between 0 end.turn.id below s stop after i two (omega arith)
-        before (passes_by role values sizes end end.turn.id numbers above None between i one
+    waits_before_served end _ s stop after i (passes_round above below between _ _ one two) came
+        low waits (inr (inr (before, under))) =
+        inr (some_get role values sizes between 0 end.turn.id below s stop after i two
+        (omega arith) before
+        (passes_by role values sizes end end.turn.id numbers above None between i one
         (omega (arith, before, under)) (record { came = came; waits = waits })))
 
 -- What a pass leaves of the order.
@@ -317,8 +319,9 @@ module _ (i j : ℕ) (low : j < numbers) where
       (first_turn (share_size first.end.turn first.most) first.end first.count first.after
       first.role first.values first.came waits first.halt first.passes got none_after) in (
         elim again [
-          | inl gets ↦ last_turn (share_size last.end.turn last.most) last.end last.count last.after
-              last.role last.values last.came waits_still last.halt last.passes gets before
+          | inl gets ↦ last_turn (share_size last.end.turn last.most) last.end last.count
+              last.after last.role last.values last.came waits_still last.halt last.passes gets
+              before
           | inr ends ↦ end_turn (share_size last.end.turn last.most) last.end last.count last.after
               last.role last.values last.came waits_still last.halt last.passes ends before
         ],

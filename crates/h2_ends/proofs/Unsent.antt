@@ -34,14 +34,14 @@ pub some_kept : (outgoing : Outgoing) (waiting : Waiting) → outgoing ≡ outgo
 unfolding octets_kept
 some_kept outgoing waiting is = rw is refl
 
--- Octets count, and what follows them does not.
-octets_then : (octets : List ℕ) (tail : List Token)
+-- Octets count, and then what follows them, where trailers and the end do not.
+pub octets_then : (octets : List ℕ) (tail : List Token)
     → octets_among (each OctetToken octets ++ tail) ≡ length octets + octets_among tail
 unfolding octets_among
 octets_then [] tail = omega arith
 octets_then (octet ∷ octets) tail = omega (arith, octets_then octets tail)
 
-tail_without : (trailers : Option (List Field))
+pub tail_without : (trailers : Option (List Field))
     → octets_among (trailers_tokens trailers ++ EndToken ∷ []) ≡ 0
 unfolding octets_among trailers_tokens
 tail_without None = refl

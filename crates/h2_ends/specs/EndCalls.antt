@@ -6,8 +6,8 @@ use Rattle.std.specs.Prelude.{if◌then◌else◌, ◌==◌, ◌&&◌}
 use Rattle.std.specs.Prelude.{Result, Ok, Err}
 use Rattle.hpack.specs.declared.types.field.Field.{Field}
 use Rattle.h2_spec_log.specs.declared.refusal.Refusal.{Refusal}
-use Rattle.h2_spec_log.specs.declared.refusal.Refusal.TheVariants.{Closed, OutputFull, ListTooLarge}
-use Rattle.h2_spec_log.specs.declared.refusal.Refusal.TheVariants.{Memory}
+use Rattle.h2_spec_log.specs.declared.refusal.Refusal.TheVariants.{Closed, OutputFull}
+use Rattle.h2_spec_log.specs.declared.refusal.Refusal.TheVariants.{ListTooLarge, Memory}
 use Rattle.h2_spec_log.specs.declared.role.Role.TheVariants.{Client, Server}
 use Rattle.h2_spec_log.specs.Acts.{Act, Answer, IsTypedAct, Open, SendFields, SendData, Release}
 use Rattle.h2_spec_log.specs.Acts.{Number, Count, Done, Refused}
@@ -69,8 +69,8 @@ end_with_said end act answer id said = record end {
   accepted = (id, said) ∷ end.accepted;
 }
 
--- the call that opens a stream with the head of what is given, and the one that sends the head on a
--- stream
+-- the call that opens a stream with the head of what is given, and the one that sends the head on
+-- a stream
 abbrev pub opened_with : Said → Act
 opened_with said = Open said.message.head (is_ended_by_head said.form said.message)
 
@@ -196,7 +196,8 @@ with_trailers said list = record {
   form = Ended;
 }
 
--- Whether these octets break M11 after those that were given, all of them, with the end or without.
+-- Whether these octets break M11 after those that were given, all of them, with the end or
+-- without.
 abbrev pub breaks_with : Said → Option ℕ → List ℕ → (end : Bool) → Bool
 breaks_with said number octets end =
     breaks_length number (length said.message.body + length octets) end
@@ -283,8 +284,8 @@ abbrev pub TrailersWait : EndLog → ℕ → List Field → Type 0
 TrailersWait end id list = tokens_waiting end id ≡ FieldsToken list true ∷ EndToken ∷ []
 
 -- The calls of a `pump`: each is on an active stream, while nothing could go on any lower one, and
--- hands over what waits there: the rest of a body, or trailers. So many octets of bodies were sent.
--- The last call may have been refused, for the reason that is given.
+-- hands over what waits there: the rest of a body, or trailers. So many octets of bodies were
+-- sent. The last call may have been refused, for the reason that is given.
 -- rule: 8.1 (own) pump sends the lower streams first, and all that can go
 pub data Pumps : (end : EndLog) → (count : ℕ) → Option Refusal → (after : EndLog) → Type 0 where
   pumps_no_more : (end : EndLog) → Pumps end 0 None end

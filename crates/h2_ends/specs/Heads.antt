@@ -1,9 +1,10 @@
 -- What the steps of `request`, `respond` and `begin` make of an end: a head is sent, and then what
 -- is left of the message is kept.
-use Rattle.std.specs.Prelude.{◌≡◌, ◌≢◌, ℕ, Bool, true, false, if◌then◌else◌, [], Option, Some, None}
-use Rattle.std.specs.Prelude.{option_map, List, Result, Ok, Err}
+use Rattle.std.specs.Prelude.{◌≡◌, ◌≢◌, ℕ, Bool, true, false, if◌then◌else◌, [], Option, Some}
+use Rattle.std.specs.Prelude.{None, option_map, List, Result, Ok, Err}
 use Rattle.hpack.specs.declared.types.field.Field.{Field}
 use Rattle.h2_spec_log.specs.declared.refusal.Refusal.{Refusal}
+use Rattle.h2_spec_log.specs.declared.role.Role.{Role}
 use Rattle.h2_spec_log.specs.Acts.{Values, IsTypedAct, SendFields, Number, Done, Refused}
 use Rattle.h2_spec_log.specs.CallRules.{is_too_large}
 use Rattle.h2_spec_log.specs.Log.{Log, active}
@@ -110,11 +111,23 @@ AsksOn end id (Err refusals.NotAsked) = IsNotAsked end id
 AsksOn end id (Err refusals.Answered) = IsAsked end id × (said_for id end.accepted ≢ None)
 AsksOn end id (Err other) = ⊥
 
+-- So it is at any end of this role that keeps this of the stream.
+abbrev pub AsksOfKept : Role → Stream → Result Bool EndRefusal → Type 0
+AsksOfKept role stream result =
+    (values : Values) (now : End) (end : EndLog) (id : ℕ) → EndRepresents values now end
+    → now.role ≡ role → Some stream ≡ kept_at id now.streams.entries → AsksOn end id result
+
 -- A message was begun on the active stream, and so much of its body is left; or E3.
 abbrev pub RestOn : EndLog → ℕ → Result BodyLength EndRefusal → Type 0
 RestOn end id (Ok rest) = IsInParts end id rest × (active end.log id ≡ true)
 RestOn end id (Err refusals.NotAsked) = IsNotOpen end id
 RestOn end id (Err other) = ⊥
+
+-- So it is at any end that keeps this of the stream.
+abbrev pub RestOfKept : Stream → Result BodyLength EndRefusal → Type 0
+RestOfKept stream result =
+    (values : Values) (now : End) (end : EndLog) (id : ℕ) → EndRepresents values now end
+    → Some stream ≡ kept_at id now.streams.entries → RestOn end id result
 
 -- The head of a response was sent, and what is kept of streams is as before.
 pub record IsAnswered (values : Values) (end : EndLog) (id : ℕ) (said : Said) (old new : End)
@@ -138,3 +151,11 @@ AnswersHead values end id message old (Ok done) new =
 AnswersHead values end id message old (Err refusal) new =
     (after : EndLog) × MayRespond end id message (Err refusal) after
     × EndRepresents values new after
+
+-- So it is at any end of this connection and role that keeps this of the stream.
+abbrev pub AnswersKept : Conn → Role → Stream → ℕ → SentMessage → Result (Unit {0}) EndRefusal
+    → Conn → Type 0
+AnswersKept conn role stream id message result new =
+    (values : Values) (old : End) (end : EndLog) → EndRepresents values old end
+    → old.conn ≡ conn → old.role ≡ role → Some stream ≡ kept_at id old.streams.entries
+    → AnswersHead values end id message old result (record old { conn = new })

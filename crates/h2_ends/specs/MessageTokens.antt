@@ -1,7 +1,7 @@
 -- A message, part by part, as one end is given it and as the other hands it out (RFC 9113, section
 -- 8.1): interim heads, the head, octets of the body, trailers, the end.
-use Rattle.std.specs.Prelude.{map as each, ◌≡◌, ℕ, ◌==◌, Bool, true, false, if◌then◌else◌, List, []}
-use Rattle.std.specs.Prelude.{◌∷◌, ◌++◌, Option, Some, None}
+use Rattle.std.specs.Prelude.{map as each, ◌≡◌, ℕ, ◌==◌, Bool, true, false, if◌then◌else◌, List}
+use Rattle.std.specs.Prelude.{[], ◌∷◌, ◌++◌, Option, Some, None}
 use Rattle.hpack.specs.declared.types.field.Field.{Field}
 use Rattle.h2_message.specs.declared.reading.Place.{Place}
 use Rattle.h2_message.specs.declared.reading.Place.TheVariants as places

@@ -26,14 +26,14 @@ pub record Waits (end : EndLog) (i : ℕ) : Type 0 where
   pub active : active end.log i ≡ true
   pub some : tokens_waiting end i ≢ []
 
--- How many octets of a body the share of a stream has at most: where a share of it was cut short, no
--- more than that had left; otherwise as many as this.
+-- How many octets of a body the share of a stream has at most: where a share of it was cut short,
+-- no more than that had left; otherwise as many as this.
 abbrev pub sizes_by : Turn → (most : ℕ) → ℕ → ℕ
 sizes_by turn most i =
     if i == turn.id && nat_lt 0 turn.rest then min turn.rest most else most
 
--- how many octets a share has at most by what was asked for: one at least, and no more than go with
--- one call, so that a share that windows let through is not cut
+-- how many octets a share has at most by what was asked for: one at least, and no more than go
+-- with one call, so that a share that windows let through is not cut
 -- rule: 8.1 (own) pump_some gives each stream a share, in turn
 abbrev pub share_most : (most : ℕ) → ℕ
 share_most most = max (min most full_output) 1
@@ -65,8 +65,8 @@ abbrev pub rest_of : Halt → ℕ
 rest_of (CutShort rest) = rest
 rest_of (Stopped refusal rest) = rest
 
--- The calls of one share: octets of the body; and the trailers, once no octets wait. So many octets
--- were sent; and the pass ends there, or goes on to other streams.
+-- The calls of one share: octets of the body; and the trailers, once no octets wait. So many
+-- octets were sent; and the pass ends there, or goes on to other streams.
 -- rule: 8.1 (own) pump_some gives each stream a share, in turn
 pub data Shares (most id : ℕ) : (end : EndLog) → (count : ℕ) → Option Halt → (after : EndLog)
     → Type 0 where
@@ -123,8 +123,9 @@ pub record IsFirst (end : EndLog) (low high id : ℕ) : Type 0 where
   pub below : id < high
   pub none : (j : ℕ) → low ≤ j → j < id → Waits end j → ⊥
 
--- The shares of the streams from a number up to another, in rising order, each of the size that its
--- stream has: so many octets were sent; and where the pass ended there, at which stream, and why.
+-- The shares of the streams from a number up to another, in rising order, each of the size that
+-- its stream has: so many octets were sent; and where the pass ended there, at which stream, and
+-- why.
 -- rule: 8.1 (own) pump_some gives each stream a share, in turn
 pub data PassesOver (sizes : ℕ → ℕ) : (end : EndLog) → (low high count : ℕ) → Option (ℕ × Halt)
     → (after : EndLog) → Type 0 where
@@ -155,8 +156,8 @@ pub data Passes (sizes : ℕ → ℕ) (end : EndLog) : (count : ℕ) → Option 
       → PassesOver sizes between 0 end.turn.id below halt after
       → Passes sizes end (above + below) halt after
 
--- with which stream the next pass begins: with the one at which this one ended, which has this left
--- of its share; otherwise with the same as this one, which gets a whole share
+-- with which stream the next pass begins: with the one at which this one ended, which has this
+-- left of its share; otherwise with the same as this one, which gets a whole share
 -- rule: 8.1 (own) pump_some gives each stream a share, in turn
 abbrev pub next_turn : Turn → Option (ℕ × Halt) → Turn
 next_turn turn None = record { id = turn.id; rest = 0 }

@@ -4,8 +4,8 @@ use Rattle.std.specs.Prelude.{◌≡◌, ◌⊎◌, ◌≤◌, ◌<◌, ℕ, ◌
 use Rattle.std.specs.Prelude.{Result, Ok, Err}
 use Rattle.h2_spec_log.specs.declared.refusal.Refusal.{Refusal}
 use Rattle.h2_spec_log.specs.declared.refusal.Refusal.TheVariants.{Memory}
-use Rattle.std.specs.BTreeMap.{BTreeMap, WritesThrough}
-use Rattle.std.specs.Ordering.{nat_cmp}
+use Rattle.h2_numbers.specs.Entries.{NumberEntries}
+use Rattle.h2_numbers.specs.Lends.{WritesThrough}
 use Rattle.h2_conn.specs.declared.conn.Conn.{Conn}
 use Rattle.h2_spec_log.specs.Acts.{Values}
 use Rattle.h2_spec_log.specs.Log.{active, waiting}
@@ -85,9 +85,9 @@ stream_left stream result left = with_outgoing stream (outgoings.Waiting left)
 abbrev pub SendsShare : (conn : Conn) (id : ℕ) (waits : Waiting) (pass : Pass)
     → Result SendState Refusal → (new : Conn) (left : Waiting) (then : Pass) → Type 0
 SendsShare conn id waits pass result new left then =
-    (old : End) (stream : Stream) (lend : Stream → BTreeMap ℕ Stream) → old.conn ≡ conn
+    (old : End) (stream : Stream) (lend : Stream → NumberEntries Stream) → old.conn ≡ conn
     → kept_at id old.streams.entries ≡ Some stream → stream.outgoing ≡ outgoings.Waiting waits
-    → ((next : Stream) → WritesThrough nat_cmp (nat_cmp id) old.streams next (lend next))
+    → ((next : Stream) → WritesThrough id old.streams next (lend next))
     → GivesShare old id pass result
     (record old { conn = new; streams = lend (stream_left stream result left) }) then
 

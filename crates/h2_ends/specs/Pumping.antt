@@ -99,7 +99,8 @@ module _ (values : Values) (start : EndLog) (role : Role) (spans : Spans)
 
   -- All of it was sent. That may have closed the stream.
   pub record HasSent (count : ℕ) (conn : Conn) (happened : EndLog) : Type 0 where
-    pub pumping : IsPumping values start count conn role spans (keeps_to outgoings.Sent) happened id
+    pub pumping : IsPumping values start count conn role spans (keeps_to outgoings.Sent)
+        happened id
     pub others : KeepsActiveBut happened.log (keeps_to outgoings.Sent) id
 
   -- A call was refused: the output is full, or memory was refused.

@@ -3,9 +3,7 @@ use Rattle.std.specs.Prelude.{◌≡◌, ◌≢◌, ◌⊎◌, ◌<◌, ◌≤�
 use Rattle.std.specs.Prelude.{length, drop, map as each, option_map, Option, Some, None, Result}
 use Rattle.std.specs.Prelude.{Bool, Ok, Err}
 use Rattle.std.specs.List.{Contains}
-use Rattle.std.specs.Map.{lookup}
-use Rattle.std.specs.Ordering.{nat_cmp}
-use Rattle.std.specs.BTreeMap.{is_at}
+use Rattle.h2_numbers.specs.Entries.{value_at}
 use Rattle.h2_spec_log.specs.declared.role.Role.{Role}
 use Rattle.h2_spec_log.specs.declared.role.Role.TheVariants.{Client, Server}
 use Rattle.h2_spec_log.specs.Acts.{Values, Act, Answer, Refuse}
@@ -63,7 +61,7 @@ reads_of_new Server = Requests
 
 -- what is kept of a number
 abbrev pub kept_at : ℕ → List (ℕ × Stream) → Option Stream
-kept_at i entries = lookup (is_at (nat_cmp i)) entries
+kept_at i entries = value_at i entries
 
 -- the tokens that wait
 abbrev pub tokens_kept : Waiting → List Token
@@ -131,8 +129,8 @@ unfoldable pub IsKept : EndLog → ℕ → Option Stream → Type 0
 IsKept end i None = IsUntouched end i
 IsKept end i (Some stream) = IsStream end i stream
 
--- What was sent on a stream is a prefix of what the end was given to say there, with the head where
--- it was given a message.
+-- What was sent on a stream is a prefix of what the end was given to say there, with the head
+-- where it was given a message.
 -- rule: 8.1 What was sent on a stream is a prefix of its message
 pub record SendsInOrder (end : EndLog) (i : ℕ) : Type 0 where
   pub waiting : List Token
@@ -144,8 +142,8 @@ abbrev pub WasRefused : Log → ℕ → Type 0
 WasRefused log i = (code : ℕ) × (answer : Answer) × Contains log.calls (Refuse i code, answer)
 
 -- What was handed out of a stream is only the beginning of what its connection has reported: this
--- end has refused the rest, and no more is reported, since the stream is over or the connection has
--- failed.
+-- end has refused the rest, and no more is reported, since the stream is over or the connection
+-- has failed.
 -- rule: 8.1 (own) What is handed out of a stream is what was reported, in order
 pub record IsCutShort (end : EndLog) (i : ℕ) : Type 0 where
   pub refused : WasRefused end.log i
@@ -177,8 +175,8 @@ WaitsWithin span stream i =
 abbrev pub OwesWithin : Span → Log → ℕ → Type 0
 OwesWithin span log i = owed log i ≢ 0 → InSpan span i
 
--- What is kept of a stream keeps step with what has happened: something is kept where it is active,
--- as long as the connection is up; parts are handed out in order; where a message waits or
+-- What is kept of a stream keeps step with what has happened: something is kept where it is
+-- active, as long as the connection is up; parts are handed out in order; where a message waits or
 -- something is owed, that is found; a pass begins where it is to begin; and the part that was
 -- refused last is known.
 -- rule: 8.1 (own) Something is kept of each active stream, and of no other
@@ -205,8 +203,8 @@ pub record RepresentsMessages (values : Values) (end : End) (happened : EndLog) 
       ⊎ IsKept happened i (kept_at i end.streams.entries)
   pub sent : (i : ℕ) → SendsInOrder happened i
 
--- The end represents what has happened: that, and what it keeps is of the active streams alone, and
--- of each of them as long as the connection is up.
+-- The end represents what has happened: that, and what it keeps is of the active streams alone,
+-- and of each of them as long as the connection is up.
 -- rule: 8.1 (own) A new client or server is that end of a connection
 pub record EndRepresents (values : Values) (end : End) (happened : EndLog) : Type 0 where
   pub streams : RepresentsMessages values end happened

@@ -24,7 +24,8 @@ use Rattle.h2_ends.specs.declared.end.End.{End}
 use Rattle.h2_ends.specs.declared.event.EndEvent.TheVariants as events
 use Rattle.h2_ends.specs.declared.taking.Unread.{Unread}
 use Rattle.h2_ends.specs.declared.taking.Unread.TheVariants as unreads
-use Rattle.h2_ends.specs.Ends.{EndLog, EndAnswer, EndTook, EndFailed, parts_on, reads_on, handed_as}
+use Rattle.h2_ends.specs.Ends.{EndLog, EndAnswer, EndTook, EndFailed, parts_on, reads_on}
+use Rattle.h2_ends.specs.Ends.{handed_as}
 use Rattle.h2_ends.specs.EndTakes.{EndMayTake, IsReadableWith, end_with_log, end_with_handed}
 use Rattle.h2_ends.specs.EndTakes.{named_on, rule_broken}
 use Rattle.h2_ends.specs.EndEvents.{LocatedPart}
@@ -34,8 +35,8 @@ use Rattle.h2_ends.specs.Represents.{RepresentsMessages, EndRepresents, IsKept, 
 use Rattle.h2_ends.specs.Represents.{KeepsActive, WaitsWithin, OwesWithin}
 
 -- What is kept of all streams but one keeps step with what has happened, and is of active streams;
--- where a message waits on that one, or something is owed, that is found; a pass begins where it is
--- to begin; and the part that was refused last is known.
+-- where a message waits on that one, or something is owed, that is found; a pass begins where it
+-- is to begin; and the part that was refused last is known.
 pub record IsInStepBut (end : End) (happened : EndLog) (id : ℕ) : Type 0 where
   pub others : (i : ℕ) → i ≢ id
       → IsInStep end.spans (kept_at i end.streams.entries) happened i
@@ -46,8 +47,8 @@ pub record IsInStepBut (end : End) (happened : EndLog) (id : ℕ) : Type 0 where
   pub malformed : end.spans.malformed ≡ happened.malformed
 
 -- A part of a message has come on the stream and isn't handed out yet. What is kept of the stream
--- is so still, also where that part has closed it. Where nothing is kept it is the first part, at a
--- server, and the stream is active.
+-- is so still, also where that part has closed it. Where nothing is kept it is the first part, at
+-- a server, and the stream is active.
 pub record IsReadOn (values : Values) (end : End) (happened : EndLog) (id : ℕ)
     (part : Part × Bool) : Type 0 where
   pub streams : RepresentsMessages values end happened

@@ -3,8 +3,8 @@
 ghost use Rattle.std.specs.Prelude.{◌≡◌, ◌+◌, ◌≤◌, min, false, vec_len, IfOk, IsOk, OnErr};
 ghost use Rattle.std.specs.Prelude.{OnOk};
 ghost use Rattle.std.specs.Vec.{vec_capacity};
-ghost use Rattle.h2_spec_log.specs.Acts.{ResetStream, SendPing, SendGoAway, ChangeSettings, PutOut};
-ghost use Rattle.h2_spec_log.specs.Acts.{Values, Count, Done, Release, Fail};
+ghost use Rattle.h2_spec_log.specs.Acts.{ResetStream, SendPing, SendGoAway, ChangeSettings};
+ghost use Rattle.h2_spec_log.specs.Acts.{PutOut, Values, Count, Done, Release, Fail};
 ghost use Rattle.h2_spec_log.specs.CallRules.{returns_before_put_out};
 ghost use Rattle.h2_spec_log.specs.Log.{Log, waiting};
 ghost use Rattle.h2_spec_log.specs.LogView.{log_view};

@@ -4,17 +4,17 @@ ghost use Rattle.std.specs.Prelude.{◌≡◌, ◌⊎◌, None, IfOk, IfErr};
 ghost use Rattle.h2_flow.specs.ConfigValues.{values_of};
 ghost use Rattle.h2_spec_log.specs.Acts.{Values};
 ghost use Rattle.h2_ends.specs.Ends.{EndLog};
-ghost use Rattle.h2_ends.specs.Represents.{EndRepresents, RepresentsBut, new_end_log, reads_of_new};
-ghost use Rattle.h2_ends.specs.Represents.{kept_at};
+ghost use Rattle.h2_ends.specs.Represents.{EndRepresents, RepresentsBut, new_end_log};
+ghost use Rattle.h2_ends.specs.Represents.{reads_of_new, kept_at};
 ghost use Rattle.h2_ends.specs.Sends.{WaitsAsBefore};
 
 use crate::outgoing::Stream;
 use crate::span::{Span, Spans, Turn};
 use h2_conn::{Config, Conn, Refusal};
 use h2_message::Reads;
+use h2_numbers::NumberMap;
 use h2_spec_log::Role;
 use std::alloc::Global;
-use std::collections::BTreeMap;
 
 /// A connection, and what is kept of its streams.
 #[derive(Drop)]
@@ -24,7 +24,7 @@ pub(crate) struct End {
     /// The connection.
     pub(crate) conn: Conn,
     /// The active streams, by number.
-    pub(crate) streams: BTreeMap<u32, Stream>,
+    pub(crate) streams: NumberMap<Stream>,
     /// Where a message waits, where octets are owed, with which stream a pass begins, and which
     /// part of a message was refused last.
     pub(crate) spans: Spans,
@@ -45,7 +45,7 @@ impl End {
         Ok(End {
             role,
             conn,
-            streams: BTreeMap::new(alloc),
+            streams: NumberMap::new(alloc),
             spans: Spans {
                 waiting: Span::none(),
                 owing: Span::none(),
@@ -76,7 +76,7 @@ impl End {
             → RepresentsBut values self.old end id → EndRepresents values self.new end }
     {
         if !self.conn.is_active(id) {
-            self.streams.remove(&id);
+            self.streams.remove(id);
         }
     }
 }

@@ -105,7 +105,7 @@ impl<F, B> EndEvent<F, B> {
 pub struct EndTaken<'a> {
     /// How many octets of the piece were used: up to the end of one frame, or else all of them.
     pub used: usize,
-    /// What is handed out. Its fields and octets are lent until the next call: the octets of a body
-    /// from the piece, or from the connection where their frame was cut in two.
+    /// What is handed out. Its fields and octets are lent until the next call: the octets of a
+    /// body from the piece, or from the connection where their frame was cut in two.
     pub event: Option<EndEvent<&'a FieldList, &'a [u8]>>,
 }

@@ -38,8 +38,8 @@ pub fn parts_are_sent_at_once()
 
 // contract: 8.1 (own) Between two shares of a stream each other that waits gets one
 /// Between two shares of one stream each other one gets a share, if something waits on it as each
-/// of the passes begins: where it got none after the first of the two in the same pass, and none in
-/// the passes between, it gets one in the pass of the second, before that, even where that pass
+/// of the passes begins: where it got none after the first of the two in the same pass, and none
+/// in the passes between, it gets one in the pass of the second, before that, even where that pass
 /// ends with a part of the second (RFC 9113, section 5.2.1). Whatever happens between passes. And
 /// where octets wait that have room, and the share is not refused, it sends one at least.
 pub fn shares_are_given_in_turn()

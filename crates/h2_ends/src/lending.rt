@@ -29,8 +29,8 @@ impl Client {
     /// is handed out: at most one event. Call it again until the piece is used and nothing is
     /// handed out. A part of a response is handed out only where the parts so far begin one that
     /// breaks no rule (sections 8.1 to 8.3); otherwise this end resets the stream with
-    /// PROTOCOL_ERROR, unless the part has closed it, and answers that; or the connection fails, as
-    /// [`Conn::refuse`](crate::Conn::refuse) says.
+    /// PROTOCOL_ERROR, unless the part has closed it, and answers that; or the connection fails,
+    /// as [`Conn::refuse`](crate::Conn::refuse) says.
     ///
     /// # Errors
     ///
@@ -63,8 +63,8 @@ impl Server {
     /// is handed out: at most one event. Call it again until the piece is used and nothing is
     /// handed out. A part of a request is handed out only where the parts so far begin one that
     /// breaks no rule (sections 8.1 to 8.3); otherwise this end resets the stream with
-    /// PROTOCOL_ERROR, unless the part has closed it, and answers that; or the connection fails, as
-    /// [`Conn::refuse`](crate::Conn::refuse) says.
+    /// PROTOCOL_ERROR, unless the part has closed it, and answers that; or the connection fails,
+    /// as [`Conn::refuse`](crate::Conn::refuse) says.
     ///
     /// # Errors
     ///

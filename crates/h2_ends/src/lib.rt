@@ -8,8 +8,8 @@
 //! Whoever reads and writes goes round so: `take` with what was read, until the piece is used and
 //! nothing is handed out; `respond` to what was asked; `release_all`, without which the peer stops
 //! at its window; `pump`, `put_out` and a write, again until `put_out` gives nothing, since `pump`
-//! stops where 65,536 octets wait. Where a call is refused with [`Refusal::OutputFull`] (C7), write
-//! first and call again.
+//! stops where 65,536 octets wait. Where a call is refused with [`Refusal::OutputFull`] (C7),
+//! write first and call again.
 #![tactic(auto)]
 
 mod client;

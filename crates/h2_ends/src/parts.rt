@@ -1,13 +1,11 @@
 //! Sending messages in parts: each part goes into the output at once.
 
-ghost use Rattle.h2_spec_log.specs.Acts.{Values};
-ghost use Rattle.h2_ends.specs.Ends.{EndLog};
-ghost use Rattle.h2_ends.specs.Heads.{RestOn};
-ghost use Rattle.h2_ends.specs.Represents.{EndRepresents, EndBegins, EndBeginsAnswer, EndSendsBody};
+ghost use Rattle.h2_ends.specs.Heads.{RestOfKept};
+ghost use Rattle.h2_ends.specs.Represents.{EndBegins, EndBeginsAnswer, EndSendsBody};
 ghost use Rattle.h2_ends.specs.Represents.{EndSendsTrailers};
 
 use crate::end::End;
-use crate::outgoing::Outgoing;
+use crate::outgoing::{Outgoing, Stream};
 use crate::refusal::EndRefusal;
 use h2_message::{BodyLength, check_request_head, check_response_head};
 use hpack::Field;
@@ -29,10 +27,13 @@ impl End {
     pub(crate) fn begin_answer(&mut self, id: u32, head: &[Field]) -> Result<(), EndRefusal>
         ensures { EndBeginsAnswer self.old id head.now result self.new }
     {
-        let to_head = self.asks_on(id)?;
+        let Some(stream) = self.streams.get_mut(id) else {
+            return Err(EndRefusal::NotAsked);
+        };
+        let to_head = stream.asks(self.role)?;
         let rest = check_response_head(head, to_head)?;
         self.conn.fields(id, head, false)?;
-        self.keep(id, Outgoing::Open(rest));
+        stream.outgoing = Outgoing::Open(rest);
         Ok(())
     }
 
@@ -47,14 +48,17 @@ impl End {
     ) -> Result<usize, EndRefusal>
         ensures { EndSendsBody self.old id octets.now end result self.new }
     {
-        let rest = self.rest_on(id)?;
+        let Some(stream) = self.streams.get_mut(id) else {
+            return Err(EndRefusal::NotAsked);
+        };
+        let rest = stream.rest()?;
         rest.check(octets.len(), end)?;
         let count = self.conn.data(id, octets, end)?;
         if end && count == octets.len() {
-            self.keep(id, Outgoing::Sent);
+            stream.outgoing = Outgoing::Sent;
             self.forget_if_over(id);
         } else {
-            self.keep(id, Outgoing::Open(rest.after(count)));
+            stream.outgoing = Outgoing::Open(rest.after(count));
         }
         Ok(count)
     }
@@ -64,24 +68,25 @@ impl End {
     pub(crate) fn send_trailers(&mut self, id: u32, list: &[Field]) -> Result<(), EndRefusal>
         ensures { EndSendsTrailers self.old id list.now result self.new }
     {
-        let rest = self.rest_on(id)?;
+        let Some(stream) = self.streams.get_mut(id) else {
+            return Err(EndRefusal::NotAsked);
+        };
+        let rest = stream.rest()?;
         rest.check_trailers(list)?;
         self.conn.fields(id, list, true)?;
-        self.keep(id, Outgoing::Sent);
+        stream.outgoing = Outgoing::Sent;
         self.forget_if_over(id);
         Ok(())
     }
+}
 
+impl Stream {
     // rule: 8.1 (own) A part of a message is sent where one was begun, and is checked
-    /// How long the rest of the body has to be of the message that was begun on a stream.
-    fn rest_on(&self, id: u32) -> Result<BodyLength, EndRefusal>
-        ensures { (values : Values) (end : EndLog) → EndRepresents values self.now end
-            → RestOn end id result }
+    /// How long the rest of the body has to be of the message that was begun on the stream.
+    fn rest(&self) -> Result<BodyLength, EndRefusal>
+        ensures { RestOfKept self.now result }
     {
-        let Some(stream) = self.streams.get(&id) else {
-            return Err(EndRefusal::NotAsked);
-        };
-        match &stream.outgoing {
+        match &self.outgoing {
             Outgoing::Open(rest) => Ok(*rest),
             _ => Err(EndRefusal::NotAsked),
         }

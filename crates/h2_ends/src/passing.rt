@@ -71,9 +71,9 @@ impl End {
     }
 
     // rule: 8.1 (own) pump_some gives each stream a share, in turn
-    /// Gives the streams of a span their shares, in rising order; answers whether the pass goes on.
-    /// Where it does not, the next one begins with the stream at which this one ended, and with
-    /// what is left of its share.
+    /// Gives the streams of a span their shares, in rising order; answers whether the pass goes
+    /// on. Where it does not, the next one begins with the stream at which this one ended, and
+    /// with what is left of its share.
     fn pass_over(&mut self, span: Span, pass: &mut Pass) -> Result<bool, Refusal>
         ensures { PassesSpan self.old span pass.old result self.new pass.new }
     {
@@ -108,7 +108,7 @@ impl End {
     fn share(&mut self, id: u32, pass: &mut Pass) -> Result<SendState, Refusal>
         ensures { GivesShare self.old id pass.old result self.new pass.new }
     {
-        let Some(stream) = self.streams.get_mut(&id) else {
+        let Some(stream) = self.streams.get_mut(id) else {
             return Ok(SendState::Idle);
         };
         let Outgoing::Waiting(waiting) = &mut stream.outgoing else {

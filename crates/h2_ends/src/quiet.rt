@@ -74,7 +74,7 @@ impl End {
         ensures none { (values : Values) (end : EndLog) → EndRepresents values self.now end
             → end.log.failed ≡ None → result ≡ false → IsStuckOn end id }
     {
-        let Some(stream) = self.streams.get(&id) else {
+        let Some(stream) = self.streams.get(id) else {
             return false;
         };
         let Outgoing::Waiting(waiting) = &stream.outgoing else {

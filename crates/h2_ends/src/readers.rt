@@ -17,7 +17,7 @@ impl End {
         ensures { (values : Values) (end : EndLog) → EndRepresents values self.now end
             → result ≡ unsent_on end id }
     {
-        let Some(stream) = self.streams.get(&id) else {
+        let Some(stream) = self.streams.get(id) else {
             return 0;
         };
         match &stream.outgoing {

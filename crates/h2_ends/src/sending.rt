@@ -9,7 +9,7 @@ ghost use Rattle.h2_message.specs.Messages.{trailer_fields};
 ghost use Rattle.h2_message.specs.Values.{message_value};
 ghost use Rattle.h2_ends.specs.Ends.{EndLog};
 ghost use Rattle.h2_laws_pair.specs.Tokens.{Said, at_once, is_ended_by_head, is_head_alone};
-ghost use Rattle.h2_ends.specs.Heads.{AnswersHead, AsksOn, IsGiven, OpensStream, SendsHead};
+ghost use Rattle.h2_ends.specs.Heads.{AnswersKept, AsksOfKept, IsGiven, OpensStream, SendsHead};
 ghost use Rattle.h2_ends.specs.Heads.{outgoing_for};
 ghost use Rattle.h2_ends.specs.Represents.{EndRepresents, EndPumps, EndReleases, EndRequests};
 ghost use Rattle.h2_ends.specs.Represents.{EndResponds};
@@ -24,7 +24,6 @@ use h2_frame::limits::MAX_LIST;
 use h2_message::{Message, Reading, Reads, asks_head, check_request, check_response};
 use h2_spec_log::Role;
 use hpack::{Field, list_size};
-use std::ops::Bound;
 
 /// How sending what waits on a stream goes on.
 pub(crate) enum SendState {
@@ -94,7 +93,7 @@ impl End {
         }
         let opened = self.conn.open(head, ends);
         if opened.is_err() {
-            self.streams.remove(&id);
+            self.streams.remove(id);
         }
         opened
     }
@@ -104,48 +103,20 @@ impl End {
     pub(crate) fn respond(&mut self, id: u32, message: Message) -> Result<(), (Message, EndRefusal)>
         ensures { EndResponds self.old id (message_value message) result self.new }
     {
-        if let Err(refusal) = self.answer(id, &message) {
+        let Some(stream) = self.streams.get_mut(id) else {
+            return Err((message, EndRefusal::NotAsked));
+        };
+        if let Err(refusal) = stream.answer(&mut self.conn, self.role, id, &message) {
             return Err((message, refusal));
         }
         let is_whole = is_head_alone(&message);
-        self.keep(id, outgoing_of(message));
+        stream.outgoing = outgoing_of(message);
         if is_whole {
             self.forget_if_over(id);
+            return Ok(());
         }
+        self.spans.waiting = self.spans.waiting.with(id);
         Ok(())
-    }
-
-    // rule: 8.1 (own) A response is sent only to a request, and is checked
-    /// Sends the head of a response.
-    fn answer(&mut self, id: u32, message: &Message) -> Result<(), EndRefusal>
-        ensures { (values : Values) (end : EndLog) → EndRepresents values self.old end
-            → AnswersHead values end id (message_value message.now) self.old result self.new }
-    {
-        let to_head = self.asks_on(id)?;
-        if let Err(rule) = check_response(message, to_head) {
-            return Err(EndRefusal::BadMessage(rule));
-        }
-        send_head(&mut self.conn, id, message)?;
-        Ok(())
-    }
-
-    // rule: 8.1 (own) A response is sent only to a request, and is checked
-    // rule: 8.1 (own) A second response to a request is refused
-    /// Whether the request on a stream, which has no response yet, asks with HEAD.
-    pub(crate) fn asks_on(&self, id: u32) -> Result<bool, EndRefusal>
-        ensures { (values : Values) (end : EndLog) → EndRepresents values self.now end
-            → AsksOn end id result }
-    {
-        let Some(stream) = self.streams.get(&id) else {
-            return Err(EndRefusal::NotAsked);
-        };
-        if self.role == Role::Client {
-            return Err(EndRefusal::NotAsked);
-        }
-        if !matches!(stream.outgoing, Outgoing::NotGiven) {
-            return Err(EndRefusal::Answered);
-        }
-        Ok(stream.reading.asks_head())
     }
 
     // rule: 8.1 (own) A request is refused for a rule, or as its head is, or sent
@@ -156,7 +127,7 @@ impl End {
         if matches!(outgoing, Outgoing::Waiting(_)) {
             self.spans.waiting = self.spans.waiting.with(id);
         }
-        if let Some(stream) = self.streams.get_mut(&id) {
+        if let Some(stream) = self.streams.get_mut(id) {
             stream.outgoing = outgoing;
         }
     }
@@ -192,7 +163,7 @@ impl End {
         ensures waits { WaitsAsBefore self.old self.new id }
         ensures pumps { PumpsOn self.old id count.old result self.new count.new }
     {
-        let Some(stream) = self.streams.get_mut(&id) else {
+        let Some(stream) = self.streams.get_mut(id) else {
             return Ok(SendState::Idle);
         };
         let Outgoing::Waiting(waiting) = &mut stream.outgoing else {
@@ -232,18 +203,57 @@ impl End {
 
     // rule: 8.1 (own) pump sends the lower streams first, and all that can go
     // rule: 6.9 (own) release_all releases what is owed on each active stream
-    /// The next stream of a span above a number. It is found in the tree, so a pump costs about the
-    /// same for each stream, whatever lies between two of them.
+    /// The next stream of a span above a number. It is found among the numbers in order, so a pump
+    /// costs about the same for each stream, whatever lies between two of them.
     pub(crate) fn next_in(&self, span: Span, above: u32) -> Option<u32>
         ensures next { IsNextIn self.now span above result }
         ensures above { IfSome result (λ id. above < id) }
     {
-        let above = (Bound::Excluded(above), Bound::Unbounded);
-        let (id, _) = self.streams.range(above).next()?;
-        if *id > span.last {
+        if above >= span.last {
             return None;
         }
-        Some(*id)
+        let id = self.streams.next_above(above)?;
+        if id > span.last {
+            return None;
+        }
+        Some(id)
+    }
+}
+
+impl Stream {
+    // rule: 8.1 (own) A response is sent only to a request, and is checked
+    /// Sends the head of a response on the stream.
+    fn answer(
+        &self,
+        conn: &mut Conn,
+        role: Role,
+        id: u32,
+        message: &Message,
+    ) -> Result<(), EndRefusal>
+        ensures { AnswersKept conn.old role self.now id (message_value message.now) result
+            conn.new }
+    {
+        let to_head = self.asks(role)?;
+        if let Err(rule) = check_response(message, to_head) {
+            return Err(EndRefusal::BadMessage(rule));
+        }
+        send_head(conn, id, message)?;
+        Ok(())
+    }
+
+    // rule: 8.1 (own) A response is sent only to a request, and is checked
+    // rule: 8.1 (own) A second response to a request is refused
+    /// Whether the request on the stream, which has no response yet, asks with HEAD.
+    pub(crate) fn asks(&self, role: Role) -> Result<bool, EndRefusal>
+        ensures { AsksOfKept role self.now result }
+    {
+        if role == Role::Client {
+            return Err(EndRefusal::NotAsked);
+        }
+        if !matches!(self.outgoing, Outgoing::NotGiven) {
+            return Err(EndRefusal::Answered);
+        }
+        Ok(self.reading.asks_head())
     }
 }
 

@@ -5,8 +5,8 @@ ghost use Rattle.std.specs.Prelude.{IfOk, IfErr, IsOk, OnOk, OnErr, None, vec_le
 ghost use Rattle.std.specs.Vec.{vec_capacity};
 ghost use Rattle.h2_flow.specs.ConfigValues.{values_of};
 ghost use Rattle.h2_spec_log.specs.declared.role.Role.TheVariants as roles;
-ghost use Rattle.h2_spec_log.specs.Acts.{ResetStream, SendPing, SendGoAway, ChangeSettings, PutOut};
-ghost use Rattle.h2_spec_log.specs.Acts.{Values, Count, Done, Release, Fail};
+ghost use Rattle.h2_spec_log.specs.Acts.{ResetStream, SendPing, SendGoAway, ChangeSettings};
+ghost use Rattle.h2_spec_log.specs.Acts.{PutOut, Values, Count, Done, Release, Fail};
 ghost use Rattle.h2_spec_log.specs.CallRules.{returns_before_put_out};
 ghost use Rattle.h2_spec_log.specs.Limits.{full_output};
 ghost use Rattle.h2_spec_log.specs.Log.{Log, waiting, reader_next_live};
@@ -18,8 +18,8 @@ ghost use Rattle.h2_ends.specs.Ends.{EndLog};
 ghost use Rattle.h2_ends.specs.EndCalls.{unsent_on};
 ghost use Rattle.h2_ends.specs.Quiet.{IsQuietEnd};
 ghost use Rattle.h2_ends.specs.Represents.{EndRepresents, EndAnswers, EndPumps, EndReleases};
-ghost use Rattle.h2_ends.specs.Represents.{EndResponds, new_end_log, EndBeginsAnswer, EndSendsBody};
-ghost use Rattle.h2_ends.specs.Represents.{EndSendsTrailers, EndPumpsSome};
+ghost use Rattle.h2_ends.specs.Represents.{EndResponds, new_end_log, EndBeginsAnswer};
+ghost use Rattle.h2_ends.specs.Represents.{EndSendsBody, EndSendsTrailers, EndPumpsSome};
 
 use crate::end::End;
 use crate::refusal::EndRefusal;
@@ -63,17 +63,17 @@ impl Server {
     // contract: 8.1 (own) A response is sent only to a request, and is checked
     // contract: 8.1 (own) A second response to a request is refused
     // contract: 8.1 A response may come before its request is whole
-    /// Sends the head of a response to the request on a stream, and keeps its body and trailers for
-    /// [`Server::pump`]. The request need not be whole.
+    /// Sends the head of a response to the request on a stream, and keeps its body and trailers
+    /// for [`Server::pump`]. The request need not be whole.
     ///
     /// # Errors
     ///
     /// The message is handed back with [`EndRefusal::NotAsked`] (E3) where the stream isn't active
-    /// or no request on it was handed out, else with [`EndRefusal::Answered`] (E4) where it has its
-    /// response, or one was begun, else with [`EndRefusal::BadMessage`] (E1) where the message
+    /// or no request on it was handed out, else with [`EndRefusal::Answered`] (E4) where it has
+    /// its response, or one was begun, else with [`EndRefusal::BadMessage`] (E1) where the message
     /// breaks a rule, else with [`EndRefusal::Conn`] (E2) and the first of [`Refusal::Closed`]
-    /// (C1), [`Refusal::OutputFull`] (C7), [`Refusal::ListTooLarge`] (C10, of the trailers too) and
-    /// [`Refusal::Memory`] (C12). Nothing has changed.
+    /// (C1), [`Refusal::OutputFull`] (C7), [`Refusal::ListTooLarge`] (C10, of the trailers too)
+    /// and [`Refusal::Memory`] (C12). Nothing has changed.
     pub fn respond(&mut self, id: u32, message: Message) -> Result<(), (Message, EndRefusal)>
         ensures { EndResponds self.old.end id (message_value message) result self.new.end }
     {
@@ -92,11 +92,11 @@ impl Server {
     ///
     /// [`EndRefusal::NotAsked`] (E3) where the stream isn't active or no request on it was handed
     /// out, else [`EndRefusal::Answered`] (E4) where it has its response, or one was begun, else
-    /// [`EndRefusal::BadMessage`] (E1) with the first of M1 to M6, M9 and M10 that the head breaks,
-    /// or M11 for a `content-length` that is no number or that differs from another one, else
-    /// [`EndRefusal::Conn`] (E2) and the first of [`Refusal::Closed`] (C1),
-    /// [`Refusal::OutputFull`] (C7), [`Refusal::ListTooLarge`] (C10) and [`Refusal::Memory`] (C12).
-    /// Nothing has changed.
+    /// [`EndRefusal::BadMessage`] (E1) with the first of M1 to M6, M9 and M10 that the head
+    /// breaks, or M11 for a `content-length` that is no number or that differs from another one,
+    /// else [`EndRefusal::Conn`] (E2) and the first of [`Refusal::Closed`] (C1),
+    /// [`Refusal::OutputFull`] (C7), [`Refusal::ListTooLarge`] (C10) and [`Refusal::Memory`]
+    /// (C12). Nothing has changed.
     pub fn begin(&mut self, id: u32, head: &[Field]) -> Result<(), EndRefusal>
         ensures { EndBeginsAnswer self.old.end id head.now result self.new.end }
     {
@@ -104,10 +104,10 @@ impl Server {
     }
 
     // contract: 8.1 (own) A part of a message is sent where one was begun, and is checked
-    /// Sends octets of the body of the message that was begun on a stream, and its end (END_STREAM)
-    /// with them where `end` is set and all of them are sent. Answers how many were: as many as
-    /// both windows let through, at most 65,536 a call (see [`Conn::data`]), which may be none. No
-    /// octet is kept here: give the rest again, once the output was written and, where
+    /// Sends octets of the body of the message that was begun on a stream, and its end
+    /// (END_STREAM) with them where `end` is set and all of them are sent. Answers how many were:
+    /// as many as both windows let through, at most 65,536 a call (see [`Conn::data`]), which may
+    /// be none. No octet is kept here: give the rest again, once the output was written and, where
     /// [`Conn::room`] of the stream or of the connection (0) is not above 0, [`Server::take`] has
     /// brought more.
     ///
@@ -117,8 +117,8 @@ impl Server {
     /// its end was given; else [`EndRefusal::BadMessage`] (E1) with [`Malformed::BadLength`] (M11)
     /// where the body, with all of these octets, would be longer than its head says, or, with its
     /// end, shorter, or has any where none may be (an answer to HEAD, 204, 304); else
-    /// [`EndRefusal::Conn`] (E2) and the first of [`Refusal::Closed`] (C1), [`Refusal::OutputFull`]
-    /// (C7) and [`Refusal::Memory`] (C12). Nothing has changed.
+    /// [`EndRefusal::Conn`] (E2) and the first of [`Refusal::Closed`] (C1),
+    /// [`Refusal::OutputFull`] (C7) and [`Refusal::Memory`] (C12). Nothing has changed.
     pub fn send_body(&mut self, id: u32, octets: &[u8], end: bool) -> Result<usize, EndRefusal>
         ensures { EndSendsBody self.old.end id octets.now end result self.new.end }
     {
@@ -130,8 +130,8 @@ impl Server {
     ///
     /// # Errors
     ///
-    /// [`EndRefusal::NotAsked`] (E3) as [`Server::send_body`]; else [`EndRefusal::BadMessage`] (E1)
-    /// with the first of M1, M2, M3 and M10 that the trailers break, or M11 where the body is
+    /// [`EndRefusal::NotAsked`] (E3) as [`Server::send_body`]; else [`EndRefusal::BadMessage`]
+    /// (E1) with the first of M1, M2, M3 and M10 that the trailers break, or M11 where the body is
     /// shorter than its head says; else [`EndRefusal::Conn`] (E2) and the first of
     /// [`Refusal::Closed`] (C1), [`Refusal::OutputFull`] (C7), [`Refusal::ListTooLarge`] (C10) and
     /// [`Refusal::Memory`] (C12). Nothing has changed.
@@ -143,15 +143,15 @@ impl Server {
 
     // contract: 8.1 What was sent on a stream is a prefix of its message
     // contract: 8.1 (own) pump sends the lower streams first, and all that can go
-    /// Sends what waits of bodies and trailers, streams in rising order, each as far as its windows
-    /// go, until nothing more could go or 65,536 octets or more of output wait; answers how many
-    /// octets of bodies were sent. A body is sent from where it lies. A long one on a low stream
-    /// goes before those on higher ones.
+    /// Sends what waits of bodies and trailers, streams in rising order, each as far as its
+    /// windows go, until nothing more could go or 65,536 octets or more of output wait; answers
+    /// how many octets of bodies were sent. A body is sent from where it lies. A long one on a low
+    /// stream goes before those on higher ones.
     ///
     /// # Errors
     ///
-    /// [`EndRefusal::Conn`] (E2) with [`Refusal::Closed`] (C1), and with [`Refusal::Memory`] (C12):
-    /// what was sent stays sent, and the rest waits.
+    /// [`EndRefusal::Conn`] (E2) with [`Refusal::Closed`] (C1), and with [`Refusal::Memory`]
+    /// (C12): what was sent stays sent, and the rest waits.
     pub fn pump(&mut self) -> Result<usize, EndRefusal>
         ensures { EndPumps self.old.end result self.new.end }
     {
@@ -160,24 +160,24 @@ impl Server {
 
     // contract: 8.1 (own) pump_some gives each stream a share, in turn
     /// Sends a share of what waits on each stream, in turn; answers how many octets of bodies were
-    /// sent. It makes one pass over the streams on which something waits, in rising order, from the
-    /// one with which it begins to the highest, and then from the lowest. Each gets the least of
-    /// `most` octets (0 counts as 1, and more than 65,536 as 65,536), what its window and the
+    /// sent. It makes one pass over the streams on which something waits, in rising order, from
+    /// the one with which it begins to the highest, and then from the lowest. Each gets the least
+    /// of `most` octets (0 counts as 1, and more than 65,536 as 65,536), what its window and the
     /// connection's let through, and what is left of its body, whose trailers and end go with its
     /// last octet, unless the output is full then. Where a share is cut short, since 65,536 octets
     /// wait or the connection's window is used up, the pass ends there, and what waits on later
     /// streams stays for the next one, which begins with that stream and with what is left of its
     /// share; otherwise it begins where this one did. So no long body keeps the others waiting:
-    /// between two shares of one stream, of which one that was cut short and its rest are one, each
-    /// other stream on which something waited gets one. With [`Server::pump`] lower streams go
-    /// first; it also sends trailers that come behind a body for which the connection's window
+    /// between two shares of one stream, of which one that was cut short and its rest are one,
+    /// each other stream on which something waited gets one. With [`Server::pump`] lower streams
+    /// go first; it also sends trailers that come behind a body for which the connection's window
     /// leaves no room.
     ///
     /// # Errors
     ///
-    /// [`EndRefusal::Conn`] (E2) with [`Refusal::Closed`] (C1), and with [`Refusal::Memory`] (C12):
-    /// what was sent stays sent, the rest waits, and the next pass begins with the stream at which
-    /// memory was refused, and with what is left of its share.
+    /// [`EndRefusal::Conn`] (E2) with [`Refusal::Closed`] (C1), and with [`Refusal::Memory`]
+    /// (C12): what was sent stays sent, the rest waits, and the next pass begins with the stream
+    /// at which memory was refused, and with what is left of its share.
     pub fn pump_some(&mut self, most: usize) -> Result<usize, EndRefusal>
         ensures { EndPumpsSome self.old.end most result self.new.end }
     {
@@ -232,8 +232,8 @@ impl Server {
         self.end.release_all()
     }
 
-    /// Resets a stream with a code, forgets what waits on it, and gives up a message that was begun
-    /// there: see [`Conn::reset`].
+    /// Resets a stream with a code, forgets what waits on it, and gives up a message that was
+    /// begun there: see [`Conn::reset`].
     ///
     /// # Errors
     ///
@@ -311,8 +311,8 @@ impl Server {
 
     // contract: calls (own) An end answers of its state, and of little once it has failed
     /// Whether no output waits, and no stream is active or the connection has failed. After GOAWAY
-    /// or a failure the writing side can be ended then (RFC 9113, section 6.8); what still comes is
-    /// to be read and dropped before the transport is closed. It looks for an active stream as
+    /// or a failure the writing side can be ended then (RFC 9113, section 6.8); what still comes
+    /// is to be read and dropped before the transport is closed. It looks for an active stream as
     /// [`Conn::next_live`] does.
     pub fn is_drained(&self) -> bool
         ensures { (values : Values) (log : Log) → ConnRepresents values self.now.end.conn log
@@ -402,8 +402,8 @@ impl Server {
     }
 
     // contract: 8.1 (own) The other calls of a client and a server are the connection's
-    /// Takes away at most `count` octets of the output, which were written from where they lie, and
-    /// returns their number: see [`Conn::consume`]. Call [`Server::ready`] before each
+    /// Takes away at most `count` octets of the output, which were written from where they lie,
+    /// and returns their number: see [`Conn::consume`]. Call [`Server::ready`] before each
     /// [`Server::waiting_octets`], and give the number of octets that were written.
     ///
     /// # Errors

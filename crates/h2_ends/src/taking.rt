@@ -132,7 +132,7 @@ impl End {
             (FieldsPart self.old.conn.inner.end.list, end)
             → ReadsFields values happened id self.old.conn.inner.end.list end result self.new }
     {
-        let Some(stream) = self.streams.get_mut(&id) else {
+        let Some(stream) = self.streams.get_mut(id) else {
             return self.read_first(id, end);
         };
         let Some(place) = stream.reading.fields(self.conn.list(), end) else {
@@ -179,7 +179,7 @@ impl End {
             → IsReadOn values self.old happened id (OctetsPart octets, end)
             → ReadsData values happened id octets end result self.new }
     {
-        let Some(stream) = self.streams.get_mut(&id) else {
+        let Some(stream) = self.streams.get_mut(id) else {
             return Err(Unread::Malformed(Some(Malformed::BadOrder)));
         };
         if !stream.reading.data(count, end) {

@@ -172,7 +172,7 @@ other_stays one other _ _ _ _ (joints.no_copy_of_trailers id list) = refl
 
 -- A call of `take` that answers a failure leaves the connection failed so.
 take_fails : (end after : EndLog) (piece : List ℕ) (answer : EndAnswer) (code : Code)
-    → EndMayTake end piece answer after → answer ≡ EndFailed code → HasFailed code after
+    → EndMayTake end piece answer after → answer ≡ EndFailed code → after.log.failed ≡ Some code
 take_fails end after piece answer code (fails fault log may answers same) is =
     let down : log.failed ≡ Some fault =
     (log_after_take end.log log piece (Failed fault) may).5 in
@@ -202,9 +202,9 @@ take_fails end after piece answer code
     ap (λ (e : EndLog). e.log.failed) same ∙ so
 
 -- So does a delivery that fails.
-delivery_fails : (calls : ℕ) (end after : EndLog) (octets : List ℕ) (delivery : Delivery)
+pub delivery_fails : (calls : ℕ) (end after : EndLog) (octets : List ℕ) (delivery : Delivery)
     (code : Code) → IsDelivered calls end octets delivery after → delivery ≡ Fails code
-    → HasFailed code after
+    → after.log.failed ≡ Some code
 delivery_fails _ end after _ _ code (joints.is_whole calls octets few may) is = absurd (cc)
 delivery_fails _ end after _ _ code
     (joints.goes_on {between = between} calls octets count handed delivery few may more

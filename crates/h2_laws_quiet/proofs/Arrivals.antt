@@ -8,7 +8,7 @@ use Rattle.h2_spec_log.specs.Acts.{Values, ResetStream}
 use Rattle.h2_laws_pair.proofs.Lists.{none_in, one_of_all, first_in, later_in, first_or_later}
 use Rattle.h2_joined.specs.declared.act.Side.{Side}
 use Rattle.h2_joined.specs.Joints.{Doing, JointEnd, Made, IsJoint, Calls}
-use Rattle.h2_joined.specs.Headline.{WasResetAt, WasResetIn}
+use Rattle.h2_joined.specs.Headline.{AreQuiet, WasResetAt, WasResetIn}
 use Rattle.h2_joined.specs.Runs.{act_made}
 use Rattle.h2_laws_quiet.specs.Arrived.{HasArrived}
 use Rattle.h2_laws_quiet.specs.Rounds.{AreRounds, round_doings, no_round, one_more}
@@ -91,14 +91,12 @@ comes_without client_values server_values made client server _ new_client new_se
           here);
     }
 
+-- At quiet ends to which rounds have led all has arrived.
 module _ (client_values server_values : Values) (made : List Made) (count : ℕ)
     (client server new_client new_server : JointEnd) (i : ℕ)
     (joint : IsJoint client_values server_values made client server)
     (rounds : AreRounds client server count new_client new_server)
-    (client_up : new_client.happened.log.failed ≡ None)
-    (server_up : new_server.happened.log.failed ≡ None)
-    (enough : work_left client.happened server.happened < count)
-    (unreset : WasResetIn made new_client i → ⊥)
+    (quiet : AreQuiet new_client new_server) (unreset : WasResetIn made new_client i → ⊥)
   where
     come : ComesWithout client_values server_values made new_client new_server
     come =
@@ -109,14 +107,37 @@ module _ (client_values server_values : Values) (made : List Made) (count : ℕ)
     spared (inl (side, code, here)) = unreset (inl (side, code, come.resets side i code here))
     spared (inr reported) = unreset (inr reported)
 
+    pub client_has_arrived : HasArrived new_client.happened new_server.happened i
+    client_has_arrived =
+        at_client client_values server_values come.all new_client new_server i come.joint quiet
+        (inr spared)
+
+    pub server_has_arrived : HasArrived new_server.happened new_client.happened i
+    server_has_arrived =
+        at_server client_values server_values come.all new_client new_server i come.joint quiet
+        (inr spared)
+
+-- More rounds than the work that was left have led to quiet ends.
+module _ (client_values server_values : Values) (made : List Made) (count : ℕ)
+    (client server new_client new_server : JointEnd) (i : ℕ)
+    (joint : IsJoint client_values server_values made client server)
+    (rounds : AreRounds client server count new_client new_server)
+    (client_up : new_client.happened.log.failed ≡ None)
+    (server_up : new_server.happened.log.failed ≡ None)
+    (enough : work_left client.happened server.happened < count)
+    (unreset : WasResetIn made new_client i → ⊥)
+  where
+    quiet : AreQuiet new_client new_server
+    quiet =
+        get_quiet client_values server_values made count client server new_client new_server joint
+        rounds client_up server_up enough
+
     pub client_arrives : HasArrived new_client.happened new_server.happened i
     client_arrives =
-        at_client client_values server_values come.all new_client new_server i come.joint
-        (get_quiet client_values server_values made count client server new_client new_server joint
-        rounds client_up server_up enough) (inr spared)
+        client_has_arrived client_values server_values made count client server new_client
+        new_server i joint rounds quiet unreset
 
     pub server_arrives : HasArrived new_server.happened new_client.happened i
     server_arrives =
-        at_server client_values server_values come.all new_client new_server i come.joint
-        (get_quiet client_values server_values made count client server new_client new_server joint
-        rounds client_up server_up enough) (inr spared)
+        server_has_arrived client_values server_values made count client server new_client
+        new_server i joint rounds quiet unreset

@@ -1,6 +1,6 @@
 -- Worked examples of the work that is left, of driving, and of what could go. Each computes.
 use Rattle.std.proofs.Common.{◌≡◌, ℕ, zero, suc, ◌≤◌, ◌%◌, ◌==◌, true, false, List, [], ◌∷◌, None}
-use Rattle.std.proofs.Common.{Some, refl, sym, subst, arith, pos, negsuc}
+use Rattle.std.proofs.Common.{Some, length, refl, sym, subst, arith, pos, negsuc}
 use Rattle.std.proofs.lemmas.Bool.{both_ways}
 use Rattle.h2_frame.specs.Frames.{Data, Settings, Ping, WindowUpdate, Reset}
 unfoldable use Rattle.h2_frame.specs.Encoding.{payload_of}
@@ -234,6 +234,40 @@ rounds_at_ends :
 unfolding computing tokens_on end_tokens trailers_tokens said_tokens tokens_of_call tokens_sent
     said_for tokens_given sum_below shares unsent_on octets_among
 rounds_at_ends = (refl, refl)
+
+-- a request with a body of five octets and trailers
+abbrev trailing : SentMessage
+trailing = record { head = []; body = 1 ∷ 2 ∷ 3 ∷ 4 ∷ 5 ∷ []; trailers = Some [] }
+
+-- a client that was given that request and has sent its head, and the server, whose initial window
+-- is 2
+abbrev trailing_end : EndLog
+trailing_end = record (asked_of (log_of [] (block 1 false [] ∷ [])))
+    { accepted = (1, at_once trailing) ∷ [] }
+
+abbrev narrow_end : EndLog
+narrow_end = record answering_end {
+  log = record (before_opening Server) {
+    received = block 1 false [] ∷ [];
+    sent = window_of 2 ∷ [];
+  };
+}
+
+-- The five octets are three shares of two, and one piece; the trailers and the end are two more.
+rounds_by_a_narrow_window : most_rounds trailing_end narrow_end ≡ 22
+unfolding computing tokens_on end_tokens trailers_tokens said_tokens tokens_of_call tokens_sent
+    said_for tokens_given sum_below shares unsent_on octets_among
+rounds_by_a_narrow_window = refl
+
+-- A client that owes nothing has room for its credit; one whose output is full has none.
+has_room : CreditHasRoom (log_of [] [])
+unfolding computing
+has_room = record { output = omega arith; none_unreturned = refl }
+
+full_has_none : (octets : List ℕ) → length octets ≡ 65536
+    → CreditHasRoom (record (log_of [] []) { written = octets }) → ⊥
+unfolding computing
+full_has_none octets full room = absurd (omega (arith, full, room.output))
 
 -- Octets are owed on one stream, and after the reset on none; one octet is unreturned in both, so
 -- neither has room.

@@ -32,7 +32,6 @@ pub mod WorkOfTakes
 pub mod WorkOfTokens
 pub mod WorkOfEnds
 mod WorkOfPasses
-mod FailedDeliveries
 pub mod WorkOfDeliveries
 pub mod WorkOfActs
 mod OutputGiven

@@ -28,8 +28,8 @@ use Rattle.h2_laws_end.proofs.OverCalls.{items_no_block}
 use Rattle.h2_laws_end.proofs.OverRoom.{window_test}
 use Rattle.h2_laws_end.specs.Over.{has_room}
 use Rattle.h2_laws_pair.specs.Quiet.{CouldGo, NoneCouldGo}
-use Rattle.h2_laws_pair.specs.Tokens.{Token, FieldsToken, OctetToken, EndToken}
-unfoldable use Rattle.h2_laws_pair.specs.Tokens.{tokens_of_call, end_tokens, trailers_tokens}
+use Rattle.h2_laws_pair.specs.Tokens.{Token, FieldsToken, OctetToken, EndToken, trailers_tokens}
+unfoldable use Rattle.h2_laws_pair.specs.Tokens.{tokens_of_call, end_tokens}
 use Rattle.h2_ends.specs.Ends.{EndLog, tokens_out, tokens_waiting}
 use Rattle.h2_ends.specs.EndCalls.{BodyWaits, TrailersWait, IsStuckOn, Pumps}
 use Rattle.h2_ends.specs.EndCalls.{pumps_no_more, pumps_data, pumps_trailers, data_refused}
@@ -40,6 +40,7 @@ use Rattle.h2_ends.proofs.PumpStuck.{out_same, waiting_same, stuck_by}
 use Rattle.h2_ends.proofs.PumpTokens.{begun_more, data_tokens, fields_tokens}
 use Rattle.h2_ends.proofs.PumpWindows.{data_accepted, data_active, data_within}
 use Rattle.h2_ends.proofs.PumpWindows.{none_without_room}
+use Rattle.h2_ends.proofs.Unsent.{octets_then, tail_without}
 use Rattle.h2_laws_quiet.specs.Going.{CouldGoOn, WentOn, most_sendable}
 use Rattle.h2_laws_quiet.proofs.PumpFirst.{lowest_below, not_stuck}
 use Rattle.h2_laws_quiet.proofs.CallsOfPumps.{asked, none_written, data_full, fields_full}
@@ -238,15 +239,15 @@ octets_no_list end id octets ends list waits wait =
     let wrong = sym wait ∙ waits.waits ∙ first.2 in cc
 
 -- The octets of a message are those of its body.
--- to be cited from h2_ends (proofs/Unsent.antt, `octets_then` and `tail_without`), where it is
--- private
 pub among_octets : (octets : List ℕ) (trailers : Option (List Field))
     → octets_among (each OctetToken octets ++ (trailers_tokens trailers ++ EndToken ∷ []))
     ≡ length octets
-unfolding octets_among trailers_tokens
-among_octets [] None = refl
-among_octets [] (Some list) = refl
-among_octets (octet ∷ octets) trailers = ap suc (among_octets octets trailers)
+among_octets octets trailers =
+    omega (
+      arith,
+      octets_then octets (trailers_tokens trailers ++ EndToken ∷ []),
+      tail_without trailers,
+    )
 
 -- Of octets that wait as many go with a call as it may send.
 amount_of : (end : EndLog) (id : ℕ) (octets : List ℕ) (ends : Bool) (sent more : ℕ)

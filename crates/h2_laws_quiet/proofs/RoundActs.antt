@@ -21,8 +21,8 @@ use Rattle.h2_joined.specs.Joints.{Fails}
 use Rattle.h2_joined.specs.Joints.{Pumps, ReleasesAll, Moves, Delivers, acted_by, acted_as}
 use Rattle.h2_joined.specs.Joints as joints
 use Rattle.h2_joined.specs.Runs.{ActsLeadTo, leads_nowhere, leads_on, GotMemory, act_made}
+use Rattle.h2_joined.proofs.JointMemory.{delivery_fails}
 use Rattle.h2_laws_quiet.specs.Rounds.{all_octets}
-use Rattle.h2_laws_quiet.proofs.FailedDeliveries.{delivery_fails}
 use Rattle.h2_laws_quiet.proofs.RoundSides.{put_out_end}
 
 -- the act of a side, with its result

@@ -31,12 +31,11 @@ use Rattle.h2_joined.proofs.HoldsSides.{faultless_at, role_at, values_at}
 use Rattle.h2_joined.proofs.HoldsTakes.{Around, HoldsIn}
 use Rattle.h2_joined.proofs.JointActs.{joint_holds}
 use Rattle.h2_joined.proofs.JointHolds.{HoldsAt, AllHadMemory, log_of, turned}
-use Rattle.h2_joined.proofs.JointMemory.{had_memory, none_was_ended}
+use Rattle.h2_joined.proofs.JointMemory.{delivery_fails, had_memory, none_was_ended}
 unfoldable use Rattle.h2_laws_quiet.specs.Driving.{IsDriving}
 use Rattle.h2_laws_quiet.specs.Driving.{received_since}
 use Rattle.h2_laws_quiet.specs.Work.{work_of_item, credit_left}
 use Rattle.h2_laws_quiet.specs.Work.{work_left}
-use Rattle.h2_laws_quiet.proofs.FailedDeliveries.{delivery_fails}
 use Rattle.h2_laws_quiet.proofs.WorkOfDeliveries.{EndTakes, delivery_falls}
 use Rattle.h2_laws_quiet.proofs.WorkOfEnds.{EndDrives, pump_falls, release_all_falls}
 use Rattle.h2_laws_quiet.proofs.WorkOfEnds.{release_falls, put_out_falls, refused_falls}

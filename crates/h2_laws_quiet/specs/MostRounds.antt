@@ -7,7 +7,9 @@ use Rattle.h2_ends.specs.EndCalls.{unsent_on}
 use Rattle.h2_laws_quiet.specs.Room.{window_ahead}
 use Rattle.h2_laws_quiet.specs.Work.{above_streams, tokens_on}
 
--- into how many shares of so many octets at most these can be cut
+-- how many shares of so many octets it takes until none of these is left: the octets by the share,
+-- rounded up, where no share is empty. The last number ends the count, so that an empty share has
+-- an answer; the number of the octets themselves is always enough.
 unfoldable pub shares : (octets share most : ℕ) → ℕ
 shares zero share most = 0
 shares octets share zero = 0
@@ -17,8 +19,7 @@ shares octets share (suc most) = suc (shares (octets - share) share most)
 abbrev pub octets_left : EndLog → ℕ
 octets_left end = sum_below (above_streams end.log) (unsent_on end)
 
--- in how many pieces what waits on a stream goes, where no window holds it back: its octets, its
--- trailers and its end, of these as many as wait
+-- how many kinds of piece wait on a stream: 1 for its octets, 1 for its trailers, 1 for its end
 abbrev pub pieces_on : EndLog → ℕ → ℕ
 pieces_on end i = min 1 (unsent_on end i) + (tokens_on end i - unsent_on end i)
 
@@ -30,7 +31,7 @@ abbrev pub shares_left : (writer : EndLog) (reader : Log) → ℕ
 shares_left writer reader =
     shares (octets_left writer) (window_ahead reader) (octets_left writer) + pieces_left writer
 
--- After so many rounds two ends are quiet.
+-- After so many rounds two ends are quiet, where memory sufficed in them and neither has failed.
 -- rule (law): joined (own) Two ends that are driven get quiet, and all that was accepted arrives
 abbrev pub most_rounds : (one other : EndLog) → ℕ
 most_rounds one other = 10 + 2 * (shares_left one other.log + shares_left other one.log)

@@ -8,8 +8,8 @@ use Rattle.h2_spec_log.specs.States.{count_below}
 use Rattle.h2_spec_log.specs.Windows.{first_window}
 use Rattle.h2_laws_quiet.specs.Work.{above_streams}
 
--- the window that will be in force on a new stream to an end, by the last SETTINGS that it has
--- sent, and no more than that of the connection
+-- the window that will be in force on a new stream to an end, by the last value of
+-- SETTINGS_INITIAL_WINDOW_SIZE that it has sent, and no more than that of a new connection
 abbrev pub window_ahead : (reader : Log) → ℕ
 window_ahead reader = min first_window (value_read 4 first_window reader.sent)
 
@@ -17,8 +17,8 @@ window_ahead reader = min first_window (value_read 4 first_window reader.sent)
 abbrev pub streams_owed : Log → ℕ
 streams_owed log = count_below (above_streams log) (λ j. not (owed log j == 0))
 
--- An end has room for all credit that it owes: its output is not filled by two WINDOW_UPDATE, of
--- 26 octets, for each stream on which something is owed; and no other credit is unreturned.
+-- An end has room for all credit that it owes: two WINDOW_UPDATE for each stream on which something
+-- is owed, 26 octets together, do not fill its output; and no other credit is unreturned.
 -- rule (law): joined (own) Two ends that are driven get quiet, and all that was accepted arrives
 pub record CreditHasRoom (log : Log) : Type 0 where
   pub output : waiting log + 26 * streams_owed log < full_output

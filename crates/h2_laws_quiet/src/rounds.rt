@@ -84,11 +84,12 @@ pub fn few_rounds_lead_to_quiet()
 {}
 
 // contract: joined (own) Two ends that are driven get quiet, and all that was accepted arrives
-/// In two rounds one after another, of the lowest stream on which something waits, as many octets
-/// go as a window lets through, or all of them: the initial window that the reader has set last,
-/// and 65,535 at most (RFC 9113, section 6.9). Before these two a round was made; as the first of
-/// them begins both ends have room for all credit that they owe, and as the second begins the
-/// writer has. So it is whatever acts were made before, and whatever waits on other streams.
+/// In two rounds one after another the lowest stream on which something waits sends as many octets
+/// as a window lets through, or all that wait there, where those are fewer. The window is the last
+/// initial window that the reader has sent, and 65,535 at most (RFC 9113, section 6.9). Before these
+/// two a round was made; as the first of them begins both ends have room for all credit that they
+/// owe, and as the second begins the writer has. So it is whatever acts were made before, and
+/// whatever waits on other streams.
 pub fn two_rounds_send_a_window()
     ensures to_server { (client_values server_values : Values) (made : List Made)
         (old_client old_server client server mid_client mid_server new_client new_server

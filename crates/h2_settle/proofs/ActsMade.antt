@@ -2,7 +2,7 @@
 use Rattle.std.proofs.Common.{◌≡◌, ℕ, ◌+◌, ◌<◌, ◌≤◌, List, [], ◌∷◌, ◌++◌, length, reverse, get_or}
 use Rattle.std.proofs.Common.{take, drop, Some, None, refl, sym, ap, ◌∙◌, subst, arith}
 use Rattle.std.proofs.Common.{map as each}
-use Rattle.std.proofs.lemmas.List.{append-nil, length-map, length-reverse, map-append}
+use Rattle.std.proofs.lemmas.List.{length-map, length-reverse, map-append}
 use Rattle.std.proofs.lemmas.List.{reverse-append, take-append-drop, take_all, take_more}
 use Rattle.std.specs.List.{AllByRecursion}
 use Rattle.h2_spec_log.specs.Acts.{Values}
@@ -10,13 +10,13 @@ use Rattle.h2_joined.specs.declared.act.Acted.{Acted}
 use Rattle.h2_joined.specs.declared.act.JointAct.{JointAct}
 use Rattle.h2_joined.specs.declared.act.Side.{Side}
 use Rattle.h2_joined.specs.declared.joined.Joined.{Joined}
-use Rattle.h2_joined.specs.Joints.{JointEnd, Made}
+use Rattle.h2_joined.specs.Joints.{IsNextAct, JointEnd, Made}
 use Rattle.h2_joined.specs.Kept.{JoinedRepresents, MakesAct, made_of}
-use Rattle.h2_joined.specs.Runs.{GotMemory, act_made, joint_act_value, leads_nowhere}
+use Rattle.h2_joined.specs.Runs.{GotMemory, act_made, joint_act_value}
 use Rattle.h2_laws_quiet.specs.Rounds.{round_doings}
 use Rattle.h2_settle.specs.declared.rounds.Ending.{Ending}
 use Rattle.h2_settle.specs.declared.rounds.Ending.TheVariants.{Whole, Failed, NoMemory}
-use Rattle.h2_settle.specs.Settling.{BeginRound}
+use Rattle.h2_settle.specs.Settling.{BeginRound, GoWell, fails, had_failed, refused}
 use Rattle.h2_settle.specs.RoundEndings.{FailedIs, FindsFailed, EndsAct, MakesRound}
 use Rattle.h2_settle.proofs.Emptied.{LeadsWithin, within_none, within_next, leads_of, few_on_pipe}
 use Rattle.h2_settle.proofs.Emptied.{both_emptied}
@@ -66,10 +66,11 @@ values_of_both acts later =
 
 -- The acts with one more.
 record OneMore (client_values server_values : Values) (before : List Made)
-    (first_client first_server : JointEnd) (acts : List JointAct) (act : Made)
-    (others : List Made) (new : Joined) : Type 0 where
+    (first_client first_server old_client old_server : JointEnd) (acts : List JointAct)
+    (act : Made) (others : List Made) (new : Joined) : Type 0 where
   client : JointEnd
   server : JointEnd
+  next : IsNextAct old_client old_server act client server
   represents : JoinedRepresents client_values server_values new (act ∷ others ++ before) client
       server
   within : LeadsWithin first_client first_server (act ∷ others) client server
@@ -80,8 +81,8 @@ one_more : (client_values server_values : Values) (before : List Made)
     (acted : Acted) (old new : Joined)
     → (so_far : MadeSoFar client_values server_values before first_client first_server acts old)
     → MakesAct old (made_of act acted) new
-    → OneMore client_values server_values before first_client first_server (acts ++ act ∷ [])
-    (made_of act acted) so_far.made new
+    → OneMore client_values server_values before first_client first_server so_far.client
+    so_far.server (acts ++ act ∷ []) (made_of act acted) so_far.made new
 one_more client_values server_values before first_client first_server acts act acted old new so_far
     makes =
     let (client, server, next, after) =
@@ -90,6 +91,7 @@ one_more client_values server_values before first_client first_server acts act a
     record {
       client = client;
       server = server;
+      next = next;
       represents = after;
       within = within_next so_far.within
           (few_on_pipe old.at_client.incoming so_far.client.incoming
@@ -131,6 +133,19 @@ begins acts later made round are = (
       ∙ ap (λ values. reverse (each joint_act_value later) ++ values) (sym are),
 )
 
+-- The acts that were made went well.
+went_well : (client_values server_values : Values) (before : List Made)
+    (first_client first_server : JointEnd) (acts : List JointAct) (now : Joined)
+    → (so_far : MadeSoFar client_values server_values before first_client first_server acts now)
+    → GoWell first_client first_server so_far.made so_far.client so_far.server
+went_well client_values server_values before first_client first_server acts now so_far = record {
+  up_before = so_far.first_up;
+  leads = leads_of first_client first_server so_far.client so_far.server so_far.made
+      so_far.within;
+  memory = so_far.got;
+  up = so_far.up;
+}
+
 -- It was refused memory, or an end has failed.
 stops_there : (first old new : Joined) (acts later : List JointAct) (act : JointAct)
     (ending : Ending) → reverse (each joint_act_value ((acts ++ act ∷ []) ++ later)) ≡ round_doings
@@ -148,13 +163,12 @@ stops_there first old new acts later act (Failed side) round makes ends stopped 
       more.client,
       more.server,
       more.represents,
-      (
-        leads_of client server more.client more.server made more.within,
-        begins (acts ++ act ∷ []) later made round more.acts_are,
-        (ends.2.0, so_far.got),
-        ends.2.1 client_values server_values (made ++ before) more.client more.server
-            more.represents,
-      ),
+      fails so_far.made
+          (went_well client_values server_values before client server acts old so_far)
+          (made_of act ends.0) (begins (acts ++ act ∷ []) later made round more.acts_are)
+          more.next ends.2.0
+          (ends.2.1 client_values server_values (made ++ before) more.client more.server
+          more.represents),
     )
 stops_there first old new acts later act NoMemory round makes ends stopped client_values
     server_values before client server is =
@@ -166,15 +180,10 @@ stops_there first old new acts later act NoMemory round makes ends stopped clien
       more.client,
       more.server,
       more.represents,
-      (
-        made_of act ends.0,
-        so_far.made,
-        refl,
-        leads_of client server more.client more.server made more.within,
-        begins (acts ++ act ∷ []) later made round more.acts_are,
-        so_far.got,
-        ends.2,
-      ),
+      refused so_far.made
+          (went_well client_values server_values before client server acts old so_far)
+          (made_of act ends.0) (begins (acts ++ act ∷ []) later made round more.acts_are)
+          more.next ends.2,
     )
 
 -- A round has eight acts.
@@ -232,6 +241,7 @@ module _ (acts : List JointAct) (round : reverse (each joint_act_value acts) ≡
         so_far.represents,
         (
           so_far.first_up,
+          so_far.up,
           record {
             acts = so_far.made;
             leads = leads_of client server so_far.client so_far.server so_far.made so_far.within;
@@ -240,6 +250,7 @@ module _ (acts : List JointAct) (round : reverse (each joint_act_value acts) ≡
             to_client = empty.0;
             to_server = empty.1;
           },
+          refl,
         ),
       )
 
@@ -251,10 +262,5 @@ makes_none_failed joined side finds client_values server_values before client se
   client,
   server,
   is,
-  (
-    leads_nowhere,
-    (round_doings, sym (append-nil round_doings)),
-    tt,
-    finds client_values server_values before client server is,
-  ),
+  had_failed (finds client_values server_values before client server is),
 )

@@ -1,15 +1,15 @@
 -- Two ends that are driven, round by round.
 use Rattle.std.proofs.Common.{◌≡◌, inl, inr, ℕ, suc, ◌+◌, ◌≤◌, ◌<◌, true, false, List, []}
-use Rattle.std.proofs.Common.{◌++◌, Some, None, refl, subst, arith, add-one}
+use Rattle.std.proofs.Common.{◌++◌, Some, None, refl, arith, add-one}
 use Rattle.std.proofs.Common.{ltb-true, ltb-false, nat_lt}
 use Rattle.std.proofs.Common.{append_assoc}
 use Rattle.std.proofs.lemmas.Bool.{both_ways, cases_Bool}
 use Rattle.h2_spec_log.specs.Acts.{Values}
 use Rattle.h2_joined.specs.declared.act.Side.{Side}
 use Rattle.h2_joined.specs.declared.joined.Joined.{Joined}
+use Rattle.h2_joined.specs.Headline.{AreQuiet}
 use Rattle.h2_joined.specs.Joints.{JointEnd, Made}
 use Rattle.h2_joined.specs.Kept.{JoinedRepresents}
-use Rattle.h2_joined.specs.Runs.{ActsLeadTo}
 use Rattle.h2_joined.proofs.KeptQuiet.{TellsBoth}
 use Rattle.h2_laws_quiet.specs.Rounds.{AreRounds, no_round, one_more}
 use Rattle.h2_laws_quiet.specs.MostRounds.{most_rounds}
@@ -17,11 +17,20 @@ use Rattle.h2_laws_quiet.specs.Work.{work_left}
 use Rattle.h2_laws_quiet.proofs.FewQuiet.{few_lead}
 use Rattle.h2_laws_quiet.proofs.ManyRounds.{get_quiet}
 use Rattle.h2_settle.specs.declared.rounds.Ending.TheVariants.{Whole, Failed, NoMemory}
-use Rattle.h2_settle.specs.Settling.{BeginRound, Settles, settles, stops_failed}
-use Rattle.h2_settle.specs.Settling.{stops_without_memory}
+use Rattle.h2_settle.specs.Settling.{AreNeeded, Settles, none_needed, one_needed, settles, stops}
 use Rattle.h2_settle.specs.RoundEndings.{FailedIs, MakesRound}
 
--- So many rounds were made at two ends, no more than the work that was left, and one, and no more
+-- Rounds that were needed are rounds.
+pub rounds_of : (client server new_client new_server : JointEnd) (rounds : ℕ) (acts : List Made)
+    → AreNeeded client server rounds acts new_client new_server
+    → AreRounds client server rounds new_client new_server
+rounds_of client server _ _ _ _ none_needed = no_round
+rounds_of client server new_client new_server _ _
+    (one_needed {count = count} {acts = acts} {mid_client = mid_client} {mid_server = mid_server}
+    needed up busy round still_up) =
+    one_more (rounds_of client server mid_client mid_server count acts needed) round
+
+-- So many rounds were made at two ends, and each was needed: no more than the work that was left, and one, and no more
 -- than what waited needs.
 pub record DrivenFor (client_values server_values : Values) (before : List Made)
     (first_client first_server : JointEnd) (rounds : ℕ) (now : Joined) : Type 0 where
@@ -29,7 +38,7 @@ pub record DrivenFor (client_values server_values : Values) (before : List Made)
   pub client : JointEnd
   pub server : JointEnd
   pub represents : JoinedRepresents client_values server_values now (acts ++ before) client server
-  pub are_rounds : AreRounds first_client first_server rounds client server
+  pub are_needed : AreNeeded first_client first_server rounds acts client server
   pub few : rounds ≤ suc (work_left first_client.happened first_server.happened)
   pub fewest : rounds ≤ most_rounds first_client.happened first_server.happened
 
@@ -47,7 +56,7 @@ drives_none joined client_values server_values before client server is = record 
   client = client;
   server = server;
   represents = is;
-  are_rounds = no_round;
+  are_needed = none_needed;
   few = omega arith;
   fewest = omega arith;
 }
@@ -65,7 +74,8 @@ few_rounds client_values server_values before first_client first_server rounds f
     elim (cases_Bool (nat_lt work rounds)) [
       | inl more ↦
           let quiet = get_quiet client_values server_values before rounds first_client first_server
-          driven.client driven.server is.joint driven.are_rounds up.0 up.1
+          driven.client driven.server is.joint (rounds_of first_client first_server
+          driven.client driven.server rounds driven.acts driven.are_needed) up.0 up.1
           (ltb-true work rounds more) in
           absurd (both_ways false refl ((busy client_values server_values (driven.acts ++ before)
           driven.client driven.server driven.represents).1 quiet))
@@ -86,11 +96,22 @@ fewer_rounds client_values server_values before first_client first_server rounds
       | inl fewer ↦ ltb-true rounds most fewer
       | inr enough ↦
           let quiet = few_lead client_values server_values driven.client driven.server up.0 up.1
-          before first_client first_server rounds is.joint driven.are_rounds
+          before first_client first_server rounds is.joint (rounds_of first_client first_server
+          driven.client driven.server rounds driven.acts driven.are_needed)
           (ltb-false rounds most enough) in
           absurd (both_ways false refl ((busy client_values server_values (driven.acts ++ before)
           driven.client driven.server driven.represents).1 quiet))
     ]
+
+-- The two ends that were driven so far are not quiet.
+not_quiet : (client_values server_values : Values) (before : List Made)
+    (first_client first_server : JointEnd) (rounds : ℕ) (now : Joined)
+    → (driven : DrivenFor client_values server_values before first_client first_server rounds now)
+    → TellsBoth now false → AreQuiet driven.client driven.server → ⊥
+not_quiet client_values server_values before first_client first_server rounds now driven busy
+    quiet =
+    both_ways false refl ((busy client_values server_values (driven.acts ++ before) driven.client
+    driven.server driven.represents).1 quiet)
 
 -- A round more.
 pub drives_more : (first old new : Joined) (rounds : ℕ) → DrivesFor first rounds old
@@ -98,7 +119,7 @@ pub drives_more : (first old new : Joined) (rounds : ℕ) → DrivesFor first ro
 drives_more first old new rounds drives busy makes client_values server_values before client server
     is =
     let driven = drives client_values server_values before client server is in
-    let (acts, new_client, new_server, after, (up, round)) =
+    let (acts, new_client, new_server, after, (up, still_up, round, are)) =
     makes client_values server_values (driven.acts ++ before) driven.client driven.server
     driven.represents in
     let few = few_rounds client_values server_values before client server rounds first old is
@@ -110,13 +131,14 @@ drives_more first old new rounds drives busy makes client_values server_values b
       client = new_client;
       server = new_server;
       represents = rw append_assoc after;
-      are_rounds = rw add-one (one_more driven.are_rounds round);
+      are_needed = rw (add-one, ← are) (one_needed driven.are_needed up (not_quiet client_values
+          server_values before client server rounds old driven busy) round still_up);
       few = omega (arith, few);
       fewest = omega (arith, fewer);
     }
 
 -- The two ends are quiet.
-pub settles_quiet : (first now : Joined) (rounds most : ℕ) → rounds ≤ most
+pub settles_quiet : (first now : Joined) (rounds most : ℕ) → rounds < most
     → DrivesFor first rounds now → TellsBoth now true
     → Settles first most (record { rounds = rounds; failed = None; memory = false }) now
 settles_quiet first now rounds most within drives quiet client_values server_values before client
@@ -126,55 +148,58 @@ settles_quiet first now rounds most within drives quiet client_values server_val
       driven.client,
       driven.server,
       driven.represents,
-      inl (settles driven.are_rounds ((quiet client_values server_values (driven.acts ++ before)
-          driven.client driven.server driven.represents).0 refl)),
-      within,
+      inl (
+        within,
+        settles driven.are_needed ((quiet client_values server_values (driven.acts ++ before)
+            driven.client driven.server driven.represents).0 refl),
+      ),
       driven.few,
       driven.fewest,
     )
 
--- An end has failed in the next round, or before it.
-pub settles_failed : (first old new : Joined) (rounds most : ℕ) (side : Side)
-    → rounds ≤ most → DrivesFor first rounds old → MakesRound old (Failed side) new
-    → Settles first most (record { rounds = rounds; failed = Some side; memory = false }) new
-settles_failed first old new rounds most side within drives makes client_values server_values
-    before client server is =
-    let driven = drives client_values server_values before client server is in
-    let (acts, new_client, new_server, after, (leads, begin, got, failed)) =
-    makes client_values server_values (driven.acts ++ before) driven.client driven.server
-    driven.represents in (
-      acts ++ driven.acts,
-      new_client,
-      new_server,
-      rw append_assoc after,
-      inl (stops_failed driven.are_rounds acts leads begin got side failed),
-      within,
-      driven.few,
-      driven.fewest,
-    )
+module _ (first old new : Joined) (rounds most : ℕ) (within : rounds < most)
+    (drives : DrivesFor first rounds old) (busy : TellsBoth old false) where
+  -- An end had failed before the next round, or has in it.
+  pub settles_failed : (side : Side) → MakesRound old (Failed side) new
+      → Settles first most (record { rounds = rounds; failed = Some side; memory = false }) new
+  settles_failed side makes client_values server_values before client server is =
+      let driven = drives client_values server_values before client server is in
+      let (acts, new_client, new_server, after, stops_so) =
+      makes client_values server_values (driven.acts ++ before) driven.client driven.server
+      driven.represents in (
+        acts ++ driven.acts,
+        new_client,
+        new_server,
+        rw append_assoc after,
+        inl (
+          within,
+          stops driven.are_needed (not_quiet client_values server_values before client server
+              rounds old driven busy) stops_so,
+        ),
+        driven.few,
+        driven.fewest,
+      )
 
--- An act of the next round was refused memory.
-pub settles_without_memory : (first old new : Joined) (rounds most : ℕ) → rounds ≤ most
-    → DrivesFor first rounds old → MakesRound old NoMemory new
-    → Settles first most (record { rounds = rounds; failed = None; memory = true }) new
-settles_without_memory first old new rounds most within drives makes client_values server_values
-    before client server is =
-    let driven = drives client_values server_values before client server is in
-    let (acts, new_client, new_server, after, (last, others, are, leads, begin, got, refused)) =
-    makes client_values server_values (driven.acts ++ before) driven.client driven.server
-    driven.represents in (
-      acts ++ driven.acts,
-      new_client,
-      new_server,
-      rw append_assoc after,
-      inl (stops_without_memory driven.are_rounds last others
-          (subst (λ (made : List Made). ActsLeadTo driven.client driven.server made new_client
-          new_server) are leads)
-          (subst (λ (made : List Made). BeginRound made) are begin) got refused),
-      within,
-      driven.few,
-      driven.fewest,
-    )
+  -- An act of the next round was refused memory.
+  pub settles_without_memory : MakesRound old NoMemory new
+      → Settles first most (record { rounds = rounds; failed = None; memory = true }) new
+  settles_without_memory makes client_values server_values before client server is =
+      let driven = drives client_values server_values before client server is in
+      let (acts, new_client, new_server, after, stops_so) =
+      makes client_values server_values (driven.acts ++ before) driven.client driven.server
+      driven.represents in (
+        acts ++ driven.acts,
+        new_client,
+        new_server,
+        rw append_assoc after,
+        inl (
+          within,
+          stops driven.are_needed (not_quiet client_values server_values before client server
+              rounds old driven busy) stops_so,
+        ),
+        driven.few,
+        driven.fewest,
+      )
 
 -- As many rounds were made as were asked for.
 pub settles_at_most : (first now : Joined) (rounds most : ℕ) → DrivesFor first rounds now
@@ -191,9 +216,8 @@ settles_at_most first now rounds most drives all client_values server_values bef
         rounds = refl;
         failed = refl;
         memory = refl;
-        are_rounds = rw (← all) driven.are_rounds;
+        are_needed = rw (← all) driven.are_needed;
       }),
-      omega arith,
       rw (← all) driven.few,
       rw (← all) driven.fewest,
     )

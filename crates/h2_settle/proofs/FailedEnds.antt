@@ -19,12 +19,17 @@ finds_client joined one tells some client_values server_values made client serve
     some_not_none one some (tells client_values client.happened.log
     is.client_represents.streams.conn ∙ none)
 
--- The server has.
-pub finds_server : (joined : Joined) (other : Option Code) → HasFailed Server joined other
-    → is_some other ≡ true → FindsFailed joined (Some Server)
-finds_server joined other tells some client_values server_values made client server is none =
-    some_not_none other some (tells server_values server.happened.log
-    is.server_represents.streams.conn ∙ none)
+-- The server has, and the client has not.
+pub finds_server : (joined : Joined) (one other : Option Code) → HasFailed Client joined one
+    → HasFailed Server joined other → is_some one ≡ false → is_some other ≡ true
+    → FindsFailed joined (Some Server)
+finds_server joined one other tells_one tells_other no_client some client_values server_values made
+    client server is = (
+      sym (tells_one client_values client.happened.log is.client_represents.streams.conn)
+          ∙ none_of one no_client,
+      λ none. some_not_none other some (tells_other server_values server.happened.log
+          is.server_represents.streams.conn ∙ none),
+    )
 
 -- Neither has.
 pub finds_neither : (joined : Joined) (one other : Option Code) → HasFailed Client joined one

@@ -3,3 +3,5 @@ pub mod FailedEnds
 pub mod Emptied
 pub mod ActsMade
 pub mod Driven
+mod SettledQuiet
+mod Examples

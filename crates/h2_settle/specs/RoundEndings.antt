@@ -1,6 +1,5 @@
 -- How the functions that make a round of acts end.
-use Rattle.std.specs.Prelude.{◌≡◌, List, ◌∷◌, ◌++◌, Option, Some, None}
-use Rattle.std.specs.List.{AllByRecursion}
+use Rattle.std.specs.Prelude.{◌≡◌, true, false, List, ◌++◌, Option, Some, None}
 use Rattle.h2_spec_log.specs.Acts.{Values}
 use Rattle.h2_joined.specs.declared.act.Acted.{Acted}
 use Rattle.h2_joined.specs.declared.act.JointAct.{JointAct}
@@ -8,17 +7,16 @@ use Rattle.h2_joined.specs.declared.act.Side.{Side}
 use Rattle.h2_joined.specs.declared.joined.Joined.{Joined}
 use Rattle.h2_joined.specs.Joints.{JointEnd, Made}
 use Rattle.h2_joined.specs.Kept.{JoinedRepresents, MakesAct, made_of}
-use Rattle.h2_joined.specs.Runs.{ActsLeadTo, GotMemory}
+use Rattle.h2_joined.specs.Runs.{GotMemory}
 use Rattle.h2_laws_quiet.specs.Rounds.{IsRound}
 use Rattle.h2_settle.specs.declared.rounds.Ending.{Ending}
 use Rattle.h2_settle.specs.declared.rounds.Ending.TheVariants.{Whole, Failed, NoMemory}
-use Rattle.h2_settle.specs.Settling.{BeginRound, HasFailedAt}
+use Rattle.h2_settle.specs.Settling.{BothUp, NamesFailed, StopsRound}
 
--- The end on this side has failed, or neither end has.
+-- This end is named as failed, or neither end has failed.
 abbrev pub FailedIs : Option Side → (client server : JointEnd) → Type 0
-FailedIs None client server =
-    (client.happened.log.failed ≡ None) × (server.happened.log.failed ≡ None)
-FailedIs (Some side) client server = HasFailedAt side client server
+FailedIs None client server = BothUp client server
+FailedIs (Some side) client server = NamesFailed side client server
 
 -- So it is of the two ends, whatever has happened at them.
 abbrev pub FindsFailed : Joined → Option Side → Type 0
@@ -38,20 +36,16 @@ abbrev pub EndsAct : (old : Joined) → JointAct → Ending → (new : Joined) �
 EndsAct old act ending new =
     (acted : Acted) × MakesAct old (made_of act acted) new × EndsWith ending acted new
 
--- What the acts are, newest first, that lead from two ends to two others, by how a round has
--- ended: a round between ends that are up, or the first acts of one. Of these each got its memory,
--- but for the last one where memory was refused.
+-- These acts lead from two ends to two others, by how a round has ended.
 abbrev pub EndsRound : Ending → (client server : JointEnd) → List Made
     → (new_client new_server : JointEnd) → Type 0
 EndsRound Whole client server acts new_client new_server =
-    FailedIs None client server × IsRound client server new_client new_server
+    BothUp client server × BothUp new_client new_server
+    × (round : IsRound client server new_client new_server) × (round.acts ≡ acts)
 EndsRound (Failed side) client server acts new_client new_server =
-    ActsLeadTo client server acts new_client new_server × BeginRound acts
-    × AllByRecursion (λ act. GotMemory act.acted) acts × HasFailedAt side new_client new_server
+    StopsRound client server acts (Some side) false new_client new_server
 EndsRound NoMemory client server acts new_client new_server =
-    (last : Made) × (others : List Made) × (acts ≡ last ∷ others)
-    × ActsLeadTo client server acts new_client new_server × BeginRound acts
-    × AllByRecursion (λ act. GotMemory act.acted) others × (GotMemory last.acted → ⊥)
+    StopsRound client server acts None true new_client new_server
 
 -- The round was made, or its first acts, and has ended so, whatever had happened at the two ends.
 abbrev pub MakesRound : (old : Joined) → Ending → (new : Joined) → Type 0

@@ -16,18 +16,21 @@ pub struct Settled {
     /// failed after any of them. At most as many as were asked for, and as what waited at first
     /// needs ([`settle`]).
     pub rounds: u64,
-    /// The end that had failed before the next round, or after an act of it; the client, if both
-    /// had. `None` where `memory` is true, and where as many rounds were made as were asked for.
+    /// The end that had failed before the first round, or has failed in the last act; the client,
+    /// if both have. `None` where `memory` is true, and where as many rounds were made as were
+    /// asked for.
     pub failed: Option<Side>,
-    /// Whether the last act, one of the next round, was refused memory.
+    /// Whether the last act, one of the next round, was refused memory. A delivery that lacks
+    /// memory inside of the connection fails its end, with INTERNAL_ERROR: that is `failed`.
     pub memory: bool,
 }
 
 // rule: joined (own) settle makes rounds until the ends are quiet or one has failed
 // contract: joined (own) settle makes rounds until the ends are quiet or one has failed
 /// Drives two joined ends until they are quiet, and returns how that has ended. It makes rounds,
-/// at most `most`, and stops before a round where the ends are quiet ([`Joined::quiet`]); where an
-/// end has failed, before a round or after an act; and where an act was refused memory.
+/// `most` at most. It stops where the ends are quiet ([`Joined::quiet`]), which it asks before each
+/// round; where an end has failed, before the first round or in an act; and where an act was
+/// refused memory.
 ///
 /// A round is eight acts: both ends release all that they owe
 /// ([`JointAct::ReleaseAll`](h2_joined::JointAct::ReleaseAll)), both pump
@@ -36,16 +39,18 @@ pub struct Settled {
 /// server first ([`JointAct::Deliver`](h2_joined::JointAct::Deliver)). A release that is refused
 /// since the output is full ends nothing.
 ///
-/// It makes few rounds (`most_rounds` of `h2_laws_quiet`): 10 at most, and two for each share of a
-/// window that waits as it begins, of 65,535 octets or as many as the reader's initial window has,
-/// and for each body, list of trailers and end that waits. Nor does it make more than the work that
-/// was left as it began, and one (`work_left`: 3 for each octet that waits, 2 for each octet of
-/// credit that is not returned, and what is under way). So where `most` is greater than either, it
-/// ends for one of the three reasons. With 0 it does nothing, and asks nothing.
+/// It makes few rounds (`most_rounds` of `h2_laws_quiet`): 10 at most, and two more for each share
+/// and each piece that waits as it begins. All octets of bodies that wait at an end, together, are
+/// cut into shares, of 65,535 octets or of the initial window that the reader has sent last,
+/// whichever is less. A piece is a body, a list of trailers or an end. Nor does it make more rounds
+/// than the work that was left as it began, and one (`work_left`: 3 for each octet, list of
+/// trailers and end that waits, 2 for each octet of credit that is not returned, and what is under
+/// way). So where `most` is greater than one of these two numbers, it ends for one of the three
+/// reasons. With 0 it makes no act. Who has no number gives `u64::MAX`.
 ///
-/// Of quiet ends the law `h2_laws_quiet::nothing_waits_at_a_quiet_pair` says that all that was
-/// accepted has arrived: on each stream that is active still or was not reset all of it was sent,
-/// and handed out at the other end, whatever windows there were.
+/// Where it ends with quiet ends, all that was accepted has arrived, whatever windows there were:
+/// all of it was sent, and handed out at the other end, on each stream that was neither reset
+/// before nor reported as unprocessed ([`settled_messages_arrive`](crate::settled_messages_arrive)).
 ///
 /// It makes no request and gives no answer, and it releases at both ends, as applications do that
 /// use bodies at once: what becomes of one that releases late or never is none of its business.

@@ -10,7 +10,7 @@ use h2_joined::{Acted, Config, EndEvent, Joined, JointAct, Side};
 use std::alloc::{AllocError, Global};
 
 /// The connection of an end.
-fn conn_of(joined: &Joined, side: Side) -> &Conn {
+pub(crate) fn conn_of(joined: &Joined, side: Side) -> &Conn {
     match side {
         Side::Client => joined.client().conn(),
         Side::Server => joined.server().conn(),
@@ -153,7 +153,7 @@ fn make(joined: &mut Joined, act: &JointAct, record: &mut Record) {
 }
 
 /// Two new ends, which are made again where memory is refused.
-fn new_joined(record: &mut Record) -> Option<Joined> {
+pub(crate) fn new_joined(record: &mut Record) -> Option<Joined> {
     for _ in 0..2 {
         match Joined::new(record.alloc, Config::default(), Config::default()) {
             Ok(joined) => return Some(joined),

@@ -9,8 +9,9 @@
 //!
 //! - `record`: what a run has shown, and the marks. `lists`: messages and fields.
 //! - `end`, `call`, `walk`: a connection, a client or a server, the calls of it, and lists of them.
-//! - `ends`, `joined`, `links`: such lists, two joined ends, and connections over links. `prefix`:
-//!   what one joined end has handed out of what the other has accepted.
+//! - `ends`, `joined`, `settling`, `links`: such lists, two joined ends, by acts and driven until
+//!   they are quiet, and connections over links. `prefix`: what one joined end has handed out of
+//!   what the other has accepted.
 //! - `writers`, `coders`, `frames`: the layers below.
 //! - `promises`: what takes no memory, with all allocations refused: a cutter, a gatherer and a
 //!   writer, `h2_flow`, and a connection that takes frames which need none.
@@ -41,6 +42,8 @@ mod prefix;
 mod promises;
 #[cfg(test)]
 mod record;
+#[cfg(test)]
+mod settling;
 #[cfg(test)]
 mod walk;
 #[cfg(test)]

@@ -10,6 +10,7 @@ use h2_case::text::Text;
 use h2_case::words::Words;
 use h2_case_conn::answers::{add_option, add_value, extend};
 use h2_joined::{Acted, Code, Config, Conn, Joined, JointAct, Side};
+use h2_settle::{Settled, settle};
 use std::alloc::Global;
 
 /// Two joined ends.
@@ -117,6 +118,21 @@ fn new_pair(alloc: Global, joined: Joined, most: usize) -> Pair {
 // Makes an act. It has no contract, since no case needs one.
 fn make(joined: &mut Joined, act: &JointAct) -> Acted {
     joined.act(act)
+}
+
+// Drives both ends. It has no contract, since no case needs one.
+fn drive(joined: &mut Joined, most: u64) -> Settled {
+    settle(joined, most)
+}
+
+// How driving both ends has stopped, where they are not quiet.
+fn stopped(settled: Settled) -> &'static str {
+    match settled.failed {
+        _ if settled.memory => " without memory",
+        Some(Side::Client) => " client failed",
+        Some(Side::Server) => " server failed",
+        None => "",
+    }
 }
 
 // The other end.
@@ -299,6 +315,26 @@ impl Pair {
         text.push_line("not quiet");
     }
 
+    // All that was moved to an end was delivered.
+    fn empty_pipe(&mut self, from: Side) {
+        let kept = self.kept(from);
+        kept.moved.clear();
+        kept.delivered = 0;
+    }
+
+    // The library drives both until they are quiet, by so many rounds at most: adds how many it has
+    // made, what has stopped it, and whether both are quiet.
+    fn drive(&mut self, most: u64, text: &mut Text) {
+        let settled = drive(&mut self.joined, most);
+        write!(text, "{}{}", settled.rounds, stopped(settled));
+        if !self.joined.quiet() {
+            return text.push_line("");
+        }
+        self.empty_pipe(Side::Client);
+        self.empty_pipe(Side::Server);
+        text.push_line(" quiet");
+    }
+
     // Adds what an end has handed out since the last time.
     fn add_handed(&mut self, side: Side, text: &mut Text) {
         let read = self.kept(side).read;
@@ -373,6 +409,7 @@ impl Pair {
     fn show(&mut self, name: &str, words: &mut Words<'_>, text: &mut Text) {
         match name {
             "settle" => self.settle(words, text),
+            "rounds" => self.drive(words.number(), text),
             "quiet" if self.joined.quiet() => text.push_line("yes"),
             "quiet" => text.push_line("no"),
             "ends" => self.add_halves(text),

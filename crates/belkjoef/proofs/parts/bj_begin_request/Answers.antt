@@ -8,7 +8,7 @@ use Rattle.belkjoef.proofs.parts.bj_begin_request.Goals as goal
 
 pub returns-clause-call : goal.returns-clause-call
 returns-clause-call c =
-    on_place_told (λ (z : ℤ). Copies z (AtClient z (AnswersWith end_answer_number
+    on_place_told (λ (z : ℤ). AtClient z (Copies z (AnswersWith end_answer_number
     (stream_or c.args.stream.now) (BeginsWith (fields_given c.args.head.now)) z
     c.begin_request_with-answer.new.stream)))
     (read_back c.begin_request_with-answer.type_inv)

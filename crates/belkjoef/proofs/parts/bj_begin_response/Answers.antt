@@ -8,7 +8,7 @@ use Rattle.belkjoef.proofs.parts.bj_begin_response.Goals as goal
 
 pub returns : goal.returns
 returns c =
-    on_place_told (λ (z : ℤ). Copies z (AtServer z (Answers end_answer_number
+    on_place_told (λ (z : ℤ). AtServer z (Copies z (Answers end_answer_number
     (BeginsAnswerWith c.args.stream (fields_given c.args.head.now)) z)))
     (read_back c.begin_response_with-answer.type_inv)
     (c.in-Some.ensures.value ∙ ap Some (sym c.deref_mut.ensures.value))

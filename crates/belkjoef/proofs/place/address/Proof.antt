@@ -1,10 +1,10 @@
-use Rattle.std.proofs.Common.{◌≡◌, ℕ, List, [], ◌∷◌, refl, Bor, length, w64}
+use Rattle.std.proofs.Common.{List, [], ◌∷◌, refl}
 use Rattle.std.proofs.raw_atomic.Walks.{proved}
 use mir.Syntax.{named}
 use mir.Val.{Val, vptr}
 use base.Fml.{ftrue, flft}
 use contract.Running.{tables}
-use types.Kit.{‵, ◌⊛◌, ◌$◌, ◌∵◌, !, qed, done, move, keep, split, join, feq_i, suffices, frame}
+use types.Kit.{‵, ◌⊛◌, ◌$◌, ◌∵◌, !, qed, done, move, keep, split, feq_i, suffices, frame}
 use types.Part.{sub, whole}
 use types.Run.{enter, addr, from, fld, hop, stop, returns}
 use types.ByLocal.{alloc_all, pass_all, free_all, look_at, look_in_at, sets}
@@ -13,7 +13,6 @@ use denote.Exit.{yes}
 use denote.RawPtr.{block_ptr}
 use denote.Signature.{plain}
 use denote.Slice.{ShrSlice, shr_slice_vals, shr_slice_Tells}
-use denote.Steps.{nothing}
 use denote.Triple.Walked.{Stays, walk_of, says, stay_none_slice, Goes-none_slice, ends_at}
 use Rattle.belkjoef.specs.contracts.place.address as f
 use Rattle.belkjoef.proofs.place.address.Statement.{statement}

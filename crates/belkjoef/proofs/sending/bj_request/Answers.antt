@@ -8,7 +8,7 @@ use Rattle.belkjoef.proofs.sending.bj_request.Goals as goal
 
 pub returns-clause-call : goal.returns-clause-call
 returns-clause-call c =
-    on_place_told (λ (z : ℤ). Copies z (AtClient z (AnswersWith reply_number
+    on_place_told (λ (z : ℤ). AtClient z (Copies z (AnswersWith reply_number
     (stream_or c.args.stream.now)
     (RequestsWith (message_given c.args.head.now c.args.body.now)) z
     c.request_with-answer.new.stream)))

@@ -7,7 +7,7 @@ use Rattle.belkjoef.proofs.sending.bj_respond.Goals as goal
 
 pub returns : goal.returns
 returns c =
-    on_place_told (λ (z : ℤ). Copies z (AtServer z (Answers reply_number
+    on_place_told (λ (z : ℤ). AtServer z (Copies z (Answers reply_number
     (RespondsWith c.args.stream (message_given c.args.head.now c.args.body.now)) z)))
     (read_back c.respond_with-answer.type_inv)
     (c.in-Some.ensures.value ∙ ap Some (sym c.deref_mut.ensures.value))

@@ -5,10 +5,11 @@ use Rattle.std.proofs.Common.{length-take}
 use Rattle.h2_ends.proofs.SendingBody.{rest_is, fields_are, typed_data, none_by}
 use Rattle.h2_ends.proofs.RequestSends.{fields_typed}
 use Rattle.h2_ends.proofs.PumpTokens.{octets_left}
-use Rattle.h2_ends.proofs.ShareCases.{share_octets, share_ends_by, as_share, typed_share, as_left}
+use Rattle.h2_ends.proofs.ShareCases.{share_octets, share_ends_by, as_share, typed_share}
 use Rattle.h2_ends.proofs.ShareCases.{some_octets, all_octets, last_octets, both_go, list_stopped}
-use Rattle.h2_ends.proofs.ShareCases.{all_by, trailers_as, for_conn, as_state}
-use Rattle.h2_ends.proofs.ShareCases.{octets_stopped, nothing_left, list_sent, list_is_stopped}
+use Rattle.h2_ends.proofs.ShareCases.{octets_stopped}
+use Rattle.h2_ends.proofs.ShareTrailers.{all_by, trailers_as, for_conn, as_left, as_state}
+use Rattle.h2_ends.proofs.ShareTrailers.{nothing_left, list_sent, list_is_stopped}
 use Rattle.h2_ends.specs.Passing.{size_of}
 use Rattle.h2_ends.proofs.passing.send_share.Goals.{then-size-rest, else-size-rest}
 use Rattle.h2_ends.proofs.passing.send_share.Goals.{else-waiting-len}

@@ -11,9 +11,10 @@ returns-then-is_some c =
 
 pub returns-then-is_some-2 : goal.returns-then-is_some-2
 returns-then-is_some-2 c =
-    finds_server c.args.joined.now c.failed-2.result
+    finds_server c.args.joined.now c.failed.result c.failed-2.result
+    (rw (c.conn.ensures, c.client.ensures) at c.failed.ensures)
     (rw (c.conn-2.ensures, c.server.ensures) at c.failed-2.ensures)
-    (sym c.is_some-2.ensures ∙ c.if-is_some-2.true)
+    (sym c.is_some.ensures ∙ c.if-is_some.false) (sym c.is_some-2.ensures ∙ c.if-is_some-2.true)
 
 pub returns : goal.returns
 returns c =

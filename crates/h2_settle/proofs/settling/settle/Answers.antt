@@ -25,15 +25,16 @@ pub returns-in-Failed : goal.returns-in-Failed
 returns-in-Failed c =
     let is = c.after-in-Failed.ensures in
     rw is (settles_failed c.args.joined.now c.loop-rounds.joined c.make_round.new.joined
-    c.loop-rounds.rounds c.args.most c.in-Failed.side (omega (arith, c.loop-rounds-test.true))
-    c.loop-rounds.invariant c.in-Failed.ensures)
+    c.loop-rounds.rounds c.args.most (omega (arith, c.loop-rounds-test.true))
+    c.loop-rounds.invariant c.if-quiet.ensures c.in-Failed.side c.in-Failed.ensures)
 
 pub returns-in-NoMemory : goal.returns-in-NoMemory
 returns-in-NoMemory c =
     let is = c.after-in-NoMemory.ensures in
     rw is (settles_without_memory c.args.joined.now c.loop-rounds.joined
     c.make_round.new.joined c.loop-rounds.rounds c.args.most
-    (omega (arith, c.loop-rounds-test.true)) c.loop-rounds.invariant c.in-NoMemory.ensures)
+    (omega (arith, c.loop-rounds-test.true)) c.loop-rounds.invariant c.if-quiet.ensures
+    c.in-NoMemory.ensures)
 
 pub returns : goal.returns
 returns c =

@@ -1,19 +1,19 @@
-use Rattle.belkjoef.proofs.Steps.{◌≡◌, ℕ, List, [], ◌∷◌, refl, sym, ap, ◌∙◌, lit<, proved}
-use Rattle.belkjoef.proofs.Steps.{full_share, ftrue, flft, named, Val, vint, tables, ‵, ◌⊛◌}
-use Rattle.belkjoef.proofs.Steps.{at_ret, ◌$◌, ◌∵◌, !, qed, done, move, keep, use1, split, join}
-use Rattle.belkjoef.proofs.Steps.{fsplit, fsplit3, fjoin, feq_i, feq_l, rewrite, suffices, frame}
-use Rattle.belkjoef.proofs.Steps.{group, enter, of_opd, lit, bin, load, stop, fld, hop, exec}
+use Rattle.belkjoef.proofs.Steps.{◌≡◌, List, [], ◌∷◌, refl, sym, proved}
+use Rattle.belkjoef.proofs.Steps.{full_share, ftrue, flft, named, Val, tables, ‵, ◌⊛◌}
+use Rattle.belkjoef.proofs.Steps.{◌$◌, ◌∵◌, !, qed, done, move, keep, use1, split, join}
+use Rattle.belkjoef.proofs.Steps.{fsplit, fsplit3, fjoin, feq_i, rewrite, suffices, frame}
+use Rattle.belkjoef.proofs.Steps.{group, enter, of_opd, bin, load, stop, fld}
 use Rattle.belkjoef.proofs.Steps.{returns, alloc_all, pass_all, free_all, look_at, get, through}
-use Rattle.belkjoef.proofs.Steps.{sets, env, shows, Ptr, MutRef, mut_vals, mut_Tells, plain}
-use Rattle.belkjoef.proofs.Steps.{nothing, opens, closes, peeks, Stays, walk_of, says, stay_ref}
+use Rattle.belkjoef.proofs.Steps.{sets, shows, MutRef, mut_vals, mut_Tells, plain}
+use Rattle.belkjoef.proofs.Steps.{nothing, opens, closes, peeks, Stays, walk_of, stay_ref}
 use Rattle.belkjoef.proofs.Steps.{Goes-ref, ends_at, whole, sub, look_in, cell_at}
-use Rattle.std.proofs.Common.{not, ◌==◌}
+use Rattle.std.proofs.Common.{◌==◌}
 use Rattle.std.specs.Option.{is_some}
 use mir.Val.{vbool}
 use Rattle.core.proofs.mem.Facts.{says_two}
 use Rattle.belkjoef.proofs.Steps.{heard, raw, fact, well_typed}
-use Rattle.belkjoef.proofs.PlaceSteps.{state_tells}
-use Rattle.belkjoef.specs.Places.{place_owns}
+use Rattle.belkjoef.proofs.PlaceSteps.{holds_lit, state_tells}
+use Rattle.belkjoef.specs.Places.{place_owns, holds_one}
 use Rattle.belkjoef.specs.contracts.held.Held as I
 use Rattle.belkjoef.specs.contracts.place.BjEnd.is_held as f
 use Rattle.belkjoef.proofs.place.BjEnd.is_held.Statement.{statement}
@@ -39,7 +39,7 @@ is_held_spec 𝓤 𝓛 𝓜 𝓡 wired =
     enter ! _ _ _ _ _ $ alloc_all ! (λ l. pass_all ! refl ((tt, tt), tt) $
     fsplit3 ! $ move ! (1 ∷ 2 ∷ 3 ∷ []) $ opens ! tt R b o (λ us.
     move ! (1 ∷ []) $ peeks ! R _ (shows 𝓛 R) h us (λ is. fsplit ! $ move ! (1 ∷ []) $
-    let P = not (h.state == 0) ≡ is_some h.held in
+    let P = (h.state == holds_one) ≡ is_some h.held in
     use1 𝓛 (raw (fact 𝓤 P) ⊛ ‵ (place_owns I.the_row h.at h.state h.held))
     (state_tells 𝓛 I.the_row h.at h.state h.held) $ split ! $ heard ! P (λ e.
     let word = lowers.val_is h us is in
@@ -47,12 +47,12 @@ is_held_spec 𝓤 𝓛 𝓜 𝓡 wired =
     rewrite ! 2 Cell word refl $ move ! (2 ∷ []) $ well_typed ! (λ ok.
     sets ! (of_opd ! (load ! (through ! refl (fld ! refl (stop !)))
     (look_in ! 0 (sub ! 1 refl (whole !))))) refl (tt, ok.1.1.0) $
-    sets ! (bin ! (get ! refl) (lit ! tt) tt) refl (tt, tt) $
+    sets ! (bin ! (get ! refl) (holds_lit !) tt) refl (tt, tt) $
     move ! (1 ∷ 2 ∷ 0 ∷ []) $ rewrite ! 2 Cell (sym word) refl $ move ! (1 ∷ []) $ fjoin ! $ move !
     (1 ∷ []) $ closes ! tt R h us b o $
     returns ! (look_at ! 0 refl) $ free_all ! refl $ move ! (3 ∷ []) $
-    suffices ! _ (ends_at 𝓛 f.ended stayed c y (vbool (not (h.state == 0))) (not (h.state == 0))
+    suffices ! _ (ends_at 𝓛 f.ended stayed c y (vbool (h.state == holds_one)) (h.state == holds_one)
     (h, tt) (tt, tt)) $ says_two ! (e, refl) $
     group ! 3 $ nothing ! $ move ! (1 ∷ 0 ∷ []) $ join ! $ nothing ! $ move !
     (2 ∷ 0 ∷ []) $ join ! $ frame ! $ frame ! $
-    feq_i ! _ (vbool (not (h.state == 0)) ∷ []) _ refl $ done !))))))
+    feq_i ! _ (vbool (h.state == holds_one) ∷ []) _ refl $ done !))))))

@@ -1,15 +1,14 @@
-use Rattle.std.proofs.Common.{◌++◌}
-use Rattle.belkjoef.proofs.Steps.{◌≡◌, ℕ, List, [], ◌∷◌, refl, sym, ap, subst, ◌∙◌, lit<, proved}
+use Rattle.belkjoef.proofs.Steps.{◌≡◌, ℕ, List, [], ◌∷◌, refl, sym, subst, lit<, proved}
 use Rattle.belkjoef.proofs.Steps.{full_share, id⊢, ftrue, flft, named, Val, vint, vptr, vunit}
-use Rattle.belkjoef.proofs.Steps.{tables, ‵, raw, fact, heard, ◌⊛◌, at_ret, ◌$◌, ◌∵◌, !, qed, done}
-use Rattle.belkjoef.proofs.Steps.{move, keep, drop, use1, split, join, fsplit, fsplit3, fjoin}
-use Rattle.belkjoef.proofs.Steps.{feq_i, feq_l, rewrite, suffices, frame, group, enter, of_opd}
-use Rattle.belkjoef.proofs.Steps.{lit, unit_lit, load, stop, fld, hop, assigns, exec, returns}
-use Rattle.belkjoef.proofs.Steps.{alloc_all, pass_all, free_all, look_at, get, through, sets, env}
-use Rattle.belkjoef.proofs.Steps.{shows, Ptr, block_ptr, MutRef, mut_vals, mut_Tells, plain}
+use Rattle.belkjoef.proofs.Steps.{tables, ‵, raw, fact, heard, ◌⊛◌, ◌$◌, ◌∵◌, !, qed, done}
+use Rattle.belkjoef.proofs.Steps.{move, keep, drop, split, join, fsplit, fsplit3, fjoin}
+use Rattle.belkjoef.proofs.Steps.{feq_i, rewrite, suffices, frame, group, enter, of_opd}
+use Rattle.belkjoef.proofs.Steps.{unit_lit, stop, fld, assigns, returns}
+use Rattle.belkjoef.proofs.Steps.{alloc_all, pass_all, free_all, look_at, get, through, sets}
+use Rattle.belkjoef.proofs.Steps.{shows, block_ptr, MutRef, mut_vals, mut_Tells, plain}
 use Rattle.belkjoef.proofs.Steps.{nothing, opens, closes, peeks, Stays, walk_of, says, stay_ref}
-use Rattle.belkjoef.proofs.Steps.{stay_dropped, Goes-ref, ends_at, whole, sub, look_in, cell_at}
-use Rattle.std.specs.Prelude.{Option, None, Some}
+use Rattle.belkjoef.proofs.Steps.{stay_dropped, Goes-ref, ends_at, whole, sub, cell_at}
+use Rattle.std.specs.Prelude.{None, Some}
 use base.Logic.{SProp, ent}
 use prog.Wp.{WpFn}
 use denote.Exit.{no}
@@ -28,9 +27,7 @@ use denote.Struct.Owning.{shape}
 use Rattle.belkjoef.specs.contracts.place.BjEnd.{the_type as S}
 use types.ByLocal.{get_in}
 use Rattle.core.proofs.alloc.Calls.{Goes-blank}
-use Rattle.core.proofs.cell.Inside.{Good}
 use Rattle.belkjoef.proofs.LooseValues.{both, loose_good, loose_out}
-use Rattle.belkjoef.specs.Places.{place_owns}
 use Rattle.std.specs.contracts.alloc.Global.{the_row as G}
 use Rattle.std.specs.contracts.impls.GlobalAllocator.TheImpl.{ghosts}
 use Rattle.std.proofs.alloc.Global.TheLaws as GL
@@ -38,6 +35,8 @@ use Rattle.belkjoef.specs.contracts.held.Held.{the_row as I}
 use Rattle.belkjoef.proofs.held.Held.TheLaws as IL
 use Rattle.belkjoef.specs.contracts.loose.Loose.{the_row as L}
 use Rattle.belkjoef.proofs.loose.Loose.TheLaws as LL
+use Rattle.belkjoef.proofs.PlaceSteps.{holds_lit}
+use Rattle.belkjoef.specs.Places.{holds_one}
 use Rattle.belkjoef.specs.contracts.place.BjEnd.put as f
 use Rattle.belkjoef.proofs.place.BjEnd.put.Statement.{statement}
 use Rattle.belkjoef.proofs.place.BjEnd.put.Code as code
@@ -87,18 +86,18 @@ put_spec 𝓤 𝓛 𝓜 𝓡 wired =
     rewrite ! 1 Cell (lowers.val_is h us is) refl $
     assigns ! (of_opd ! (get ! refl)) (through ! refl (fld ! refl (stop !)))
     (store_in ! 1 (sub ! 0 refl (whole !)) (tt, tt)) $
-    assigns ! (of_opd ! (lit ! tt)) (through ! refl (fld ! refl (stop !)))
+    assigns ! (of_opd ! (holds_lit !)) (through ! refl (fld ! refl (stop !)))
     (store_in ! 1 (sub ! 1 refl (whole !)) (tt, record { fits = lit< tt })) $
     sets ! (of_opd ! (unit_lit !)) refl (tt, tt) $
     -- [the old fields; the cell; the open borrow, in three entries; self's first part; the box]
-    drop ! $ move ! (5 ∷ []) $ feq_i ! ℕ 1 1 refl $ fjoin ! $
-    let V : Val = vstruct (vcons (vptr lb lo) (vcons (vint w64 1) vnil)) in
-    nothing ! $ owned ! u64 _ (uint_Makes 𝓛 w64) 1 _ (refl, lit< tt) $ fjoin ! $
+    drop ! $ move ! (5 ∷ []) $ feq_i ! ℕ holds_one holds_one refl $ fjoin ! $
+    let V : Val = vstruct (vcons (vptr lb lo) (vcons (vint w64 holds_one) vnil)) in
+    nothing ! $ owned ! u64 _ (uint_Makes 𝓛 w64) holds_one _ (refl, lit< tt) $ fjoin ! $
     feq_i ! (List Val) (vptr lb lo ∷ []) _ refl $ fjoin ! $ feq_i ! (List Val) (V ∷ [])
     (V ∷ []) refl $ fjoin ! $
-    fpack ! (Valss (RawPtr ∷ u64 ∷ [])) (within (shape S) (block_ptr lb lo, (1, tt)) (V ∷ []))
-    (vptr lb lo ∷ [], (vint w64 1 ∷ [], tt)) $ fjoin ! $
-    let h' : R.Denot = record { at = block_ptr lb lo; state = 1; held = Some d.value } in
+    fpack ! (Valss (RawPtr ∷ u64 ∷ [])) (within (shape S) (block_ptr lb lo, (holds_one, tt)) (V ∷ []))
+    (vptr lb lo ∷ [], (vint w64 holds_one ∷ [], tt)) $ fjoin ! $
+    let h' : R.Denot = record { at = block_ptr lb lo; state = holds_one; held = Some d.value } in
     move ! (1 ∷ []) $ closes ! tt R h' (V ∷ []) b o $
     returns ! (look_at ! 0 refl) $ free_all ! refl $ move ! (3 ∷ []) $
     suffices ! _ (ends_at 𝓛 f.ended stayed c y vunit tt (h', (tt, tt)) (tt, (tt, tt))) $ says !

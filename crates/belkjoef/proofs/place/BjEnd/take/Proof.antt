@@ -1,16 +1,15 @@
-use Rattle.std.proofs.Common.{◌++◌, Bool, not}
+use Rattle.std.proofs.Common.{Bool, not, false, ◌==◌}
 use lib.Dec.{T}
 use mir.Syntax.{impl, tnil, dnil}
-use denote.RawPtr.{ptr_val}
-use Rattle.belkjoef.proofs.Steps.{◌≡◌, ℕ, List, [], ◌∷◌, refl, sym, ap, subst, ◌∙◌, lit<, proved}
-use Rattle.belkjoef.proofs.Steps.{full_share, id⊢, ftrue, flft, named, Val, vint, vptr, vunit}
-use Rattle.belkjoef.proofs.Steps.{tables, ‵, raw, fact, heard, ◌⊛◌, at_ret, ◌$◌, ◌∵◌, !, qed, done}
-use Rattle.belkjoef.proofs.Steps.{move, keep, drop, use1, split, join, fsplit, fsplit3, fjoin}
-use Rattle.belkjoef.proofs.Steps.{feq_i, feq_l, rewrite, suffices, frame, group, enter, of_opd}
-use Rattle.belkjoef.proofs.Steps.{lit, unit_lit, load, stop, fld, hop, assigns, exec, returns}
-use Rattle.belkjoef.proofs.Steps.{alloc_all, pass_all, free_all, look_at, get, through, sets, env}
+use Rattle.belkjoef.proofs.Steps.{◌≡◌, List, [], ◌∷◌, refl, sym, ap, subst, ◌∙◌, lit<, proved}
+use Rattle.belkjoef.proofs.Steps.{full_share, id⊢, ftrue, flft, named, Val, vint, vptr}
+use Rattle.belkjoef.proofs.Steps.{tables, ‵, raw, fact, heard, ◌⊛◌, ◌$◌, ◌∵◌, !, qed, done}
+use Rattle.belkjoef.proofs.Steps.{move, keep, drop, split, join, fsplit, fsplit3, fjoin}
+use Rattle.belkjoef.proofs.Steps.{feq_i, rewrite, suffices, frame, group, enter, of_opd}
+use Rattle.belkjoef.proofs.Steps.{lit, load, stop, fld, assigns, returns}
+use Rattle.belkjoef.proofs.Steps.{alloc_all, pass_all, free_all, look_at, get, through, sets}
 use Rattle.belkjoef.proofs.Steps.{shows, Ptr, block_ptr, MutRef, mut_vals, mut_Tells, plain}
-use Rattle.belkjoef.proofs.Steps.{nothing, opens, closes, peeks, Stays, walk_of, says, stay_ref}
+use Rattle.belkjoef.proofs.Steps.{nothing, opens, closes, peeks, Stays, walk_of, stay_ref}
 use Rattle.belkjoef.proofs.Steps.{stay_dropped, Goes-ref, ends_at, whole, sub, look_in, cell_at}
 use Rattle.belkjoef.proofs.Steps.{in_a_block, and_then, no_more}
 use Rattle.std.specs.Prelude.{Option, None, Some, IsSome}
@@ -20,7 +19,6 @@ use denote.Exit.{yes}
 use types.Kit.{split3, fpack}
 use types.Part.{store_in, agg}
 use types.Logic.{sem}
-use types.ByLocal.{get_in}
 use mir.Syntax.{w64}
 use mir.Raw.{raw as bare}
 use mir.Val.{vstruct, vcons, vnil}
@@ -37,7 +35,7 @@ use Rattle.std_alloc.specs.Box.Ownership.{box_owns}
 use Rattle.core.proofs.alloc.Calls.{Goes-blank, handle_tells, Al}
 use Rattle.core.proofs.mem.Facts.{says_two}
 use Rattle.belkjoef.proofs.LooseValues.{both, loose_good, loose_in}
-use Rattle.belkjoef.specs.Places.{place_owns}
+use Rattle.belkjoef.specs.Places.{place_owns, holds_one}
 use Rattle.std.specs.contracts.alloc.Global.{the_row as G}
 use Rattle.std.specs.contracts.impls.GlobalAllocator.TheImpl.{ghosts}
 use Rattle.std.proofs.alloc.Global.TheLaws as GL
@@ -119,7 +117,7 @@ take_spec 𝓤 𝓛 𝓜 𝓡 wired =
     -- [the box by its pointer; the fields; the cell; the open borrow; self's first part]
     move ! (1 ∷ []) $ drop ! $
     let V : Val = vstruct (vcons (vptr lb lo) (vcons (vint w64 0) vnil)) in
-    feq_i ! ℕ 0 0 refl $
+    feq_i ! Bool (0 == holds_one) false refl $
     nothing ! $ owned ! u64 _ (uint_Makes 𝓛 w64) 0 _ (refl, lit< tt) $ fjoin ! $
     feq_i ! (List Val) (vptr lb lo ∷ []) _ refl $ fjoin ! $ feq_i ! (List Val) (V ∷ [])
     (V ∷ []) refl $ fjoin ! $

@@ -24,7 +24,8 @@ returns-in-None c =
       lies = tt;
       takes = λ octets none values end is. nothing_so values c.args.self.now
           (record c.args.self.now { conn = c.advance.new.self }) end c.args.piece.now is refl refl
-          refl c.in_ok-progress.progress.used (rw c.in-None.is at (c.in_ok-progress.ensures.takes []
+          refl c.in_ok-progress.progress.used
+          (rw c.in-None.is at (c.in_ok-progress.ensures.takes []
           (rw c.in-None.is tt) values end.log is.streams.conn));
     }
 

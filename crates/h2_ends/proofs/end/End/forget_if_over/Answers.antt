@@ -8,4 +8,4 @@ pub returns-then-not-is_active-clause-represents :
 returns-then-not-is_active-clause-represents c = λ values end is.
     forgets values c.args.self.now _ end c.args.id is
     (sym (c.is_active.ensures values end.log is.streams.conn) ∙ c.if-not-is_active.true) refl refl
-    refl (keeps_but c.args.self.now _ c.args.id None c.remove.ensures.updates.0)
+    refl (keeps_but c.args.self.now _ c.args.id None c.remove.ensures.updates)

@@ -54,7 +54,8 @@ returns-in-Err-read_data-clause-hands c = λ octets none.
       λ values end count log reported.
           let said = rw c.in-Data.is at reported in
           data_not_handed values c.args.self.now c.read_data.new.self
-          c.refuse-in-Err-read_data.new.self end c.args.piece.now count c.in-Data.id lent c.in-Data.flow c.in-Data.end
+          c.refuse-in-Err-read_data.new.self end c.args.piece.now count c.in-Data.id lent
+          c.in-Data.flow c.in-Data.end
           c.in-Err-read_data.unread log _ octets c.refuse-in-Err-read_data.result said
           (c.in-Err-read_data.ensures.reads values (end_with_log end log) lent
           (sym (c.body_len.ensures c.args.self.now.conn.inner.cutter _ lent there.1))

@@ -23,7 +23,7 @@ returns-in-Some c =
     let some = ap is_some (sym c.in-Some.ensures.value) in
     given_here c.args.self.now c.if-matches.self _ c.args.id c.args.outgoing
     c.in-Some.stream.now stream widened c.in-Some.ensures.value refl
-    refl refl refl (holds.3 some).0
+    refl refl refl (holds.changes some)
 
 pub returns-in_default-get_mut : goal.returns-in_default-get_mut
 returns-in_default-get_mut c =

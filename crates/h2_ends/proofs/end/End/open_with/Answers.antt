@@ -42,7 +42,7 @@ returns-then-is_err-2 c = λ values end said is head ends fits.
     (sym (c.next_number.ensures values end.log is.streams.conn) ∙ c.in-Some.is)
     (open_typed _ _ (rw (← head) at c.open-opened.ensures.octets)) is answers.0 answers.1 refl refl
     (keeps_none c.args.self.now (record c.args.self.now { streams = c.insert.new.self }) _
-    c.in-Some.id _ updates.0 c.remove.ensures.updates.0)
+    c.in-Some.id _ updates c.remove.ensures.updates)
 
 pub returns-else-is_err-2 : goal.returns-else-is_err-2
 returns-else-is_err-2 c = λ values end said is head ends fits.
@@ -54,4 +54,4 @@ returns-else-is_err-2 c = λ values end said is head ends fits.
     (sym c.is_err-2.ensures.value ∙ c.if-is_err-2.false) fits
     (sym (c.next_number.ensures values end.log is.streams.conn) ∙ c.in-Some.is)
     answers.0 answers.1 refl refl (rw (← head) at (rw c.asks_head.ensures at c.new.ensures))
-    (keeps_but c.args.self.now _ c.in-Some.id _ updates.0)
+    (keeps_but c.args.self.now _ c.in-Some.id _ updates)

@@ -22,5 +22,5 @@ loop-id-preserved c =
 
 pub returns-clause-none : goal.returns-clause-none
 returns-clause-none c = λ values end is up no.
-    owes_nowhere c.args.self.now c.loop-id.last c.loop-id.invariant c.in_default.ensures.next values
-    end is up
+    owes_nowhere c.args.self.now c.loop-id.last c.loop-id.invariant c.in_default.ensures.next
+    values end is up

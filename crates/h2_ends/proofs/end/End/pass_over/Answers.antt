@@ -1,6 +1,7 @@
 -- Stream by stream, by the lemmas on a pass.
-use Rattle.h2_ends.proofs.PassSteps.{pass_begins, past_idle, past_sent, past_stuck, pass_halts}
-use Rattle.h2_ends.proofs.PassSteps.{pass_stops, pass_is_over}
+use Rattle.h2_ends.proofs.PassBegins.{pass_begins}
+use Rattle.h2_ends.proofs.PassSteps.{past_idle, past_sent, past_stuck, pass_halts, pass_stops}
+use Rattle.h2_ends.proofs.PassSteps.{pass_is_over}
 use Rattle.h2_ends.proofs.end.End.pass_over.Goals as goal
 
 pub loop-id-init : goal.loop-id-init

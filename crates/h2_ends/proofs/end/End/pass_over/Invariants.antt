@@ -1,6 +1,6 @@
 -- Whatever had happened at the start, the streams up to the last one had their shares.
 use Rattle.h2_ends.proofs.Names.{◌-◌}
-use Rattle.h2_ends.proofs.PassSteps.{PassGoes}
+use Rattle.h2_ends.proofs.PassBegins.{PassGoes}
 use Rattle.h2_ends.proofs.end.End.pass_over.Given as goal
 
 abbrev pub invariant-loop-id : goal.invariant-loop-id

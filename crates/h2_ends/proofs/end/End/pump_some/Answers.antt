@@ -1,7 +1,7 @@
 -- By the lemmas on a whole pass.
 use Rattle.h2_ends.proofs.Names.{refl, err_from_is_err_and, ap, Ok}
-use Rattle.h2_ends.proofs.PassEnds.{some_closed, halts_above, stops_above, halts_below, stops_below}
-use Rattle.h2_ends.proofs.PassEnds.{pass_round}
+use Rattle.h2_ends.proofs.PassEnds.{some_closed, halts_above, stops_above, halts_below}
+use Rattle.h2_ends.proofs.PassEnds.{stops_below, pass_round}
 use Rattle.h2_ends.proofs.end.End.pump_some.Goals.{else-branch-via-else-branch}
 use Rattle.h2_ends.proofs.end.End.pump_some.Goals.{else-branch-via-then-branch+in_ok-pass_over-2+else-branch-2}
 use Rattle.h2_ends.proofs.end.End.pump_some.Goals as goal

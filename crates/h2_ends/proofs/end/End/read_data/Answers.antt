@@ -18,9 +18,9 @@ returns-then-not-data-clause-reads c = λ values happened octets counted is.
     let stream = c.in-Some.stream.now in
     let found = sym c.in-Some.ensures.value in
     let holds = c.get_mut.follows.holds (with_reading stream c.data.new.self) in
-    data_refused values c.args.self.now _ happened c.args.id c.args.end stream c.data.new.self found
-    (keeps_but c.args.self.now _ c.args.id (Some (with_reading stream c.data.new.self))
-    (holds.3 (ap is_some found)).0) refl refl refl octets c.broken_by_data-rule.result is
+    data_refused values c.args.self.now _ happened c.args.id c.args.end stream c.data.new.self
+    found (keeps_but c.args.self.now _ c.args.id (Some (with_reading stream c.data.new.self))
+    (holds.changes (ap is_some found))) refl refl refl octets c.broken_by_data-rule.result is
     (λ reads parts follows.
     rw c.if-not-data.true at c.data.ensures reads parts octets counted follows)
     (λ reads parts follows. c.broken_by_data-rule.ensures reads parts octets counted follows)
@@ -38,7 +38,7 @@ taken c read values happened octets counted is =
     let holds = c.get_mut.follows.holds (with_reading stream c.data.new.self) in
     data_taken values c.args.self.now _ happened c.args.id c.args.end stream c.data.new.self found
     (keeps_but c.args.self.now _ c.args.id (Some (with_reading stream c.data.new.self))
-    (holds.3 (ap is_some found)).0) refl refl refl octets is
+    (holds.changes (ap is_some found))) refl refl refl octets is
     (λ reads parts follows. rw read at c.data.ensures reads parts octets counted follows)
 
 pub returns-then-end-clause-reads : goal.returns-then-end-clause-reads

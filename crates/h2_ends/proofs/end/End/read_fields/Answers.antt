@@ -14,7 +14,7 @@ returns-in_default-fields-clause-reads c = λ values happened is.
     let holds = c.get_mut.follows.holds (with_reading stream c.fields.new.self) in
     fields_refused values c.args.self.now _ happened c.args.id c.args.end stream c.fields.new.self
     found (keeps_but c.args.self.now _ c.args.id (Some (with_reading stream c.fields.new.self))
-    (holds.3 (ap is_some found)).0) refl refl refl _ c.broken_by_fields-rule.result is
+    (holds.changes (ap is_some found))) refl refl refl _ c.broken_by_fields-rule.result is
     (λ reads parts follows. rw c.list.ensures at c.in_default-fields.ensures reads parts follows)
     (λ reads parts follows.
     rw c.list-in_default-fields.ensures at c.broken_by_fields-rule.ensures reads parts follows)
@@ -36,7 +36,7 @@ taken c place read values happened is =
     let holds = c.get_mut.follows.holds (with_reading stream c.fields.new.self) in
     fields_taken values c.args.self.now _ happened c.args.id c.args.end stream c.fields.new.self
     found (keeps_but c.args.self.now _ c.args.id (Some (with_reading stream c.fields.new.self))
-    (holds.3 (ap is_some found)).0) refl refl refl _ place is
+    (holds.changes (ap is_some found))) refl refl refl _ place is
     (λ reads parts follows. rw (c.list.ensures, read) at c.fields.ensures reads parts follows)
 
 pub returns-then-end-clause-reads : goal.returns-then-end-clause-reads

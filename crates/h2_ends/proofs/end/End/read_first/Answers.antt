@@ -31,5 +31,5 @@ returns-clause-reads c = λ values happened is.
     c.fields.new.self is c.requires.first (rw c.first_reads.ensures at c.new-reading.ensures) _
     c.in-Some.place
     (λ reads parts follows. rw c.list.ensures at c.in-Some.ensures reads parts follows)
-    (keeps_but c.args.self.now _ c.args.id (Some (first_stream c.fields.new.self)) updates.0) refl
+    (keeps_but c.args.self.now _ c.args.id (Some (first_stream c.fields.new.self)) updates) refl
     refl refl

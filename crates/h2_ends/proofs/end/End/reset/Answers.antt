@@ -5,8 +5,8 @@ use Rattle.h2_ends.proofs.end.End.reset.Goals as goal
 pub returns-in_err-reset : goal.returns-in_err-reset
 returns-in_err-reset c =
     let answer = err_from_is_err_and c.from_residual.result c.from_residual.ensures.1 in
-    rw (answer.1, answer.2) (reset_is_refused c.args.self.now _ refl refl refl c.args.id c.args.code
-    _ c.in_err-reset.ensures)
+    rw (answer.1, answer.2) (reset_is_refused c.args.self.now _ refl refl refl c.args.id
+    c.args.code _ c.in_err-reset.ensures)
 
 pub returns : goal.returns
 returns c = λ values end is.

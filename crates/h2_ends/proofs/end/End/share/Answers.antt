@@ -1,7 +1,7 @@
 -- What was lent of the map is written back as sending left it.
 use Rattle.h2_ends.proofs.Names.{sym, refl, err_from_is_err_and, Idle, Sent, Stuck, Full}
 use Rattle.h2_ends.proofs.SendingStreams.{unwritten, other_here}
-use Rattle.h2_ends.proofs.ShareCases.{sent_as}
+use Rattle.h2_ends.proofs.ShareTrailers.{sent_as}
 use Rattle.h2_ends.proofs.ShareIdle.{idle_share}
 use Rattle.h2_ends.proofs.end.End.share.Goals as goal
 

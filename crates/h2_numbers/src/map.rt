@@ -1,0 +1,151 @@
+//! The map.
+
+ghost use Rattle.std.specs.Prelude.{◌≡◌, ◌<◌, [], Some, None, IfSome, OnOk, OnErr, true};
+ghost use Rattle.std.specs.Option.{option_copied, option_copied_mut};
+ghost use Rattle.std.specs.Borrow.{sem};
+ghost use Rattle.h2_numbers.specs.Entries.{value_at, SetsValue, IsNextAbove, Ascends, IsFirstAbove};
+ghost use Rattle.h2_numbers.specs.Entries.{IsAboveAll};
+ghost use Rattle.h2_numbers.specs.Lends.{lends_at};
+
+use std::alloc::{AllocError, Global};
+use std::collections::HashMap;
+use std::marker::Model;
+
+/// Values by number. A value is looked up by the hash of its number, so that a look-up costs about
+/// the same for a thousand numbers as for one. The numbers are kept in rising order beside it, for
+/// [`NumberMap::next_above`]: a number above all others, as that of a new stream is, is put last in
+/// one step, and so is the last one taken out.
+#[derive(Drop)]
+pub struct NumberMap<V> {
+    /// The values, by number.
+    found: HashMap<u32, V>,
+    /// Their numbers, in rising order.
+    order: Vec<u32>,
+}
+
+impl<V> Model for NumberMap<V> {
+    ghost use Rattle.h2_numbers.specs.Entries.{NumberEntries, entries_code, IsOrderOf};
+
+    ghost Value = { NumberEntries V };
+
+    ghost coded = { entries_code V.code };
+
+    ghost view = { λ map. record { entries = map.found.entries } };
+
+    ghost invariant = { λ map. IsOrderOf map.found.entries map.order.items };
+}
+
+impl<V> NumberMap<V> {
+    /// A map without values. It takes no memory.
+    pub fn new(alloc: Global) -> NumberMap<V>
+        ensures empty { result.entries ≡ [] }
+    {
+        NumberMap {
+            found: HashMap::new(alloc),
+            order: Vec::new(alloc),
+        }
+    }
+
+    // rule: 5.1 (own) What is kept of a stream is found by its number
+    /// The value with this number. It takes no memory.
+    pub fn get(&self, id: u32) -> Option<&V>
+        ensures value { option_copied result ≡ value_at id self.now.entries }
+    {
+        self.found.get(&id)
+    }
+
+    // rule: 5.1 (own) What is kept of a stream is found by its number
+    // rule: 5.1 (own) A change of a stream changes that stream alone
+    /// The value with this number, to be changed. It takes no memory.
+    pub fn get_mut(&mut self, id: u32) -> Option<&mut V>
+        ensures* writes_back { sem 𝓛 (lends_at V.row self.entry id result) }
+        ensures value { option_copied_mut result ≡ value_at id self.old.entries }
+    {
+        // A number above all others, as that of a new stream is, needs no search.
+        if is_above_all(&self.order, id) {
+            return None;
+        }
+        self.found.get_mut(&id)
+    }
+
+    // rule: 5.1 (own) A change of a stream changes that stream alone
+    /// Puts a value at a number. A value that was there is dropped.
+    ///
+    /// # Errors
+    ///
+    /// [`AllocError`] where an allocation was refused; the map is as before.
+    pub fn insert(&mut self, id: u32, value: V) -> Result<(), AllocError>
+    where
+        V: Drop,
+        ensures updates { OnOk result (SetsValue id (Some value) self.old.entries
+            self.new.entries) }
+        ensures err { OnErr result (self.new.entries ≡ self.old.entries) }
+    {
+        self.order.reserve(1)?;
+        if self.found.insert(id, value)?.is_some() {
+            return Ok(());
+        }
+        let at = first_above(&self.order, id);
+        // There is room for one more.
+        let _placed = self.order.insert(at, id);
+        Ok(())
+    }
+
+    // rule: 5.1 (own) A change of a stream changes that stream alone
+    /// Takes the value out at a number, if there is one. It takes no memory.
+    pub fn remove(&mut self, id: u32)
+    where
+        V: Drop,
+        ensures updates { SetsValue id None self.old.entries self.new.entries }
+    {
+        self.found.remove(&id);
+        let end = first_above(&self.order, id);
+        if end > 0 && self.order[end - 1] == id {
+            self.order.remove(end - 1);
+        }
+    }
+
+    // rule: 5.1 (own) What is kept of a stream is found by its number
+    /// The least number above another that has a value. It takes no memory.
+    pub fn next_above(&self, above: u32) -> Option<u32>
+        ensures next { IsNextAbove self.now.entries above result }
+        ensures above { IfSome result (λ id. above < id) }
+    {
+        let at = first_above(&self.order, above);
+        if at < self.order.len() {
+            Some(self.order[at])
+        } else {
+            None
+        }
+    }
+}
+
+/// Whether a number is above each of these.
+fn is_above_all(order: &[u32], number: u32) -> bool
+    requires { Ascends order.now }
+    ensures { result ≡ true → IsAboveAll order.now number }
+{
+    let end = order.len();
+    end == 0 || order[end - 1] < number
+}
+
+/// The place of the first of these numbers that is above another.
+fn first_above(order: &[u32], number: u32) -> usize
+    requires { Ascends order.now }
+    ensures { IsFirstAbove order.now number result }
+{
+    let mut low = 0usize;
+    let mut high = order.len();
+    if high > 0 && order[high - 1] <= number {
+        return high;
+    }
+    while low < high {
+        let middle = low + (high - low) / 2;
+        if order[middle] <= number {
+            low = middle + 1;
+        } else {
+            high = middle;
+        }
+    }
+    low
+}
