@@ -21,6 +21,12 @@ KIT = $(patsubst %/bin/,%,$(dir $(realpath $(shell command -v rt))))
 C_PARTS = $(wildcard $(KIT)/c/liblibc_c.a $(KIT)/c/libos_c.a)
 STRICT = -std=c11 -Wall -Wextra -Wpedantic
 LIBRARY = $(OUT)/libbelkjoef.a
+ifneq ($(PREFIX),$(abspath $(PREFIX)))
+$(error PREFIX is an absolute path)
+endif
+OBJCOPY = objcopy
+
+.DELETE_ON_ERROR:
 
 all: $(LIBRARY) $(OUT)/belkjoef.pc
 
@@ -37,9 +43,16 @@ endif
 	$(PROVE)
 	$(LD) -r -o $(OUT)/belkjoef.o --whole-archive $(ARCHIVE) --no-whole-archive $(C_PARTS)
 	@if nm -u $(OUT)/belkjoef.o | grep rattle_; then echo "the kit's C parts are missing" >&2; exit 1; fi
-	objcopy --wildcard --keep-global-symbol='bj_*' $(OUT)/belkjoef.o
+	$(OBJCOPY) --wildcard --keep-global-symbol='bj_*' $(OUT)/belkjoef.o
 	rm -f $@
 	$(AR) rcs $@ $(OUT)/belkjoef.o
+
+# Which archive it is made of: another one makes another library, whatever their ages.
+$(LIBRARY): $(OUT)/archive Makefile
+$(OUT)/archive: .FORCE
+	@mkdir -p $(OUT)
+	@echo '$(ARCHIVE)' | cmp -s - $@ || echo '$(ARCHIVE)' > $@
+.FORCE:
 
 $(OUT)/libbelkjoef.so.$(VERSION): $(LIBRARY)
 	$(CC) -shared -Wl,-soname,libbelkjoef.so.0 -Wl,--whole-archive $< -Wl,--no-whole-archive -o $@
@@ -61,6 +74,7 @@ install-shared: shared
 	install -m 755 $(OUT)/libbelkjoef.so.$(VERSION) $(DESTDIR)$(LIBDIR)
 	ln -sf libbelkjoef.so.$(VERSION) $(DESTDIR)$(LIBDIR)/libbelkjoef.so.0
 	ln -sf libbelkjoef.so.0 $(DESTDIR)$(LIBDIR)/libbelkjoef.so
+	@[ -n "$(DESTDIR)" ] || ldconfig 2> /dev/null || true
 
 uninstall:
 	rm -f $(addprefix $(DESTDIR)$(LIBDIR)/,libbelkjoef.a pkgconfig/belkjoef.pc libbelkjoef.so \

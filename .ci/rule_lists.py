@@ -81,6 +81,9 @@ API = {
     "hpack_text::read_string": TEXTS,
     "h2_message::list_asks_head": "a server that answers HEAD asks, as those of h2_uses do",
     "hpack::Encoder::encode": "an end has summed the list already",
+    "h2_net::get_location": "for programs that get a URL; h2 get makes its request by its words (fetch_location)",
+    "h2_net::get_over": "the same over any link",
+    "h2_net::print_response": "what h2 get prints without words, for programs that get a URL",
 }
 
 # The sections that rules have, with their titles: of RFC 9113, of RFC 7541 as "HPACK ..", of RFC 9110 as "HTTP ..", and
@@ -152,6 +155,7 @@ SECTIONS = {
     "show": "The program's h2 show",
     "follow": "The program's h2 show --follow",
     "replay": "A replay, and the program's h2 replay",
+    "messages": "The program's h2 replay --messages",
     "c": "The functions for programs in C",
 }
 

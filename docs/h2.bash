@@ -9,9 +9,9 @@ _h2() {
             'show --max-frame') words='16384 65536 1048576' ;;
             'show '*) words='--hex --from --max-frame --follow --help' ;;
             'replay --as') words='client server' ;;
-            'replay '*) words='--hex --as --help' ;;
+            'replay '*) words='--hex --as --messages --help' ;;
             'serve '*) words='--help' ;;
-            'get '*) words='--help' ;;
+            'get '*) words='--include --header --request --data --fail --port --help' ;;
             'loop '*) words='--help' ;;
         esac
     fi

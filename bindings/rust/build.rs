@@ -10,7 +10,9 @@ const ARCHIVE: &str = "libbelkjoef.a";
 
 fn main() {
     println!("cargo:rerun-if-env-changed={VARIABLE}");
-    println!("cargo:rerun-if-env-changed=PKG_CONFIG_PATH");
+    for name in ["", "_PATH", "_LIBDIR", "_SYSROOT_DIR"] {
+        println!("cargo:rerun-if-env-changed=PKG_CONFIG{name}");
+    }
     println!("cargo:rerun-if-changed=build.rs");
     if env::var_os("DOCS_RS").is_some() {
         return;

@@ -8,17 +8,18 @@
  * refused or fails (bj_error_text has its text); those named bj_is_.. answer 1 for yes and 0 for
  * no, and BJ_EMPTY where the place holds no end: compare with 1. What else they say goes through
  * the pointers that stand last; those are written where the answer is BJ_OK, and otherwise only as
- * their function says, but a count of what was done (`sent`, `taken`, and `count` of bj_fields and
- * bj_put_out) and `user` are 0 after each error. What is written need not have a value before.
- * Errors are listed in the order in which they are looked for: the first that holds is answered.
- * Where it does not say otherwise, nothing has changed after one. BJ_EMPTY, that the place holds
- * no end, comes first, of every function that takes a place but the two that make an end.
+ * their function says, but a count of what was done (`sent`, `taken`, and `count` of bj_fields,
+ * bj_put_out, bj_decode and bj_decoded) and `user` are 0 after each error. What is written need
+ * not have a value before. Errors are listed in the order in which they are looked for: the first
+ * that holds is answered. Where it does not say otherwise, nothing has changed after one.
+ * BJ_EMPTY, that the place holds none, comes first, of every function that takes a place but those
+ * that make something in it.
  *
  * What the caller owes. No pointer is null, and each is aligned as its type is, also of no octets
  * or fields: give BJ_NO_OCTETS or BJ_NO_FIELDS then. A pointer and a length that follow each other
  * are so many octets, or fields, that may be read, or written where the pointer isn't const, while
  * the call lasts; the places that one call writes don't overlap each other or what it reads. A
- * bj_end is all zero (BJ_END_EMPTY) or as these functions have left it, and is not copied and then
+ * bj_end is all zero (BJ_EMPTY_PLACE) or as these functions have left it, and is not copied and then
  * used twice. It belongs to one thread at a time; what hands it to another orders the two: a lock,
  * or a thread's start or join. No function is called in a signal handler, or in the child of a
  * fork of a program with threads. malloc, realloc and free are those of one allocator, whose
@@ -69,8 +70,8 @@ uint32_t bj_version(void);
 
 enum {
   BJ_OK = 0,
-  BJ_EMPTY = -1,    /* the place holds no end */
-  BJ_HELD = -2,     /* the place holds an end already */
+  BJ_EMPTY = -1,    /* the place holds no end, no encoder or no decoder */
+  BJ_HELD = -2,     /* the place holds one already */
   BJ_ROLE = -3,     /* a server's function at a client, or a client's at a server */
   BJ_FAILED = -4,   /* the connection has failed */
   BJ_NO_FIELD = -5, /* there is no such field */
@@ -113,7 +114,10 @@ enum {
   BJ_BAD_ORDER = -52,        /* the parts of a message that was read are out of order */
 
   BJ_NOT_ASKED = -61, /* the stream isn't active, or has no request, or no open message */
-  BJ_ANSWERED = -62   /* the request has its answer, or one was begun */
+  BJ_ANSWERED = -62,  /* the request has its answer, or one was begun */
+
+  BJ_COMPRESSION = -71,   /* the octets are no field block */
+  BJ_DECODER_FAILED = -72 /* an earlier block failed */
 };
 
 /* Says the text of an error, which ends in an octet of zero and is never freed. */
@@ -179,7 +183,7 @@ typedef struct bj_event {
 } bj_event;
 
 /* A place that holds nothing. */
-#define BJ_END_EMPTY {NULL, 0}
+#define BJ_EMPTY_PLACE {NULL, 0}
 
 /* Octets and fields of texts, and none: an address that is aligned, and is not read. */
 #ifdef __cplusplus
@@ -447,6 +451,72 @@ BJ_CALL int bj_set_user(bj_end *end, uint32_t stream, uintptr_t user);
 
 /* Says the number beside a stream, or 0. */
 BJ_CALL int bj_user(bj_end *end, uint32_t stream, uintptr_t *user);
+
+/* ---- field blocks alone (HPACK, RFC 7541) ----
+ *
+ * An end encodes and decodes its own; these are for whoever frames by itself. A place of each is
+ * used as a bj_end is: all zero or as these functions have left it, one thread at a time, and what
+ * is lent is good until the next call with it. BJ_EMPTY: it holds none. */
+
+/* A place that holds an encoder, or nothing. Its members are the library's. */
+typedef struct bj_encoder {
+  void *at;
+  uint64_t state;
+} bj_encoder;
+
+/* Makes an encoder in a place that holds none, with an empty table, whose maximum and limit are so
+ * many octets: 4,096 for a connection that begins.
+ * BJ_HELD: the place holds one, and still does. BJ_MEMORY. */
+BJ_CALL int bj_encoder_new(uint32_t maximum, bj_encoder *encoder);
+
+/* Frees the encoder, and the place holds none. */
+BJ_CALL int bj_encoder_free(bj_encoder *encoder);
+
+/* Sets the limit of the peer's table (SETTINGS_HEADER_TABLE_SIZE); the next block says what has
+ * changed. That block takes room for limit / 32 entries, so cap what a peer asks for. */
+BJ_CALL int bj_encoder_set_limit(bj_encoder *encoder, uint32_t limit);
+
+/* Makes the block of fields, and lends it. The fields are copied, as those of a head in parts are.
+ * The decoder is to be given each block, in order: the next one builds on it.
+ * BJ_MEMORY, of the copies. BJ_LIST_TOO_LARGE: the fields have 2^35 octets or more, each counting
+ * 32 more. BJ_MEMORY. *block is as it was then, and so is the encoder. */
+BJ_CALL int bj_encode(bj_encoder *encoder, const bj_field *fields, size_t field_count,
+                      bj_span *block);
+
+/* A place that holds a decoder, or nothing. Its members are the library's. */
+typedef struct bj_decoder {
+  void *at;
+  uint64_t state;
+} bj_decoder;
+
+/* Makes a decoder in a place that holds none, with an empty table, whose maximum and limit are so
+ * many octets: 4,096 for a connection that begins.
+ * BJ_HELD: the place holds one, and still does. BJ_MEMORY. */
+BJ_CALL int bj_decoder_new(uint32_t maximum, bj_decoder *decoder);
+
+/* Frees the decoder, and the place holds none. */
+BJ_CALL int bj_decoder_free(bj_decoder *decoder);
+
+/* Sets the limit of the table, for the size updates of later blocks: once the peer has
+ * acknowledged the SETTINGS that say it. */
+BJ_CALL int bj_decoder_set_limit(bj_decoder *decoder, uint32_t limit);
+
+/* Decodes a complete block into the decoder's list, and says how many fields it has.
+ * BJ_DECODER_FAILED: an earlier block failed. BJ_COMPRESSION: the octets are no block. BJ_MEMORY.
+ * After these two the decoder has failed. BJ_LIST_TOO_LARGE: the fields have more than list_limit
+ * octets, each counting 32 more; the table is as after the block, and the next one can be decoded.
+ * The list is empty after each of the four. */
+BJ_CALL int bj_decode(bj_decoder *decoder, const uint8_t *block, size_t length,
+                      uint32_t list_limit, size_t *count);
+
+/* Says a field of the list that was decoded last, by its place: 0 is the first.
+ * BJ_NO_FIELD: there are no more than so many. */
+BJ_CALL int bj_decoded_at(bj_decoder *decoder, size_t place, bj_field *field);
+
+/* Says the fields of the list that was decoded last, from a place on, and how many were said: as
+ * many as there are, and at most as there is room for. */
+BJ_CALL int bj_decoded(bj_decoder *decoder, size_t from, bj_field *fields, size_t room,
+                       size_t *count);
 
 #ifdef __cplusplus
 }

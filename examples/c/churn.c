@@ -3,7 +3,8 @@
  *     churn [TIMES]
  *
  * It ends with 0 where it is. Each client gives a request with a body, and the server answers with
- * the same octets. In between places are used wrongly, which they refuse. */
+ * the same octets; blocks of fields are encoded and decoded. In between places are used wrongly,
+ * which they refuse. */
 #include "belkjoef.h"
 #include <malloc.h>
 #include <stdio.h>
@@ -62,12 +63,66 @@ static void carry(bj_end *from, bj_end *to, struct message *message) {
   }
 }
 
+/* A response in parts to a request that is then reset, twice; and what the ends say of each
+ * other. */
+static void in_parts(bj_end *client, bj_end *server, const bj_field *asks) {
+  static const bj_field head[] = {BJ_FIELD(":status", "200"), BJ_FIELD("server", "churn")};
+  static const bj_field trailers[] = {BJ_FIELD("x-sum", "0")};
+  struct message request = {0}, response = {0};
+  bj_settings settings;
+  uint32_t stream, resets, empty;
+  size_t sent;
+  for (int i = 0; i < 2; i++) {
+    check("begin_request", bj_begin_request(client, asks, 4, &stream));
+    carry(client, server, &request);
+    check("begin_response", bj_begin_response(server, stream, head, 2));
+    check("send_body", bj_send_body(server, stream, BJ_NO_OCTETS, false, &sent));
+    check("send_trailers", bj_send_trailers(server, stream, trailers, 1));
+    carry(server, client, &response);
+    check("reset", bj_reset(client, stream, 8));
+    carry(client, server, &request);
+  }
+  want("the responses", response.whole, 1);
+  check("resets_received", bj_resets_received(server, &resets));
+  check("empty_frames_received", bj_empty_frames_received(server, &empty));
+  check("peer_settings", bj_peer_settings(server, &settings));
+  want("resets", (int)resets, 2);
+  want("empty frames", (int)empty, 0);
+  want("the peer's greatest frame", (int)settings.max_frame, 16384);
+}
+
+/* Blocks of fields, encoded and decoded. */
+static void blocks(void) {
+  static const bj_field list[] = {BJ_FIELD(":status", "200"), BJ_FIELD("server", "churn")};
+  bj_encoder encoder = BJ_EMPTY_PLACE;
+  bj_decoder decoder = BJ_EMPTY_PLACE;
+  bj_field fields[3];
+  bj_span block;
+  size_t count, said;
+  want("a block of no encoder", bj_encode(&encoder, list, 2, &block), BJ_EMPTY);
+  check("encoder", bj_encoder_new(4096, &encoder));
+  check("decoder", bj_decoder_new(4096, &decoder));
+  for (int i = 0; i < 2; i++) {
+    check("encode", bj_encode(&encoder, list, 2, &block));
+    check("decode", bj_decode(&decoder, block.octets, block.length, 1000, &count));
+    check("decoded", bj_decoded(&decoder, 0, fields, 3, &said));
+    want("fields", (int)count, 2);
+    want("fields that are lent", (int)said, 2);
+    want("a value", memcmp(fields[1].value, "churn", fields[1].value_length), 0);
+  }
+  want("a third field", bj_decoded_at(&decoder, 2, fields), BJ_NO_FIELD);
+  want("no block", bj_decode(&decoder, (const uint8_t *)"\x80", 1, 1000, &count), BJ_COMPRESSION);
+  want("a block after it", bj_decode(&decoder, BJ_NO_OCTETS, 1000, &count), BJ_DECODER_FAILED);
+  check("free", bj_encoder_free(&encoder));
+  check("free", bj_decoder_free(&decoder));
+}
+
 static void join(const bj_config *config, const uint8_t *body) {
   static const bj_field asks[] = {BJ_FIELD(":method", "POST"), BJ_FIELD(":scheme", "http"),
                                   BJ_FIELD(":path", "/"), BJ_FIELD("user-agent", "churn")};
   static const bj_field answers[] = {BJ_FIELD(":status", "200"), BJ_FIELD("server", "churn")};
   struct message request = {0}, response = {0};
-  bj_end client = {0}, server = {0};
+  bj_end client = BJ_EMPTY_PLACE, server = BJ_EMPTY_PLACE, unset = {NULL, 0x7f5a12345678};
   uint32_t stream;
   size_t sent;
   check("client", bj_client_new(config, &client));
@@ -83,10 +138,12 @@ static void join(const bj_config *config, const uint8_t *body) {
   carry(&server, &client, &response);
   want("the response's length", (int)response.length, BODY);
   want("the response", memcmp(response.body, body, BODY) == 0 && response.whole, 1);
+  in_parts(&client, &server, asks);
   check("free", bj_free(&client));
   check("free", bj_free(&server));
   want("a second free", bj_free(&server), BJ_EMPTY);
   want("a call of an empty place", bj_pump(&server, &sent), BJ_EMPTY);
+  want("a call of a place that was never set", bj_pump(&unset, &sent), BJ_EMPTY);
 }
 
 int main(int count, char **words) {
@@ -100,6 +157,7 @@ int main(int count, char **words) {
     if (i == START)
       before = mallinfo2().uordblks;
     join(&config, body);
+    blocks();
   }
   size_t after = mallinfo2().uordblks;
   printf("%ld connections: %zu octets of the heap before, %zu after\n", times, before, after);

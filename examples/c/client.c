@@ -101,14 +101,16 @@ static void note(bj_end *end, const bj_event *event, struct response *response) 
     fprintf(stderr, "client: the stream was reset with code %u\n", event->code);
 }
 
-/* Takes a piece that was read. */
-static void take_piece(bj_end *end, const uint8_t *piece, size_t length,
+/* Takes a piece that was read. Where the connection fails, its GOAWAY is written. */
+static void take_piece(bj_end *end, int fd, const uint8_t *piece, size_t length,
                        struct response *response) {
   bj_event event;
   do {
     int error = bj_take(end, piece, length, &event);
-    if (error == BJ_FAILED)
+    if (error == BJ_FAILED) {
       fprintf(stderr, "client: the connection fails with code %u\n", event.code);
+      write_out(end, fd);
+    }
     check("take", error);
     piece += event.used;
     length -= event.used;
@@ -133,11 +135,12 @@ static void get(bj_end *end, int fd, const struct url *url, struct response *res
     ssize_t length = recv(fd, piece, sizeof(piece), 0);
     if (length <= 0)
       fail("the server has ended the connection");
-    take_piece(end, piece, (size_t)length, response);
+    take_piece(end, fd, piece, (size_t)length, response);
     check("release_all", bj_release_all(end));
   }
-  check("go_away", bj_go_away(end));
-  write_out(end, fd);
+  bj_span one, two;
+  if (bj_go_away(end) == BJ_OK && bj_ready(end) == BJ_OK && bj_waiting(end, &one, &two) == BJ_OK)
+    send(fd, one.octets, one.length, MSG_NOSIGNAL); /* the response is over, written or not */
 }
 
 int main(int count, char **words) {

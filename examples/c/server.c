@@ -49,6 +49,13 @@ static volatile sig_atomic_t stopped;
 
 static void stop(int number) { stopped = number; }
 
+/* Seconds of a clock that nobody sets. */
+static time_t now(void) {
+  struct timespec since;
+  clock_gettime(CLOCK_MONOTONIC, &since);
+  return since.tv_sec;
+}
+
 static void drop_answer(struct conn *c, struct answer *a) {
   bj_set_user(&c->end, a->stream, 0);
   TAILQ_REMOVE(&c->answers, a, list);
@@ -183,12 +190,19 @@ static bool send_answers(struct conn *c) {
   return true;
 }
 
+/* Ends a connection at which something went wrong: a GOAWAY is the last frame in any case. */
+static void fail_conn(struct conn *c) {
+  bj_fail(&c->end, INTERNAL_ERROR); /* refused where it has failed of itself */
+  c->failed = true;
+}
+
 /* Writes until nothing waits or the socket takes no more; false where the connection is over. */
 static bool write_out(struct conn *c) {
   for (c->blocked = false;;) {
     bj_span one, two;
     size_t taken;
-    c->failed = c->failed || !send_answers(c);
+    if (!c->failed && !send_answers(c))
+      fail_conn(c);
     if (bj_ready(&c->end) != BJ_OK || bj_waiting(&c->end, &one, &two) != BJ_OK)
       return false;
     if (one.length + two.length == 0)
@@ -218,7 +232,8 @@ static bool go(struct conn *c, bool has_come) {
       c->from = 0;
       c->to = (size_t)count;
     }
-    c->failed = c->failed || take_piece(c) != BJ_OK;
+    if (!c->failed && take_piece(c) != BJ_OK)
+      fail_conn(c);
   }
   return c->blocked;
 }
@@ -246,7 +261,7 @@ static void open_conn(int fd) {
   TAILQ_INIT(&c->answers);
   TAILQ_INSERT_TAIL(&conns, c, list);
   c->fd = fd;
-  c->seen = time(NULL);
+  c->seen = now();
   if (epoll_ctl(poll_fd, EPOLL_CTL_ADD, fd, &wanted) != 0)
     close_conn(c);
 }
@@ -255,9 +270,11 @@ static void open_conn(int fd) {
 static void turn(struct conn *c) {
   bool was_blocked = c->blocked, goes_on = go(c, !was_blocked);
   struct epoll_event wanted = {.events = c->blocked ? EPOLLOUT : EPOLLIN, .data.ptr = c};
-  c->seen = time(NULL);
-  TAILQ_REMOVE(&conns, c, list);
-  TAILQ_INSERT_TAIL(&conns, c, list);
+  if (!c->failed) { /* one that has failed is kept for IDLE seconds at most, whatever comes */
+    c->seen = now();
+    TAILQ_REMOVE(&conns, c, list);
+    TAILQ_INSERT_TAIL(&conns, c, list);
+  }
   if (!goes_on)
     close_conn(c);
   else if (c->blocked != was_blocked)
@@ -267,32 +284,40 @@ static void turn(struct conn *c) {
 /* Ends the connections that have done nothing for so many seconds. */
 static void end_idle(time_t idle) {
   struct conn *c;
-  while ((c = TAILQ_FIRST(&conns)) != NULL && time(NULL) - c->seen >= idle) {
+  while ((c = TAILQ_FIRST(&conns)) != NULL && now() - c->seen >= idle) {
     bj_go_away(&c->end);
     write_out(c);
     close_conn(c);
   }
 }
 
+/* Accepts all that wait, but where descriptors or memory are short. */
+static void accept_all(int listener) {
+  int fd;
+  while ((fd = accept4(listener, NULL, NULL, SOCK_NONBLOCK | SOCK_CLOEXEC)) >= 0 ||
+         errno == ECONNABORTED || errno == EINTR)
+    if (fd >= 0)
+      open_conn(fd);
+}
+
 int main(int count, char **words) {
   struct epoll_event events[EVENTS], wanted = {.events = EPOLLIN | EPOLLET};
-  int listener = open_socket("127.0.0.1", count > 1 ? words[1] : "8080", true), fd;
+  int listener = open_socket("127.0.0.1", count > 1 ? words[1] : "8080", true);
   if (count > 2 && (folder = open(words[2], O_RDONLY | O_DIRECTORY | O_CLOEXEC)) < 0)
     return perror(words[2]), 1;
   signal(SIGPIPE, SIG_IGN);
   signal(SIGTERM, stop);
   signal(SIGINT, stop);
   poll_fd = epoll_create1(EPOLL_CLOEXEC);
-  epoll_ctl(poll_fd, EPOLL_CTL_ADD, listener, &wanted);
+  if (poll_fd < 0 || epoll_ctl(poll_fd, EPOLL_CTL_ADD, listener, &wanted) != 0)
+    return perror("server"), 1;
   while (!stopped) {
     int ready = epoll_wait(poll_fd, events, EVENTS, 1000);
     for (int i = 0; i < ready; i++)
       if (events[i].data.ptr != NULL)
         turn(events[i].data.ptr);
-      else
-        while ((fd = accept4(listener, NULL, NULL, SOCK_NONBLOCK | SOCK_CLOEXEC)) >= 0)
-          open_conn(fd);
     end_idle(IDLE);
+    accept_all(listener); /* in each turn: what had no descriptor is tried again */
   }
   end_idle(0);
   return 0;

@@ -8,6 +8,7 @@ BELKJOEF_SHARED names, or else the one that is installed (`make install-shared`)
 where the response is whole and its status is 2xx. Python 3.8 or later, and its standard library.
 """
 
+import contextlib
 import ctypes
 import ctypes.util
 import os
@@ -169,8 +170,9 @@ class Client:
                     status = self.value(b":status")
                 write(octets)
                 if event.end or event.kind in (RESET, UNPROCESSED):
-                    self.check(self.lib.bj_go_away(byref(self.end)))
-                    self.write_out()
+                    with contextlib.suppress(OSError):  # the response is over, written or not
+                        self.check(self.lib.bj_go_away(byref(self.end)))
+                        self.write_out()
                     return status, bool(event.end)
 
 
@@ -185,7 +187,8 @@ def main():
             client = Client(lib, stream)
             try:
                 write = sys.stdout.buffer.write
-                status, whole = client.get(url.netloc.encode(), path.encode(), write)
+                host = url.netloc.rpartition("@")[2]
+                status, whole = client.get(host.encode(), path.encode(), write)
             finally:
                 client.close()
     except OSError as error:

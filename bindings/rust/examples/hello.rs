@@ -39,6 +39,7 @@ fn main() -> io::Result<()> {
 fn serve(mut stream: TcpStream) -> io::Result<()> {
     stream.set_nodelay(true)?;
     stream.set_read_timeout(Some(Duration::from_secs(60)))?;
+    stream.set_write_timeout(Some(Duration::from_secs(60)))?;
     let mut server = Server::new(&Config::default())?;
     let mut answers = Answers::new();
     let mut piece = [0; 16_384];

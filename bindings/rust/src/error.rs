@@ -181,12 +181,16 @@ pub enum Error {
     NotAsked,
     /// The request has its answer, or one was begun.
     Answered,
+    /// The octets are no field block ([`Decoder`](crate::Decoder)).
+    Compression,
+    /// An earlier block failed.
+    DecoderFailed,
     /// An error that these bindings don't know, by its number in `belkjoef.h`.
     Other(i32),
 }
 
 /// The errors that have one number, with it; `Failed` has that of `bj_take`.
-const NUMBERS: [(c_int, Error); 32] = [
+const NUMBERS: [(c_int, Error); 34] = [
     (-7, Error::BadCode),
     (-11, Error::BadConfig(BadConfig::TableLimit)),
     (-12, Error::BadConfig(BadConfig::InitialWindow)),
@@ -219,6 +223,8 @@ const NUMBERS: [(c_int, Error); 32] = [
     (-52, Error::BadMessage(Rule::BadOrder)),
     (-61, Error::NotAsked),
     (-62, Error::Answered),
+    (-71, Error::Compression),
+    (-72, Error::DecoderFailed),
 ];
 
 impl Error {

@@ -22,7 +22,7 @@ pub(crate) struct Settings {
     pub(crate) max_frame: u32,
 }
 
-/// `bj_end`.
+/// `bj_end`, and `bj_encoder` and `bj_decoder`, which are alike.
 #[repr(C)]
 pub(crate) struct End {
     pub(crate) at: *mut u8,
@@ -179,4 +179,30 @@ extern "C" {
     pub(crate) fn bj_next_live(end: *mut End, above: u32, stream: *mut u32) -> c_int;
     pub(crate) fn bj_set_user(end: *mut End, stream: u32, user: usize) -> c_int;
     pub(crate) fn bj_user(end: *mut End, stream: u32, user: *mut usize) -> c_int;
+    pub(crate) fn bj_encoder_new(maximum: u32, encoder: *mut End) -> c_int;
+    pub(crate) fn bj_encoder_free(encoder: *mut End) -> c_int;
+    pub(crate) fn bj_encoder_set_limit(encoder: *mut End, limit: u32) -> c_int;
+    pub(crate) fn bj_encode(
+        encoder: *mut End,
+        fields: *const Field<'_>,
+        field_count: usize,
+        block: *mut Span,
+    ) -> c_int;
+    pub(crate) fn bj_decoder_new(maximum: u32, decoder: *mut End) -> c_int;
+    pub(crate) fn bj_decoder_free(decoder: *mut End) -> c_int;
+    pub(crate) fn bj_decoder_set_limit(decoder: *mut End, limit: u32) -> c_int;
+    pub(crate) fn bj_decode(
+        decoder: *mut End,
+        block: *const u8,
+        length: usize,
+        list_limit: u32,
+        count: *mut usize,
+    ) -> c_int;
+    pub(crate) fn bj_decoded(
+        decoder: *mut End,
+        from: usize,
+        fields: *mut Field<'_>,
+        room: usize,
+        count: *mut usize,
+    ) -> c_int;
 }

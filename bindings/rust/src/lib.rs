@@ -66,6 +66,7 @@ mod error;
 mod event;
 mod ffi;
 mod fields;
+mod hpack;
 mod server;
 mod why;
 
@@ -75,6 +76,7 @@ pub use end::End;
 pub use error::{BadConfig, Code, Error, Rule};
 pub use event::{Event, Taken};
 pub use fields::{Field, Fields, Iter};
+pub use hpack::{Decoder, Encoder};
 pub use server::{AsServer, Server};
 pub use why::Why;
 

@@ -1,7 +1,8 @@
 //! A client and a server that are joined in memory.
 
 use belkjoef::{
-    BadConfig, Client, Code, Config, End, Error, Event, Field, PeerSettings, Rule, Server, Why,
+    BadConfig, Client, Code, Config, Decoder, Encoder, End, Error, Event, Field, PeerSettings,
+    Rule, Server, Why,
 };
 
 /// What an end has handed out, owned.
@@ -570,4 +571,38 @@ fn heads_in_parts_are_those_that_were_given() {
         let (head, trailers) = (owned(&list), owned(&list[1..]));
         assert_eq!(notes, [Note::Head(id, head, false), Note::Trailers(id, trailers)]);
     }
+}
+
+#[test]
+fn blocks_are_encoded_and_decoded() {
+    let mut encoder = Encoder::new(4096).unwrap();
+    let mut decoder = Decoder::new(4096).unwrap();
+    let list = [Field::new(":status", "302"), Field::new("secret", "x").sensitive()];
+    let first = encoder.encode(&list).unwrap().to_vec();
+    assert_eq!(first[..3], [0x48, 0x82, 0x64]); // RFC 7541, appendix C.6.1
+    assert!(decoder.decode(&first, 1000).unwrap().iter().eq(list));
+    let second = encoder.encode(&list[..1]).unwrap().to_vec();
+    assert_eq!(second, [0xbe]);
+    assert!(decoder.decode(&second, 1000).unwrap().iter().eq(list[..1].iter().copied()));
+    // Of ":status", "302" and 32 the size is 42.
+    assert_eq!(decoder.decode(&second, 41).map(|list| list.len()), Err(Error::ListTooLarge));
+    assert_eq!(decoder.decode(&second, 42).map(|list| list.len()), Ok(1));
+    assert_eq!(encoder.encode(&[]).unwrap(), b"");
+    assert!(decoder.decode(b"", 0).unwrap().is_empty());
+}
+
+#[test]
+fn a_limit_is_announced_and_kept() {
+    let mut encoder = Encoder::new(4096).unwrap();
+    let mut decoder = Decoder::new(4096).unwrap();
+    encoder.set_limit(0);
+    let block = encoder.encode(&[Field::new("x-a", "1")]).unwrap().to_vec();
+    assert_eq!(block[0], 0x20); // the maximum is 0
+    decoder.set_limit(0);
+    assert_eq!(decoder.decode(&block, 1000).map(|list| list.len()), Ok(1));
+    // A size update above the limit is no block, and then nothing is.
+    assert_eq!(decoder.decode(&[0x3f, 0x01], 1000).map(|list| list.len()), Err(Error::Compression));
+    assert_eq!(decoder.decode(b"", 1000).map(|list| list.len()), Err(Error::DecoderFailed));
+    assert_eq!(Error::Compression.to_string(), "P1 Compression: the octets are no field block");
+    assert_eq!(Error::DecoderFailed.to_string(), "P3 Failed: an earlier block failed");
 }

@@ -11,11 +11,11 @@ use Rattle.belkjoef.specs.Given.{Copies, AtServer, IfRole}
 use Rattle.belkjoef.specs.Helds.{side_role}
 
 -- The place holds an end before and after, with which this was done.
-pub on_place : (answer : ℤ) (Does : Held → Held → Type 0) {old new : Option Held} {a b : Held}
+pub on_place : {A : Type 0} (answer : ℤ) (Does : A → A → Type 0) {old new : Option A} {a b : A}
     → old ≡ Some a → new ≡ Some b → Does a b → OnPlace answer Does old new
-on_place answer Does {old = old} {new = new} {a = a} {b = b} e f done =
-    subst (λ (o : Option Held). OnPlace answer Does o new) (sym e)
-    (subst (λ (n : Option Held). OnPlace answer Does (Some a) n) (sym f) done)
+on_place {A = A} answer Does {old = old} {new = new} {a = a} {b = b} e f done =
+    subst (λ (o : Option A). OnPlace answer Does o new) (sym e)
+    (subst (λ (n : Option A). OnPlace answer Does (Some a) n) (sym f) done)
 
 -- The same of an answer that was read back.
 pub on_place_told : (Does : ℤ → Held → Held → Type 0) {told answer : ℤ} {old new : Option Held}

@@ -13,7 +13,7 @@ use Rattle.belkjoef.specs.Numbers.{empty, none, ok}
 -- Where the place holds no end it answers that, and still holds none; else it does this with the
 -- end.
 -- rule: c (own) A place holds an end or nothing, and each call says which
-abbrev pub OnPlace : ℤ → (Held → Held → Type 0) → Option Held → Option Held → Type 0
+abbrev pub OnPlace : {A : Type 0} → ℤ → (A → A → Type 0) → Option A → Option A → Type 0
 OnPlace answer Does None new = (answer ≡ empty) × (new ≡ None)
 OnPlace answer Does (Some old) None = ⊥
 OnPlace answer Does (Some old) (Some new) = Does old new
@@ -93,6 +93,6 @@ pub record SaysOfEnd {A : Type 0} (Is : End → A → Type 0) (answer : ℤ) (sa
 
 -- what bj_free answers
 -- rule: c (own) A place holds an end or nothing, and each call says which
-abbrev pub FreesPlace : Option Held → ℤ → Type 0
+abbrev pub FreesPlace : {A : Type 0} → Option A → ℤ → Type 0
 FreesPlace None answer = answer ≡ empty
 FreesPlace (Some old) answer = answer ≡ ok

@@ -1,4 +1,5 @@
 pub mod Calls
+pub mod Coders
 pub mod Configs
 pub mod Events
 pub mod Given

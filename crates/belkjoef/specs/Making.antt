@@ -35,6 +35,14 @@ abbrev pub MakesWithin : Option BadConfig → Role → Values → ℤ → Option
 MakesWithin (Some bad) role values answer new = (answer ≡ config_number bad) × (new ≡ None)
 MakesWithin None role values answer new = HoldsNew role values answer new
 
+-- What bj_encoder_new and bj_decoder_new do: a place that holds one still does; else it holds a new
+-- one, or memory was refused, and it holds none.
+-- rule: c (own) A place holds an end or nothing, and each call says which
+abbrev pub MakesHeld : {A : Type 0} → (A → Type 0) → ℤ → (old new : Option A) → Type 0
+MakesHeld IsNew answer (Some old) new = (answer ≡ held) × (new ≡ Some old)
+MakesHeld IsNew answer None None = answer ≡ no_memory
+MakesHeld IsNew answer None (Some made) = (answer ≡ ok) × IsNew made
+
 -- What bj_server_new and bj_client_new do: a place that holds an end still does.
 -- rule: c (own) A new end is made in an empty place, of values within bounds
 abbrev pub MakesEnd : Role → Values → ℤ → (old new : Option Held) → Type 0

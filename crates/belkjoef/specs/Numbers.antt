@@ -40,6 +40,18 @@ none = negsuc 5
 abbrev pub bad_code : ℤ
 bad_code = negsuc 6
 
+-- -30, of C10: the field list is too large
+abbrev pub list_too_large : ℤ
+list_too_large = negsuc 29
+
+-- -71, of P1: the octets are no field block
+abbrev pub compression : ℤ
+compression = negsuc 70
+
+-- -72, of P3: an earlier block failed
+abbrev pub broken : ℤ
+broken = negsuc 71
+
 -- -32, of C12: memory was refused
 abbrev pub no_memory : ℤ
 no_memory = negsuc 31

@@ -75,13 +75,21 @@ message_texts =
     (62, codes "E4 Answered: the request has its answer already") ∷
     []
 
+-- faults of field blocks: P1 and P3
+abbrev pub block_texts : List (ℕ × List ℕ)
+block_texts =
+    (71, codes "P1 Compression: the octets are no field block") ∷
+    (72, codes "P3 Failed: an earlier block failed") ∷
+    []
+
 -- the text of the error that is minus this number
 abbrev pub number_text : ℕ → List ℕ
 number_text number =
     if nat_lt number 10 then text_in place_texts no_error_text number
     else if nat_lt number 20 then text_in config_texts no_error_text number
     else if nat_lt number 40 then text_in refusal_texts no_error_text number
-    else text_in message_texts no_error_text number
+    else if nat_lt number 70 then text_in message_texts no_error_text number
+    else text_in block_texts no_error_text number
 
 -- the text of an error
 -- rule: c (own) Each number of an error or a reason has its text

@@ -91,7 +91,7 @@ pub extern "C" fn bj_field_at(
 }
 
 /// Lends a field of a list by its place.
-fn lend_at(list: &FieldList, place: usize, field: &mut BjLent) -> i32
+pub(crate) fn lend_at(list: &FieldList, place: usize, field: &mut BjLent) -> i32
     ensures { LendsField (slice_get list.now place) result field.old field.new }
 {
     match list.get(place) {
@@ -130,7 +130,7 @@ pub extern "C" fn bj_fields(
 }
 
 /// Lends fields from a place on, and answers how many.
-fn lend(list: &FieldList, from: usize, fields: &mut [BjLent]) -> usize
+pub(crate) fn lend(list: &FieldList, from: usize, fields: &mut [BjLent]) -> usize
     ensures { AreLent (drop from list.now) fields.old fields.new result }
 {
     let count = list.len().saturating_sub(from).min(fields.len());

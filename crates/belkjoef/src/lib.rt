@@ -11,6 +11,8 @@
 
 mod config;
 mod control;
+mod decoder;
+mod encoder;
 mod event;
 mod fields;
 mod held;
@@ -31,6 +33,11 @@ pub use config::{BjConfig, bj_config_default};
 pub use control::{
     bj_change_settings, bj_fail, bj_go_away, bj_ping, bj_release, bj_release_all, bj_reset,
 };
+pub use decoder::{
+    BjDecoder, bj_decode, bj_decoded, bj_decoded_at, bj_decoder_free, bj_decoder_new,
+    bj_decoder_set_limit,
+};
+pub use encoder::{BjEncoder, bj_encode, bj_encoder_free, bj_encoder_new, bj_encoder_set_limit};
 pub use event::BjEvent;
 pub use fields::{BjField, BjLent, bj_field_at, bj_field_value, bj_fields};
 pub use making::{bj_client_new, bj_free, bj_server_new};

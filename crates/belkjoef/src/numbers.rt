@@ -5,8 +5,10 @@ ghost use Rattle.belkjoef.specs.Numbers.{config_number, refusal_number, rule_num
 ghost use Rattle.belkjoef.specs.Numbers.{answer_number, end_answer_number, count_in};
 ghost use Rattle.belkjoef.specs.Given.{reply_number};
 ghost use Rattle.belkjoef.specs.WhyNumbers.{why_number};
+ghost use Rattle.belkjoef.specs.Coders.{decoded_number};
 
 use h2_ends::{BadConfig, EndRefusal, Malformed, Message, Refusal, Why};
+use hpack::{Decoded, Fault};
 
 /// All went well.
 pub(crate) const OK: i32 = 0;
@@ -24,6 +26,8 @@ pub(crate) const NO_FIELD: i32 = -5;
 pub(crate) const NONE: i32 = -6;
 /// No error code has the number.
 pub(crate) const BAD_CODE: i32 = -7;
+/// The field list is too large: C10.
+pub(crate) const LIST_TOO_LARGE: i32 = -30;
 /// Memory was refused: C12.
 pub(crate) const MEMORY: i32 = -32;
 
@@ -55,7 +59,7 @@ pub(crate) fn of_refusal(refusal: Refusal) -> i32
         Refusal::OutputFull => -27,
         Refusal::PingWaits => -28,
         Refusal::TooManyResets => -29,
-        Refusal::ListTooLarge => -30,
+        Refusal::ListTooLarge => LIST_TOO_LARGE,
         Refusal::NotOwed => -31,
         Refusal::Memory => MEMORY,
         Refusal::SettingsWait => -33,
@@ -93,6 +97,20 @@ pub(crate) fn of_end_refusal(refusal: EndRefusal) -> i32
         EndRefusal::Conn(refusal) => of_refusal(refusal),
         EndRefusal::NotAsked => -61,
         EndRefusal::Answered => -62,
+    }
+}
+
+// rule: c (own) Each error has its number
+/// 0, or the number of why there is no list.
+pub(crate) fn of_decoded(answer: Result<Decoded, Fault>) -> i32
+    ensures { result ≡ decoded_number answer }
+{
+    match answer {
+        Ok(Decoded::Whole) => OK,
+        Ok(Decoded::TooLarge) => LIST_TOO_LARGE,
+        Err(Fault::Compression) => -71,
+        Err(Fault::Memory) => MEMORY,
+        Err(Fault::Failed) => -72,
     }
 }
 

@@ -25,7 +25,7 @@ pub struct BjSpan {
 
 impl BjSpan {
     /// Says octets.
-    fn say(&mut self, octets: &[u8])
+    pub(crate) fn say(&mut self, octets: &[u8])
         ensures { self.new ≡ span_of octets.entry }
     {
         self.octets = address(octets);

@@ -15,7 +15,7 @@ use std::marker::Model;
 
 /// The state of a place that holds an end: "belkjoef" in ASCII. Memory that was never set has it by
 /// chance alone.
-const HOLDS_ONE: u64 = 0x6265_6c6b_6a6f_6566;
+pub(crate) const HOLDS_ONE: u64 = 0x6265_6c6b_6a6f_6566;
 
 /// `bj_end`: a place of C's that holds an end, or nothing where its state is another number, as the
 /// 0 of a new one. It owns the end, which lies on the heap.

@@ -4,6 +4,7 @@ ghost use Rattle.std.specs.Prelude.{◌≡◌};
 ghost use Rattle.belkjoef.specs.Lent.{LendsText};
 ghost use Rattle.belkjoef.specs.Texts.{error_text, number_text, text_in, no_error_text};
 ghost use Rattle.belkjoef.specs.Texts.{place_texts, config_texts, refusal_texts, message_texts};
+ghost use Rattle.belkjoef.specs.Texts.{block_texts};
 ghost use Rattle.belkjoef.specs.Texts.{why_text, low_why_texts, high_why_texts, no_why_text};
 
 use crate::place::address;
@@ -56,8 +57,10 @@ fn text_of_number(number: u32) -> &'static [u8]
         text_of_config(number)
     } else if number < 40 {
         text_of_refusal(number)
-    } else {
+    } else if number < 70 {
         text_of_message(number)
+    } else {
+        text_of_block(number)
     }
 }
 
@@ -136,6 +139,18 @@ fn text_of_message(number: u32) -> &'static [u8]
         52 => b"M12 BadOrder: the parts of the message are out of order\0",
         61 => b"E3 NotAsked: the stream is not active, or has no request or no open message\0",
         62 => b"E4 Answered: the request has its answer already\0",
+        _ => b"no error of this library\0",
+    }
+}
+
+/// The text of a fault of a field block.
+#[tactic(auto, unfolding(crate::specs::Texts::text_in))]
+fn text_of_block(number: u32) -> &'static [u8]
+    ensures { result.now ≡ text_in block_texts no_error_text number }
+{
+    match number {
+        71 => b"P1 Compression: the octets are no field block\0",
+        72 => b"P3 Failed: an earlier block failed\0",
         _ => b"no error of this library\0",
     }
 }

@@ -54,6 +54,30 @@ replay_is_alone names = record { ready = refl; leaves = refl; free = refl; negat
 pub get_is_alone : IsAlone get_app
 get_is_alone = record { ready = refl; leaves = refl; free = refl; negates = refl }
 
+-- the first argument of `get` alone is its URL
+only_url : (j : ℕ) (d : Rule) → j < 7
+    → bytes_eq (slice_index_or get_app.top.rules j d).id (codes "URL") ≡ true → j ≡ 0
+only_url zero d lt same = refl
+only_url (suc zero) d lt same = cc
+only_url (suc (suc zero)) d lt same = cc
+only_url (suc (suc (suc zero))) d lt same = cc
+only_url (suc (suc (suc (suc zero)))) d lt same = cc
+only_url (suc (suc (suc (suc (suc zero))))) d lt same = cc
+only_url (suc (suc (suc (suc (suc (suc zero)))))) d lt same = cc
+only_url (suc (suc (suc (suc (suc (suc (suc j))))))) d lt same = absurd (omega arith)
+
+-- the last argument of `get` alone is its port
+only_get_port : (j : ℕ) (d : Rule) → j < 7
+    → bytes_eq (slice_index_or get_app.top.rules j d).id (codes "port") ≡ true → j ≡ 6
+only_get_port zero d lt same = cc
+only_get_port (suc zero) d lt same = cc
+only_get_port (suc (suc zero)) d lt same = cc
+only_get_port (suc (suc (suc zero))) d lt same = cc
+only_get_port (suc (suc (suc (suc zero)))) d lt same = cc
+only_get_port (suc (suc (suc (suc (suc zero))))) d lt same = cc
+only_get_port (suc (suc (suc (suc (suc (suc zero)))))) d lt same = refl
+only_get_port (suc (suc (suc (suc (suc (suc (suc j))))))) d lt same = absurd (omega arith)
+
 pub get_wants_url : IsRequiredAt get_app 0 (required_rule (codes "URL"))
 get_wants_url = record {
   inside = lit< tt;
@@ -62,7 +86,16 @@ get_wants_url = record {
   action = refl;
   range = refl;
   simple = refl;
-  unique = λ j d lt same. omega arith;
+  unique = only_url;
+  named = refl;
+  own = refl;
+}
+
+pub get_names_port : IsNamedAt get_app 6 (number_option_rule (codes "port") 1 65535)
+get_names_port = record {
+  inside = lit< tt;
+  at = λ d. refl;
+  unique = only_get_port;
   named = refl;
   own = refl;
 }

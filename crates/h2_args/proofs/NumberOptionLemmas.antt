@@ -11,14 +11,14 @@ use Rattle.h2_args.proofs.Names.{one_text-rows, number_option_rule}
 use Rattle.std.proofs.Common.{option_map}
 use Rattle.std.specs.List.{All}
 use Rattle.std.specs.Borrow.{Bor}
-use Rattle.std.specs.Prelude.{slice_get}
+use Rattle.std.specs.Prelude.{IfSome, slice_get}
 use Rattle.std.proofs.lemmas.List.Elements.{All-get_or}
 use Rattle.clap.specs.Words.{SameRules, groups_of, matched_of, parser_of}
 use Rattle.clap.specs.Facts.{Entry, EntryPasses, HasReading, PassesArg, ValuesPass, parser_of_value}
 use Rattle.clap.specs.declared.builder.value_parser.Reading.{Reading}
 use Rattle.clap.specs.declared.parser.matches.MatchedArg.{MatchedArg}
 use Rattle.clap.proofs.CallerLemmas.{entry_by_id, same_rules_by_id}
-use Rattle.h2_args.specs.Words.{number_or}
+use Rattle.h2_args.specs.Words.{number_if, number_or}
 use Rattle.h2_args.proofs.RequiredLemmas.{IsAlone, IsNamedAt, head, inside, named, own, plain, rule}
 use Rattle.h2_args.proofs.RequiredLemmas.{simple, unique}
 
@@ -217,3 +217,49 @@ option_number a c e alone m p k name default least most is E gives bits r none r
               ∙ ap (λ (t : Text). digits_value 10 (without_leading_plus t)) (sym got.1)
               ∙ ap (λ (o : Option Text). number_or default o) (sym row);
         }
+
+-- what a typed getter gives of an option's value, if it is given: a number in the range
+pub record GivesNumberIf (r : Option ℕ) (least most : ℕ) (name : Text) (rows : List Row)
+    : Type 0 where
+  pub low : IfSome r (λ number. least ≤ number)
+  pub high : IfSome r (λ number. number ≤ most)
+  pub read : r ≡ number_if (one_of name rows)
+
+-- Two defaults that differ tell whether a number was given.
+if_given : (r : Option ℕ) (o : Option Text) (least most : ℕ) → least < most
+    → unwrap_or r least ≡ number_or least o → unwrap_or r most ≡ number_or most o
+    → r ≡ number_if o
+if_given None None least most differ low high = refl
+if_given None (Some text) least most differ low high = absurd (omega arith)
+if_given (Some number) None least most differ low high = absurd (omega arith)
+if_given (Some number) (Some text) least most differ low high = ap Some low
+
+low_if : (r : Option ℕ) (default least : ℕ) → least ≤ unwrap_or r default
+    → IfSome r (λ number. least ≤ number)
+low_if None default least low = tt
+low_if (Some number) default least low = low
+
+high_if : (r : Option ℕ) (default most : ℕ) → unwrap_or r default ≤ most
+    → IfSome r (λ number. number ≤ most)
+high_if None default most high = tt
+high_if (Some number) default most high = high
+
+-- A number in a range that the type holds is read from an option, if it is given.
+pub option_number_if : (a : App) (c : Command) (e : app_of c ≡ a) (alone : IsAlone a)
+    (m : ArgMatches) (p : IsParsedFrom c m) (k : ℕ) (name : Text) (least most : ℕ)
+    → IsNamedAt a k (number_option_rule name least most)
+    → (E : Type 0) (gives : Text → Result ℕ E → Type 0) (bits : ℕ) (r : Option ℕ)
+    → (one_text (found_of m) name ≡ None → r ≡ None)
+    → ((t : Text) → one_text (found_of m) name ≡ Some t → ReadsOne gives t r)
+    → ((u : Text) (x : Result ℕ E) → gives u x → ParsesUnsigned bits 10 u x) → most < 2 ^ bits
+    → least < most → GivesNumberIf r least most name (rows_of (found_of m))
+option_number_if a c e alone m p k name least most is E gives bits r none reads parses fits differ =
+    let one = option_number a c e alone m p k name least least most is E gives bits r none reads
+    parses fits (omega arith) (omega arith) in
+    let two = option_number a c e alone m p k name most least most is E gives bits r none reads
+    parses fits (omega arith) (omega arith) in
+    record {
+      low = low_if r least least one.low;
+      high = high_if r least most one.high;
+      read = if_given r (one_of name (rows_of (found_of m))) least most differ one.read two.read;
+    }

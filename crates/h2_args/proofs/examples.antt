@@ -2,5 +2,6 @@
 -- otherwise is refused.
 pub mod ShowWords
 pub mod SocketWords
+pub mod GetWords
 pub mod ReplayWords
 pub mod ProgramWords

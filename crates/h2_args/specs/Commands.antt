@@ -3,7 +3,7 @@ use Rattle.std.specs.Prelude.{◌≡◌, ℕ, true, List, [], ◌∷◌, Some, p
 use Rattle.std.specs.Borrow.{Bor}
 use Rattle.clap.specs.Words.{App, Rule, Text, new_app, new_rule, with_rule, with_subcommand}
 use Rattle.clap.specs.Simple.{on_top}
-use Rattle.clap.specs.declared.builder.action.ArgAction.TheVariants.{Set, SetTrue}
+use Rattle.clap.specs.declared.builder.action.ArgAction.TheVariants.{Append, Set, SetTrue}
 use Rattle.clap.specs.declared.builder.value_parser.ValueParser.{ValueParser}
 use Rattle.clap.specs.declared.builder.value_parser.ValueParser.TheVariants.{Names, Signed}
 
@@ -80,11 +80,18 @@ follow_app = with_rule (with_rule (named_app (codes "show")) follow_rule)
 abbrev pub IsShowCommand : App → Type 0
 IsShowCommand a = (names : SideNames) × AreSides names × (a ≡ show_app names)
 
--- `replay [--hex] [--as SIDE]`, at the server where no side is given
+-- the flag `--messages`
+abbrev pub messages_rule : Rule
+messages_rule =
+    record (new_rule (codes "messages")) { long = Some (codes "messages"); action = Some SetTrue }
+
+-- `replay [--hex] [--as SIDE] [--messages]`, at the server where no side is given
 -- rule: replay (own) The words of replay choose the end and hexadecimal
+-- rule: messages (own) The word --messages has the rules of messages checked
 abbrev pub replay_app : SideNames → App
-replay_app names = with_rule (with_rule (named_app (codes "replay")) hex_rule)
-    (side_rule (codes "as") (codes "server") names)
+replay_app names = with_rule
+    (with_rule (with_rule (named_app (codes "replay")) hex_rule)
+    (side_rule (codes "as") (codes "server") names)) messages_rule
 
 -- the command is `replay`
 abbrev pub IsReplayCommand : App → Type 0
@@ -109,10 +116,40 @@ abbrev pub serve_app : App
 serve_app = with_rule (with_rule (named_app (codes "serve")) (number_rule (codes "PORT") 1 65535))
     (number_rule (codes "COUNT") 1 65535)
 
--- `get URL`
+-- a flag without a letter
+abbrev pub flag_rule : Text → Rule
+flag_rule name = record (new_rule name) { long = Some name; action = Some SetTrue }
+
+-- the flag `--include`, or `-i`
+abbrev pub include_rule : Rule
+include_rule = record (flag_rule (codes "include")) { short = Some 105 }
+
+-- an option whose value is any text, with a letter
+abbrev pub text_option_rule : Text → (letter : ℕ) → Rule
+text_option_rule name letter =
+    record (new_rule name) { long = Some name; short = Some letter; value_names = 1 }
+
+-- the option `--header NAME:VALUE`, or `-H`, which may be given several times
+abbrev pub header_rule : Rule
+header_rule = record (text_option_rule (codes "header") 72) { action = Some Append }
+
+-- `get [-i] [-H NAME:VALUE].. URL`
+-- rule: engines (own) serve, get and loop have their words
+abbrev pub url_and_print_app : App
+url_and_print_app = with_rule
+    (with_rule (with_rule (named_app (codes "get")) (required_rule (codes "URL"))) include_rule)
+    header_rule
+
+-- `get [-i] [-H NAME:VALUE].. [-X METHOD] [-d DATA] [--fail] [--port N] URL`; the number is from 1
+-- to 65,535
 -- rule: engines (own) serve, get and loop have their words
 abbrev pub get_app : App
-get_app = with_rule (named_app (codes "get")) (required_rule (codes "URL"))
+get_app = with_rule
+    (with_rule
+    (with_rule (with_rule url_and_print_app (text_option_rule (codes "request") 88))
+    (text_option_rule (codes "data") 100))
+    (flag_rule (codes "fail")))
+    (number_option_rule (codes "port") 1 65535)
 
 -- `loop N`, from 0 to 1,048,576
 -- rule: engines (own) serve, get and loop have their words

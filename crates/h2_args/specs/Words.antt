@@ -1,10 +1,10 @@
 -- What the words after a command's name give.
 use Rattle.std.specs.Prelude.{◌≡◌, ℕ, Bool, false, List, Option, Some, None, []}
-use Rattle.std.specs.Prelude.{if◌then◌else◌, codes, unwrap_or}
+use Rattle.std.specs.Prelude.{if◌then◌else◌, codes, map, option_map, unwrap_or}
 use Rattle.std.specs.List.{list_any}
 use Rattle.std.specs.Str.{bytes_eq}
 use Rattle.std.specs.Str.Parse.{digits_value, without_leading_plus}
-use Rattle.clap.specs.Words.{App, HasKind, Kinds, Row, Text, fault_of, first_of}
+use Rattle.clap.specs.Words.{App, HasKind, Kinds, Row, Text, all_of, fault_of, first_of}
 use Rattle.clap.specs.Words.{matches_of, one_of}
 use Rattle.clap.specs.Walk.{is_empty}
 use Rattle.clap.specs.declared.error.Error.{Error}
@@ -15,6 +15,7 @@ use Rattle.h2_spec_log.specs.declared.role.Role.TheVariants as role
 use Rattle.h2_follow.specs.declared.follow.FollowOptions.{FollowOptions}
 use Rattle.h2_args.specs.Commands.{AreSides, SideNames, program_app, replay_app, show_app}
 use Rattle.h2_args.specs.Commands.{follow_app, serve_app, get_app, loop_app}
+use Rattle.h2_args.specs.declared.get.GetOptions.{GetOptions}
 use Rattle.h2_args.specs.declared.sockets.ServeOptions.{ServeOptions}
 
 -- What the command's matches of the words give, where clap lists no fault of these words.
@@ -67,10 +68,14 @@ abbrev pub ShowWordsFail : List Text → Error → Type 0
 ShowWordsFail words error =
     (names : SideNames) × AreSides names × HasKind (show_faults names words) error
 
+-- Whether one of the words is this one.
+abbrev pub has_word : List Text → Text → Bool
+has_word words wanted = list_any (λ word. bytes_eq word wanted) words
+
 -- One of the words after `show` is `--follow`.
 -- rule: follow (own) The word --follow excludes --hex and --from
 abbrev pub asks_follow : List Text → Bool
-asks_follow words = list_any (λ word. bytes_eq word (codes "--follow")) words
+asks_follow words = has_word words (codes "--follow")
 
 -- what the matches of `show --follow` say
 -- rule: follow (own) The word --follow excludes --hex and --from
@@ -115,6 +120,12 @@ abbrev pub ReplayWordsFail : List Text → Error → Type 0
 ReplayWordsFail words error =
     (names : SideNames) × AreSides names × HasKind (replay_faults names words) error
 
+-- One of the words after `replay` is `--messages`. Where they have no fault, that is the flag: no
+-- value of an option is that word.
+-- rule: messages (own) The word --messages has the rules of messages checked
+abbrev pub asks_messages : List Text → Bool
+asks_messages words = has_word words (codes "--messages")
+
 -- the number that an argument's value writes in decimal digits
 abbrev pub number_given : Text → List Row → ℕ
 number_given id rows = digits_value 10 (without_leading_plus (unwrap_or (one_of id rows) []))
@@ -133,14 +144,51 @@ serve_options_of = given_by serve_app serve_options_in
 abbrev pub serve_faults : List Text → Kinds
 serve_faults = fault_of serve_app
 
--- what the matches of `get` say
-abbrev pub url_in : List Row → Text
-url_in rows = unwrap_or (first_of (codes "URL") rows) []
-
--- The URL that the words after `get` give, if they have no fault.
+-- What the words after `get` ask for: a URL; whether the response's fields are printed; the fields
+-- of the request, each as it was written; its method and its body, where they are given; whether a
+-- status of 400 or above is a failure; and the port where the URL names none.
 -- rule: engines (own) serve, get and loop have their words
-abbrev pub url_of : List Text → Option Text
-url_of = given_by get_app url_in
+pub record GetWords : Type 0 where
+  pub url : Text
+  pub include : Bool
+  pub fields : List Text
+  pub method : Option Text
+  pub body : Option Text
+  pub fail : Bool
+  pub port : Option ℕ
+
+-- the number that an option's value writes in decimal digits, where it is given
+abbrev pub number_if : Option Text → Option ℕ
+number_if = option_map (λ text. digits_value 10 (without_leading_plus text))
+
+-- what the matches of `get` say
+abbrev pub get_words_in : List Row → GetWords
+get_words_in rows = record {
+  url = unwrap_or (first_of (codes "URL") rows) [];
+  include = is_set (one_of (codes "include") rows);
+  fields = unwrap_or (all_of (codes "header") rows) [];
+  method = first_of (codes "request") rows;
+  body = first_of (codes "data") rows;
+  fail = is_set (one_of (codes "fail") rows);
+  port = number_if (one_of (codes "port") rows);
+}
+
+-- What the words after `get` ask for, if they have no fault.
+-- rule: engines (own) serve, get and loop have their words
+abbrev pub get_words_of : List Text → Option GetWords
+get_words_of = given_by get_app get_words_in
+
+-- what options of the code ask for
+abbrev pub asked_by : GetOptions → GetWords
+asked_by options = record {
+  url = options.url.now;
+  include = options.include;
+  fields = map (λ field. field.now) options.fields.items;
+  method = option_map (λ method. method.now) options.method;
+  body = option_map (λ body. body.now) options.body;
+  fail = options.fail;
+  port = options.port;
+}
 
 -- the kinds of error that the words after `get` may have
 abbrev pub get_faults : List Text → Kinds

@@ -5,7 +5,7 @@ ghost use Rattle.clap.specs.Words.{app_of, HasKind, rule_of};
 ghost use Rattle.h2_args.specs.Commands.{follow_app, follow_rule};
 ghost use Rattle.h2_args.specs.Words.{asks_follow, follow_faults, follow_options_of};
 
-use crate::options::{CommandText, named_command};
+use crate::options::{CommandText, has_word, named_command};
 use crate::show::{MAX_FRAME, max_frame_arg};
 use clap::{Arg, ArgAction, Command, Error};
 use h2_follow::FollowOptions;
@@ -23,12 +23,7 @@ connection, and show both; without --hex and --from";
 pub fn asks_follow(words: &[String]) -> bool
     ensures { result ≡ asks_follow (map string_bytes words.now) }
 {
-    for word in words {
-        if word.as_str() == "--follow" {
-            return true;
-        }
-    }
-    false
+    has_word(words, "--follow")
 }
 
 // contract: follow (own) The word --follow excludes --hex and --from

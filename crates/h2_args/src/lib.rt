@@ -1,11 +1,13 @@
 //! The command line of `h2`: the options that its words give.
 //!
 //! Each command has a function that reads the words after its name: [`show_args`], [`replay_args`],
-//! [`serve_args`], [`get_args`] and [`loop_args`], and [`follow_args`] where [`asks_follow`] says so. [`no_command`] reads words that begin with no
-//! command's name. An error is clap's, and its text is for the user.
+//! [`serve_args`], [`get_args`] and [`loop_args`], and [`follow_args`] where [`asks_follow`] says
+//! so. [`asks_messages`] says of the words after `replay` which end they ask for. [`no_command`]
+//! reads words that begin with no command's name. An error is clap's, and its text is for the user.
 #![tactic(auto)]
 
 mod follow;
+mod get;
 mod options;
 mod program;
 mod replay;
@@ -13,7 +15,8 @@ mod show;
 mod sockets;
 
 pub use follow::{asks_follow, follow_args};
+pub use get::{GetOptions, get_args};
 pub use program::no_command;
-pub use replay::replay_args;
+pub use replay::{asks_messages, replay_args};
 pub use show::show_args;
-pub use sockets::{MOST_POSTED, ServeOptions, get_args, loop_args, serve_args};
+pub use sockets::{MOST_POSTED, ServeOptions, loop_args, serve_args};

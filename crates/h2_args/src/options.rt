@@ -1,9 +1,9 @@
 //! What the commands have in common.
 
-ghost use Rattle.std.specs.Prelude.{◌≡◌, IfOk, false};
+ghost use Rattle.std.specs.Prelude.{◌≡◌, IfOk, false, map, string_bytes};
 ghost use Rattle.clap.specs.Words.{app_of, first_of, found_of, one_of, rows_of, rule_of};
 ghost use Rattle.h2_args.specs.Commands.{IsSideRule, hex_rule, named_app};
-ghost use Rattle.h2_args.specs.Words.{has_value, is_set};
+ghost use Rattle.h2_args.specs.Words.{has_value, has_word, is_set};
 
 use clap::{Arg, ArgAction, ArgMatches, Command};
 use std::alloc::{AllocError, Global};
@@ -76,6 +76,18 @@ pub(super) fn side_arg<'a>(alloc: Global, name: &'a str, default: &'a str, help:
         .hide_default_value(true)
         .hide_possible_values(true)
         .help(help)
+}
+
+/// Whether one of the words is this one.
+pub(super) fn has_word(words: &[String], wanted: &str) -> bool
+    ensures { result ≡ has_word (map string_bytes words.now) wanted.now }
+{
+    for word in words {
+        if word.as_str() == wanted {
+            return true;
+        }
+    }
+    false
 }
 
 /// Whether a flag was given.

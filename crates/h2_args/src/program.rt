@@ -5,9 +5,10 @@ ghost use Rattle.clap.specs.Words.{app_of};
 ghost use Rattle.h2_args.specs.Commands.{IsProgram, bare_program, named_program};
 ghost use Rattle.h2_args.specs.Words.{ProgramWordsFail, ProgramWordsPass};
 
+use crate::get::get_command;
 use crate::replay::replay_command;
 use crate::show::show_command;
-use crate::sockets::{get_command, loop_command, serve_command};
+use crate::sockets::{loop_command, serve_command};
 use clap::{Command, Error};
 use std::alloc::{AllocError, Global};
 

@@ -1,12 +1,15 @@
 //! The options of `replay`.
 
-ghost use Rattle.std.specs.Prelude.{◌≡◌, IfErr, IfOk, map, string_bytes};
-ghost use Rattle.clap.specs.Words.{app_of, found_of, rows_of};
-ghost use Rattle.h2_args.specs.Commands.{IsReplayCommand};
-ghost use Rattle.h2_args.specs.Words.{ReplayWordsFail, ReplayWordsGive, replay_options_in};
+ghost use Rattle.std.specs.Prelude.{◌≡◌, IfErr, IfOk, false, map, string_bytes};
+ghost use Rattle.clap.specs.Words.{app_of, found_of, rows_of, rule_of};
+ghost use Rattle.h2_args.specs.Commands.{IsReplayCommand, messages_rule};
+ghost use Rattle.h2_args.specs.Words.{ReplayWordsFail, ReplayWordsGive, asks_messages};
+ghost use Rattle.h2_args.specs.Words.{replay_options_in};
 
-use crate::options::{CommandText, HEX, hex_arg, is_named, is_set, named_command, side_arg};
-use clap::{ArgMatches, Command, Error};
+use crate::options::{
+    CommandText, HEX, has_word, hex_arg, is_named, is_set, named_command, side_arg,
+};
+use clap::{Arg, ArgAction, ArgMatches, Command, Error};
 use h2_events::{ReplayOptions, Role};
 use std::alloc::{AllocError, Global};
 
@@ -26,6 +29,15 @@ pub fn replay_args(alloc: Global, words: &[String]) -> Result<ReplayOptions, Err
     Ok(options_of(&matches))
 }
 
+// contract: messages (own) The word --messages has the rules of messages checked
+// rule: messages (own) The word --messages has the rules of messages checked
+/// Whether one of the words after `replay` is `--messages`.
+pub fn asks_messages(words: &[String]) -> bool
+    ensures { result ≡ asks_messages (map string_bytes words.now) }
+{
+    has_word(words, "--messages")
+}
+
 // The options that the matches of `replay` give.
 fn options_of(matches: &ArgMatches<'_>) -> ReplayOptions
     ensures { result ≡ replay_options_in (rows_of (found_of matches.now)) }
@@ -42,6 +54,21 @@ fn options_of(matches: &ArgMatches<'_>) -> ReplayOptions
 }
 
 const AS: &str = "as";
+
+const MESSAGES: &str = "messages";
+
+const MESSAGES_HELP: &str = r"Check the rules of messages too (RFC 9113, section 8)";
+
+// The flag as clap has it.
+fn messages_arg<'a>(alloc: Global) -> Arg<'a>
+    ensures rule { rule_of result ≡ messages_rule }
+    ensures local { result.global ≡ false }
+{
+    Arg::new(alloc, MESSAGES)
+        .long(MESSAGES)
+        .action(ArgAction::SetTrue)
+        .help(MESSAGES_HELP)
+}
 
 /// The lines that `replay` prints, how it ends, how octets are had, and an example.
 const EVENTS_AND_STATUSES: &str =
@@ -70,7 +97,14 @@ Then, once the input has ended or the connection has failed:
   out OCTETS         all that this end sends, in hexadecimal: its opening and
                      its replies
 
-The rules of messages (section 8) are not checked.
+The rules of messages (section 8) are checked with --messages alone: the end is
+a client or a server of messages then, and a part of a message that breaks a
+rule is not handed out. This end resets its stream, and before the line of that
+stands
+  malformed ID RULE  the number and the name of the least rule that the part
+                     breaks, as `M10 ConnectionField` (docs/PROTOCOL.md)
+A malformed message is no fault, so the status stays 0. Of a fault a hint says
+the reason, where no other hint is given.
 
 Exit status (the lines in backquotes are on standard error):
   0  the connection has not failed, wherever the input ends
@@ -110,5 +144,6 @@ pub(super) fn replay_command<'a>(alloc: Global) -> Result<Command<'a>, AllocErro
     };
     named_command(alloc, "replay", text)?
         .arg(hex_arg(alloc))?
-        .arg(side_arg(alloc, AS, "server", AS_HELP))
+        .arg(side_arg(alloc, AS, "server", AS_HELP))?
+        .arg(messages_arg(alloc))
 }

@@ -91,7 +91,8 @@ Exit status (the lines in backquotes are on standard error):
   0  the input is complete frames and field blocks, or nothing at all
   1  a fault, or the end inside the preface, a frame or a field block
   2  wrong arguments; or `bad hex`: the input isn't hexadecimal text, and
-     nothing of it is shown
+     nothing of it is shown, or, with --follow, nothing after the line that
+     isn't of tshark's text
   3  `N1 Device`: a read or a write failed
   4  `N3 Memory`: out of memory
 

@@ -1,11 +1,10 @@
-//! The options of the commands over sockets.
+//! The options of `serve` and of `loop`.
 
 ghost use Rattle.std.specs.Prelude.{◌≡◌, ◌≤◌, IfErr, IfOk, Some, false, map, pos, string_bytes};
 ghost use Rattle.clap.specs.Words.{HasKind, app_of, rule_of};
-ghost use Rattle.h2_args.specs.Commands.{get_app, loop_app, required_rule, serve_app};
+ghost use Rattle.h2_args.specs.Commands.{loop_app, required_rule, serve_app};
 ghost use Rattle.h2_args.specs.Commands.{with_numbers};
-ghost use Rattle.h2_args.specs.Words.{get_faults, loop_faults, octets_asked, serve_faults};
-ghost use Rattle.h2_args.specs.Words.{serve_options_of, url_of};
+ghost use Rattle.h2_args.specs.Words.{loop_faults, octets_asked, serve_faults, serve_options_of};
 
 use crate::options::{CommandText, named_command};
 use clap::builder::ValueParser;
@@ -53,26 +52,6 @@ pub fn serve_args(alloc: Global, words: &[String]) -> Result<ServeOptions, Error
 
 // contract: engines (own) serve, get and loop have their words
 // rule: engines (own) serve, get and loop have their words
-/// Reads the words after `get`: a URL, which isn't read yet.
-///
-/// # Errors
-///
-/// Those of [`crate::show_args`].
-pub fn get_args<'a>(alloc: Global, words: &'a [String]) -> Result<&'a str, Error>
-    ensures ok { IfOk result (λ url. url_of (map string_bytes words.entry.now) ≡ Some url.now) }
-    ensures err { IfErr result (HasKind (get_faults (map string_bytes words.entry.now))) }
-{
-    let command = get_command(alloc)?;
-    let matches = command.try_get_matches_from(words)?;
-    // It is required.
-    let Some(url) = matches.get_str(URL) else {
-        unreachable!();
-    };
-    Ok(url)
-}
-
-// contract: engines (own) serve, get and loop have their words
-// rule: engines (own) serve, get and loop have their words
 /// Reads the words after `loop`: the number of octets to post, from 0 to [`MOST_POSTED`].
 ///
 /// # Errors
@@ -99,10 +78,6 @@ const PORT_HELP: &str = "The port of 127.0.0.1, 1 to 65535";
 const COUNT: &str = "COUNT";
 
 const COUNT_HELP: &str = "How many connections are served, 1 to 65535";
-
-const URL: &str = "URL";
-
-const URL_HELP: &str = "http://HOST:PORT/PATH?QUERY";
 
 const OCTETS: &str = "N";
 
@@ -140,38 +115,6 @@ Example:
   POST /a
   hello";
 
-/// What `get` prints, how it ends, and an example.
-const FETCHED_AND_STATUSES: &str =
-    r"It asks for the URL with GET over a new connection, which begins with the
-preface: the server has to speak HTTP/2 without being asked (RFC 9113, section
-3.3). It prints the status with its phrase, `200 OK`, or the status alone where
-it has no phrase, and then the octets of the body as they are. Interim responses
-(1xx) and trailers aren't printed. It follows no redirection and has no clocks:
-it waits for a server that stays idle.
-
-The URL has the scheme http, a host, and a port of 1 to 65535; a user's name is
-refused, and a fragment is dropped.
-
-Exit status (the lines in backquotes are on standard error):
-  0  a response has come, whatever its status
-  1  `N2 Stream CODE`: the connection failed with this code (RFC 9113, section
-     7)
-     `N4 CutOff`: it ended before the response was complete
-     `N6 Reset CODE`: the request was reset with this code, or with 7, where it
-     was not processed
-  2  wrong arguments, or a URL that can't be fetched
-     `N7 Refused`: the request breaks a rule, or its fields are too many
-  3  `N1 Device`: no connection can be made, or a read or a write failed
-     `N5 NoProgress`: a write took nothing
-  4  `N3 Memory`: out of memory
-
-A hint may follow that line. It is for people, and no status depends on it.
-
-Example, beside `h2 serve 9001 1`:
-  $ h2 get http://127.0.0.1:9001/a
-  200 OK
-  GET /a";
-
 /// What `loop` prints, how it ends, and an example.
 const LOOPED_AND_STATUSES: &str =
     r"A client and a server of this process are joined by one TCP connection of
@@ -193,8 +136,8 @@ Example:
   $ h2 loop 70000
   sent 70000 got 70007 status 200";
 
-// A required argument.
-fn required_arg<'a>(alloc: Global, name: &'a str, help: &'a str) -> Arg<'a>
+/// A required argument.
+pub(super) fn required_arg<'a>(alloc: Global, name: &'a str, help: &'a str) -> Arg<'a>
     ensures rule { rule_of result ≡ required_rule name.entry.now }
     ensures local { result.global ≡ false }
 {
@@ -240,19 +183,6 @@ pub(super) fn serve_command<'a>(alloc: Global) -> Result<Command<'a>, AllocError
     named_command(alloc, "serve", text)?
         .arg(number_arg(alloc, PORT, counts(), PORT_HELP))?
         .arg(number_arg(alloc, COUNT, counts(), COUNT_HELP))
-}
-
-/// The command as clap has it.
-pub(super) fn get_command<'a>(alloc: Global) -> Result<Command<'a>, AllocError>
-    ensures { IfOk result (λ command. app_of command ≡ get_app) }
-{
-    let text = CommandText {
-        called: "h2 get",
-        about: "Fetches a URL, and prints the status and the body",
-        usage: "h2 get URL",
-        more: FETCHED_AND_STATUSES,
-    };
-    named_command(alloc, "get", text)?.arg(required_arg(alloc, URL, URL_HELP))
 }
 
 /// The command as clap has it.

@@ -161,7 +161,7 @@ status_reports role octets None reports = reports
 status_reports role octets (Some code) reports = (code, reports)
 
 -- the values of the default configuration
-values_first : (config : Config) → config.table_limit ≡ 4096 → config.initial_window ≡ 65535
+pub values_first : (config : Config) → config.table_limit ≡ 4096 → config.initial_window ≡ 65535
     → config.max_streams ≡ 100 → config.max_frame ≡ 16384 → values_of config ≡ first_values
 values_first config table window streams frame = rw (table, window, streams, frame) refl
 

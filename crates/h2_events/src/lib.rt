@@ -2,7 +2,8 @@
 //! ends the connection, and the octets that the end puts out.
 //!
 //! [`replay_input`] reads from any reader and prints to any writer, so tests run it in memory;
-//! [`write_event`] prints the lines of one event.
+//! [`write_event`] prints the lines of one event, and [`Opening`] knows what is likely wrong with an
+//! input whose first octets are at fault.
 #![tactic(auto)]
 
 mod lines;
@@ -13,5 +14,6 @@ mod replayer;
 
 pub use h2_conn::Role;
 pub use lines::write_event;
+pub use opening::Opening;
 pub use options::ReplayOptions;
 pub use replay::replay_input;

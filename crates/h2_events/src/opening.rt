@@ -6,7 +6,7 @@ use h2_wire::PREFACE;
 
 /// What is still to come of the preface that an end expects.
 #[derive(Clone, Copy, Debug)]
-pub(crate) struct Opening {
+pub struct Opening {
     left: &'static [u8],
     /// Whether no octet has come.
     is_new: bool,
@@ -14,7 +14,7 @@ pub(crate) struct Opening {
 
 impl Opening {
     /// Before the first octet: a server expects the preface, a client nothing.
-    pub(crate) fn new(role: Role) -> Opening {
+    pub fn new(role: Role) -> Opening {
         match role {
             Role::Server => Opening {
                 left: &PREFACE,
@@ -28,7 +28,7 @@ impl Opening {
     }
 
     /// After a piece that was taken.
-    pub(crate) fn advance(&mut self, piece: &[u8]) {
+    pub fn advance(&mut self, piece: &[u8]) {
         let count = piece.len().min(self.left.len());
         self.left = &self.left[count..];
         self.is_new = false;
@@ -38,7 +38,7 @@ impl Opening {
     /// What is likely wrong with the options or the input, where the connection fails in this
     /// piece: none unless it is the first one and its beginning says what it is, or it isn't what
     /// is still to come of the preface.
-    pub(crate) fn hint(&self, piece: &[u8]) -> Option<Hint> {
+    pub fn hint(&self, piece: &[u8]) -> Option<Hint> {
         let of_input = if self.is_new {
             Hint::for_input(piece, !self.left.is_empty())
         } else {

@@ -1,19 +1,22 @@
 -- What is shown of a text, by what was read of it.
-use Rattle.h2_follow.proofs.Names.{◌≡◌, ◌++◌, ℕ, [], List, sym, subst, flat_map, Option, Some}
-use Rattle.h2_follow.proofs.Names.{None, IfSome, Appends, Line, OfSide, Piece, Follower, EndsSide}
-use Rattle.h2_follow.proofs.Names.{FollowerShows, marked_of, Status, Client, Server, common_steps}
-use Rattle.h2_follow.proofs.Names.{arith}
-use Rattle.h2_follow.proofs.Names.{◌==◌, ◌∙◌, refl, ap, if◌then◌else◌, Result, Ok, Err, IfOk}
+use Rattle.h2_follow.proofs.Names.{◌≡◌, ◌∙◌, ◌++◌, ◌∷◌, ◌+◌, ◌==◌, ℕ, [], List, refl, sym, ap, subst}
+use Rattle.h2_follow.proofs.Names.{flat_map, length, if◌then◌else◌, Option, Some, None, Result, Ok}
+use Rattle.h2_follow.proofs.Names.{Err, IfOk, IfErr, IfSome, Appends, Line, OfSide, Piece, Follower}
+use Rattle.h2_follow.proofs.Names.{EndsSide, FollowerShows, marked_of, Status, Client, Server}
+use Rattle.h2_follow.proofs.Names.{arith, common_steps}
 use Rattle.std.proofs.KnownBytes.{Appends-trans}
 use Rattle.std.specs.Io.KnownBytes.{prepend_known}
 use Rattle.std.specs.Io.Buffered.{reader_buffer, reader_capacity, reader_inner, reader_remaining}
 use Rattle.std.specs.declared.io.buffered.BufReader.{BufReader}
+use Rattle.h2_cli.specs.declared.failure.Failure.TheVariants as failures
 use Rattle.h2_follow.specs.declared.follow.Followed.{Followed}
+use Rattle.h2_follow.specs.declared.follow.Unfollowed.{Unfollowed}
+use Rattle.h2_follow.specs.declared.hint.FollowHint.{FollowHint}
 use Rattle.std.specs.Io.KnownBytes.{IsAtEnd}
 use Rattle.h2_follow.specs.declared.text.Part.{Part}
-use Rattle.h2_follow.specs.FollowText.{LinesSoFar}
+use Rattle.h2_follow.specs.FollowText.{IsRefusedLine, LinesSoFar}
 use Rattle.h2_follow.specs.Follower.{ReadsLines}
-use Rattle.h2_follow.specs.Follows.{FollowsText, status_of_both}
+use Rattle.h2_follow.specs.Follows.{FollowsText, FollowsToBadLine, hint_of_line, status_of_both}
 use Rattle.h2_follow.proofs.FollowerLemmas.{followed}
 use Rattle.h2_follow.proofs.LinesLemmas.{text_read}
 
@@ -56,6 +59,44 @@ ended_told (Some text) middle start written ended first follower lines pieces te
       Appends-trans start written ended _ _ one last.7,
     )
 
+-- a line that can't follow was read
+pub refused_told : (before middle start written : Option (List ℕ)) (first follower : Follower)
+    (lines : List Line) (line : Line) (pieces : List Piece) (texts : List OfSide) (part : Part)
+    (number : ℕ) (hint : Option FollowHint) → ReadsLines before middle (lines ++ line ∷ [])
+    → LinesSoFar part lines pieces → Appends start written (flat_map marked_of texts)
+    → ((max_frame : ℕ) → FollowerShows first max_frame [] []
+    → FollowerShows follower max_frame pieces texts)
+    → IsRefusedLine part line → number ≡ length lines + 1 → hint ≡ Some (hint_of_line number line)
+    → IfSome before (λ text. (max_frame : ℕ) → FollowerShows first max_frame [] []
+    → (shown : List ℕ) × FollowsToBadLine max_frame text hint shown × Appends start written shown)
+refused_told None middle start written first follower lines line pieces texts part number hint reads
+    read one shows refused counted reports = tt
+refused_told (Some text) None start written first follower lines line pieces texts part number hint
+    reads read one shows refused counted reports = absurd reads
+refused_told (Some text) (Some rest) start written first follower lines line pieces texts part number
+    hint reads read one shows refused counted reports = λ max_frame none. (
+      _,
+      record {
+        number = number;
+        bad = record {
+          part = part;
+          before = lines;
+          pieces = pieces;
+          line = line;
+          rest = rest;
+          begins = reads;
+          read = read;
+          refused = refused;
+          counted = counted;
+        };
+        texts = texts;
+        so_far = (shows max_frame none).so_far;
+        all = refl;
+        reports = reports;
+      },
+      one,
+    )
+
 -- nothing before known octets
 none_before : (known : Option (List ℕ)) → prepend_known [] known ≡ known
 none_before None = refl
@@ -71,6 +112,22 @@ same_octets remaining reader inner is none some =
     ∙ ap (λ (first : List ℕ). prepend_known first (remaining (reader_inner reader))) none
     ∙ none_before (remaining (reader_inner reader)) ∙ ap remaining is
 
+-- What holds of the octets of one reader, where nothing was shown before, holds of those of the
+-- other.
+same_told : (known given : Option (List ℕ)) (first : Follower) (max_frame : ℕ)
+    (says : (most : ℕ) → List ℕ → Type 0) → known ≡ given → FollowerShows first max_frame [] []
+    → IfSome known (λ text. (most : ℕ) → FollowerShows first most [] [] → says most text)
+    → IfSome given (λ text. says max_frame text)
+same_told known given first max_frame says same none told = by given
+    (subst (λ (octets : Option (List ℕ)). IfSome octets (λ text.
+    (most : ℕ) → FollowerShows first most [] [] → says most text)) same told)
+  where
+    by : (octets : Option (List ℕ))
+        → IfSome octets (λ text. (most : ℕ) → FollowerShows first most [] [] → says most text)
+        → IfSome octets (λ text. says max_frame text)
+    by None so = tt
+    by (Some text) so = so max_frame none
+
 -- what is shown of the octets of one reader is what is shown of those of the other
 pub follows_told : {E : Type 0} (result : Result Followed E) (known given : Option (List ℕ))
     (start ended : Option (List ℕ)) (first : Follower) (max_frame : ℕ) → known ≡ given
@@ -82,15 +139,21 @@ pub follows_told : {E : Type 0} (result : Result Followed E) (known given : Opti
     × FollowsText max_frame text followed.status shown × Appends start ended shown))
 follows_told (Err error) known given start ended first max_frame same none told = tt
 follows_told (Ok some) known given start ended first max_frame same none told =
-    by given (subst (λ (octets : Option (List ℕ)). IfSome octets (λ text.
-    (most : ℕ) → FollowerShows first most [] []
-    → (shown : List ℕ) × FollowsText most text some.status shown × Appends start ended shown))
-    same told)
-  where
-    by : (octets : Option (List ℕ)) → IfSome octets (λ text. (most : ℕ)
-        → FollowerShows first most [] [] → (shown : List ℕ)
-        × FollowsText most text some.status shown × Appends start ended shown)
-        → IfSome octets (λ text. (shown : List ℕ)
-        × FollowsText max_frame text some.status shown × Appends start ended shown)
-    by None so = tt
-    by (Some text) so = so max_frame none
+    same_told known given first max_frame (λ most text. (shown : List ℕ)
+    × FollowsText most text some.status shown × Appends start ended shown) same none told
+
+-- the same where a line is refused
+pub refusal_told : {T : Type 0} (result : Result T Unfollowed) (known given : Option (List ℕ))
+    (start ended : Option (List ℕ)) (first : Follower) (max_frame : ℕ) → known ≡ given
+    → FollowerShows first max_frame [] []
+    → IfErr result (λ unfollowed. unfollowed.failure ≡ failures.BadHex
+    → IfSome known (λ text. (most : ℕ) → FollowerShows first most [] []
+    → (shown : List ℕ) × FollowsToBadLine most text unfollowed.hint shown
+    × Appends start ended shown))
+    → IfErr result (λ unfollowed. unfollowed.failure ≡ failures.BadHex
+    → IfSome given (λ text. (shown : List ℕ)
+    × FollowsToBadLine max_frame text unfollowed.hint shown × Appends start ended shown))
+refusal_told (Ok some) known given start ended first max_frame same none told = tt
+refusal_told (Err bad) known given start ended first max_frame same none told = λ is.
+    same_told known given first max_frame (λ most text. (shown : List ℕ)
+    × FollowsToBadLine most text bad.hint shown × Appends start ended shown) same none (told is)

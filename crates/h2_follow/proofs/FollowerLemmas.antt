@@ -14,7 +14,7 @@ use Rattle.std.proofs.lemmas.List.{map-append}
 use Rattle.std.proofs.KnownBytes.{Appends-nil}
 use Rattle.h2_show.proofs.FaultLemmas.{frames_shown}
 use Rattle.h2_follow.specs.Follower.{FollowerShowsMore}
-use Rattle.h2_follow.specs.Follows.{FollowsPieces, status_of_both}
+use Rattle.h2_follow.specs.Follows.{FollowsPieces, FollowsSoFar, status_of_both}
 
 -- what a side has printed is what is shown of its octets so far
 shows_so_far : (one : OneSide) (options : ShowOptions) (octets lines : List ℕ)
@@ -177,33 +177,28 @@ follows_next : (old new : Follower) (max_frame : ℕ) (side : Side) (before text
     (of_side Client texts)
     → SideShows old.server_side (side_options max_frame Server) (of_side Server before)
     (of_side Server texts)
-    → map (λ text. text.0) texts ≡ map (λ piece. piece.0) before
-    → ((count : ℕ) (one : Side) → ShowsSoFar (side_options max_frame one)
-    (of_side one (take count before)) (of_side one (take count texts)))
-    → (pieces : List Piece)
+    → FollowsSoFar max_frame before texts → (pieces : List Piece)
     → sided (client_of pieces) pieces ≡ before ++ (side, octets) ∷ [] → KnowsClient new.client pieces
     → FollowerShows new max_frame pieces (texts ++ (side, printed) ∷ [])
-follows_next old new max_frame side before texts octets printed advances client server sides so_far
+follows_next old new max_frame side before texts octets printed advances client server so_far
     pieces is knows =
     let all : List OfSide = before ++ (side, octets) ∷ [] in
     let lines : List OfSide = texts ++ (side, printed) ∷ [] in
     let (one, two) = sides_next old new max_frame side before texts octets printed advances client
     server in
     let same : length texts ≡ length before =
-    lengths texts before sides in
+    lengths texts before so_far.sides in
     record {
       knows = knows;
       client = subst (λ (some : List OfSide). SideShows new.client_side
           (side_options max_frame Client) (of_side Client some) (of_side Client lines)) (sym is) one;
       server = subst (λ (some : List OfSide). SideShows new.server_side
           (side_options max_frame Server) (of_side Server some) (of_side Server lines)) (sym is) two;
-      sides = sides_more before texts side octets printed sides
-          ∙ ap (λ (some : List OfSide). map (λ piece. piece.0) some) (sym is);
-      so_far = subst (λ (some : List OfSide). (count : ℕ) (turn : Side)
-          → ShowsSoFar (side_options max_frame turn) (of_side turn (take count some))
-          (of_side turn (take count lines))) (sym is)
-          (so_far_next max_frame before texts (side, octets) (side, printed) same so_far
-          (both_so_far new max_frame all lines one two));
+      so_far = subst (λ (some : List OfSide). FollowsSoFar max_frame some lines) (sym is) (record {
+        sides = sides_more before texts side octets printed so_far.sides;
+        so_far = so_far_next max_frame before texts (side, octets) (side, printed) same
+            so_far.so_far (both_so_far new max_frame all lines one two);
+      });
     }
 
 -- a piece is taken
@@ -220,10 +215,7 @@ takes old new client piece printed chooses is advances max_frame pieces texts sh
     (of_side Client all) (of_side Client texts)) before shows.client)
     (subst (λ (all : List OfSide). SideShows old.server_side (side_options max_frame Server)
     (of_side Server all) (of_side Server texts)) before shows.server)
-    (shows.sides ∙ ap (λ (all : List OfSide). map (λ one. one.0) all) before)
-    (subst (λ (all : List OfSide). (count : ℕ) (one : Side)
-    → ShowsSoFar (side_options max_frame one) (of_side one (take count all))
-    (of_side one (take count texts))) before shows.so_far)
+    (subst (λ (all : List OfSide). FollowsSoFar max_frame all texts) before shows.so_far)
     (pieces ++ piece ∷ [])
     (ap (λ (one : Node). sided one (pieces ++ piece ∷ [])) (sym now)
     ∙ map-append (λ (one : Piece). (side_of_node client one.0, one.1)) pieces (piece ∷ []))
@@ -309,9 +301,11 @@ none_taken follower max_frame none client server = record {
   knows = subst (λ (known : Option Node). KnowsClient known []) (sym none) refl;
   client = client;
   server = server;
-  sides = refl;
-  so_far = λ count side. rw (take_none count)
-      (both_so_far follower max_frame [] [] client server side);
+  so_far = record {
+    sides = refl;
+    so_far = λ count side. rw (take_none count)
+        (both_so_far follower max_frame [] [] client server side);
+  };
 }
   where
     take_none : (count : ℕ) → take {A = OfSide} count [] ≡ []
@@ -355,7 +349,6 @@ pub followed : (follower : Follower) (max_frame : ℕ) (pieces : List Piece) (te
 followed follower max_frame pieces texts client server status one two shows is client_ends
     server_ends = record {
       texts = texts;
-      sides = shows.sides;
       so_far = shows.so_far;
       client_end = one;
       server_end = two;

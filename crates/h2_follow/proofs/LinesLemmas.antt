@@ -5,12 +5,9 @@ use Rattle.h2_follow.proofs.Names.{common_steps}
 use Rattle.h2_follow.specs.declared.text.Part.TheVariants.{Head}
 use Rattle.std.specs.Io.BufRead.{take_through, drop_through, DropsThrough}
 use Rattle.std.specs.Io.KnownBytes.{IsAtEnd}
-use Rattle.h2_follow.specs.declared.hint.FollowHint.{FollowHint}
 use Rattle.h2_follow.specs.declared.text.Part.{Part}
-use Rattle.h2_follow.specs.FollowText.{BeginsWithLines, FollowText, HasBadLine, IsRefusedLine}
-use Rattle.h2_follow.specs.FollowText.{LinesSoFar}
+use Rattle.h2_follow.specs.FollowText.{BeginsWithLines, FollowText, LinesSoFar}
 use Rattle.h2_follow.specs.Follower.{ReadsLines}
-use Rattle.h2_follow.specs.Follows.{BadLineReports}
 
 -- a text begins with one more line
 begins_next : (text rest : List ℕ) (lines : List Line) (line : Line)
@@ -56,32 +53,6 @@ text_read (Some text) (Some rest) lines part pieces reads ended read = record {
   begins = subst (λ (left : List ℕ). BeginsWithLines text lines left) ended reads;
   read = read;
 }
-
--- a line that can't follow was read
-pub bad_read : (before after : Option (List ℕ)) (lines : List Line) (line : Line) (part : Part)
-    (pieces : List Piece) (number : ℕ) (hint : Option FollowHint)
-    → ReadsLines before after (lines ++ line ∷ []) → LinesSoFar part lines pieces
-    → IsRefusedLine part line → number ≡ length lines + 1 → BadLineReports number hint
-    → IfSome before (λ text. (count : ℕ) × HasBadLine text count × BadLineReports count hint)
-bad_read None after lines line part pieces number hint reads read refused counted reports = tt
-bad_read (Some text) None lines line part pieces number hint reads read refused counted reports =
-    absurd reads
-bad_read (Some text) (Some rest) lines line part pieces number hint reads read refused counted
-    reports = (
-      number,
-      record {
-        part = part;
-        before = lines;
-        pieces = pieces;
-        line = line;
-        rest = rest;
-        begins = reads;
-        read = read;
-        refused = refused;
-        counted = counted;
-      },
-      reports,
-    )
 
 -- before any line is read
 pub none_read : (known : Option (List ℕ)) → ReadsLines known known []

@@ -2,7 +2,7 @@
 pub use Rattle.std.proofs.Common.{◌≡◌, ◌≢◌, ◌∙◌, ◌++◌, ◌∷◌, ◌&&◌, ◌||◌, ◌==◌, ◌+◌, ℕ, [], List, refl, sym, ap}
 pub use Rattle.std.proofs.Common.{subst, append_assoc, append-nil, Bool, true, false, not, length}
 pub use Rattle.std.proofs.Common.{Option, Some, None, if◌then◌else◌, rules, arith, MatchBool, map}
-pub use Rattle.std.proofs.Common.{flat_map, take, Result, Ok, Err, IfOk, IfSome, OnOk, option_map}
+pub use Rattle.std.proofs.Common.{flat_map, take, Result, Ok, Err, IfOk, IfErr, IfSome, OnOk}
 pub use Rattle.std.proofs.lemmas.Grind.{common_steps}
 pub use Rattle.std.specs.Option.{is_some}
 pub use Rattle.std.specs.Io.KnownBytes.{Appends}
@@ -16,7 +16,7 @@ pub use Rattle.h2_show.specs.declared.viewer.Viewer.{Viewer}
 pub use Rattle.h2_show.specs.Printed.{ViewerShows, ViewerPrints, ViewerFailsWith, error_lines}
 pub use Rattle.h2_show.specs.Printed.{end_lines}
 pub use Rattle.h2_show.specs.Report.{begins_with_preface, limits_of}
-pub use Rattle.h2_show.specs.Shown.{Shows, ShowsOctets}
+pub use Rattle.h2_show.specs.Shown.{ShowsOctets}
 pub use Rattle.h2_show.specs.Viewer.{IsStreamFault}
 pub use Rattle.h2_follow.specs.declared.one_side.OneSide.{OneSide}
 pub use Rattle.h2_follow.specs.FollowText.{Line, OfSide, Piece}
@@ -25,6 +25,6 @@ pub use Rattle.h2_follow.specs.Follows.{ShowsSoFar, goes_on, is_over, side_optio
 pub use Rattle.h2_follow.specs.Follows.{part_of_side, marked_of}
 pub use Rattle.h2_follow.specs.declared.text.Node.{Node}
 pub use Rattle.h2_follow.specs.declared.follower.Follower.{Follower}
-pub use Rattle.h2_follow.specs.FollowText.{client_of, client_by, sided, side_of_node}
+pub use Rattle.h2_follow.specs.FollowText.{client_of, sided, side_of_node}
 pub use Rattle.h2_follow.specs.Follower.{FollowerShows, FollowerTakes, AdvancesSide, KnowsClient}
 pub use Rattle.h2_follow.specs.Follower.{ChoosesClient}

@@ -11,7 +11,7 @@ use Rattle.h2_follow.specs.declared.text.Part.{Part}
 use Rattle.h2_follow.specs.declared.text.Part.TheVariants.{Head, Octets, Last}
 use Rattle.h2_follow.specs.FollowText.{GivePieces, GivesPiece, LinesSoFar, is_empty_line}
 use Rattle.h2_follow.specs.FollowText.{is_head_line, is_last_line, node_of, part_after}
-use Rattle.h2_follow.specs.FollowText.{belongs}
+use Rattle.h2_follow.specs.FollowText.{begins_with_space, belongs}
 
 -- lines of octets, and one more
 give_next : (lines : List Line) (pieces : List Piece) (line : Line) (piece : Piece)
@@ -115,17 +115,17 @@ or_left false other neither = refl
 -- a line of octets
 pub read_piece : (part : Part) (lines : List Line) (pieces : List Piece) (line : Line)
     (node : Node) (octets : List ℕ) → (part ≡ Last → ⊥) → belongs part line ≡ false
-    → node ≡ node_of line → decode_of (without_blanks line) ≡ Ok octets
-    → LinesSoFar part lines pieces
+    → begins_with_space line ≡ false → node ≡ node_of line
+    → decode_of (without_blanks line) ≡ Ok octets → LinesSoFar part lines pieces
     → LinesSoFar Octets (lines ++ line ∷ []) (pieces ++ (node, octets) ∷ [])
-read_piece Head lines pieces line node octets inside other node_is decoded read =
+read_piece Head lines pieces line node octets inside other begins node_is decoded read =
     read_octets Head lines pieces line (node, octets)
-    (or_left (is_empty_line line) _ (or_left (is_last_line line) _ other), node_is, decoded) read
-    read.ends.1
-read_piece Octets lines pieces line node octets inside other node_is decoded read =
+    (or_left (is_empty_line line) _ (or_left (is_last_line line) _ other), begins, node_is, decoded)
+    read read.ends.1
+read_piece Octets lines pieces line node octets inside other begins node_is decoded read =
     read_octets Octets lines pieces line (node, octets)
-    (or_left (is_empty_line line) _ other, node_is, decoded) read read.ends.1
-read_piece Last lines pieces line node octets inside other node_is decoded read =
+    (or_left (is_empty_line line) _ other, begins, node_is, decoded) read read.ends.1
+read_piece Last lines pieces line node octets inside other begins node_is decoded read =
     absurd (inside refl)
 
 -- the first octets, of which there may be fewer

@@ -1,8 +1,9 @@
 -- The text that `tshark -q -z follow,tcp,raw,N` prints of a connection: a head, a line of hexadecimal
 -- for octets that came together, in the order in which they came, those of node 1 after a tab, and
--- a border.
+-- a border. The lines of the head may come in any order, any number of times, or not at all; the
+-- first blank line or border after octets ends them; and the text may end after any line.
 -- contract: h2_follow::follow_input
-use Rattle.std.specs.Prelude.{◌≡◌, ◌≢◌, ℕ, ◌+◌, ◌||◌, Bool, true, false, if◌then◌else◌, List, []}
+use Rattle.std.specs.Prelude.{◌≡◌, ◌≢◌, ◌⊎◌, ℕ, ◌+◌, ◌||◌, Bool, true, false, if◌then◌else◌, List, []}
 use Rattle.std.specs.Prelude.{◌∷◌, ◌++◌, length, take, map, codes, Option, Some, None, Ok}
 use Rattle.std.specs.List.{list_all}
 use Rattle.std.specs.Io.BufRead.{take_through, drop_through}
@@ -39,10 +40,11 @@ is_empty_line line = list_all is_skipped_blank line
 abbrev pub is_border : Line → Bool
 is_border line = begins_with line (codes "====")
 
--- a line of the head that says what is followed
+-- a line of the head that says what is followed: octets as they are, of TCP or within TLS
 -- rule: follow (own) Both sides are read of the text that tshark prints of them
 abbrev pub is_label : Line → Bool
-is_label line = begins_with line (codes "Follow: ") || begins_with line (codes "Filter: ")
+is_label line = begins_with line (codes "Follow: tcp,raw")
+    || begins_with line (codes "Follow: tls,raw") || begins_with line (codes "Filter: ")
     || begins_with line (codes "Node 0: ") || begins_with line (codes "Node 1: ")
 
 -- rule: follow (own) Both sides are read of the text that tshark prints of them
@@ -57,16 +59,21 @@ is_last_line line = is_empty_line line || is_border line
 abbrev pub Piece : Type 0
 Piece = Node × List ℕ
 
+-- the line begins with a space, with which no line of tshark's begins
+-- rule: follow (own) A line that is not of tshark's text ends all, with its number
+abbrev pub begins_with_space : Line → Bool
+begins_with_space line = begins_with line (codes " ")
+
 -- the node whose octets a line gives: node 1 where it begins with a tab
 -- rule: follow (own) Both sides are read of the text that tshark prints of them
 abbrev pub node_of : Line → Node
 node_of line = if begins_with line (9 ∷ []) then One else Zero
 
--- The line gives the piece, in hexadecimal, of which blanks are dropped.
+-- The line gives the piece, in hexadecimal, of which blanks are dropped. It begins with no space.
 -- rule: follow (own) Both sides are read of the text that tshark prints of them
 abbrev pub GivesPiece : Line → Piece → Type 0
 GivesPiece line piece =
-    (is_empty_line line ≡ false) × (piece.0 ≡ node_of line)
+    (is_empty_line line ≡ false) × (begins_with_space line ≡ false) × (piece.0 ≡ node_of line)
     × (decode_of (without_blanks line) ≡ Ok piece.1)
 
 -- Each of the lines gives one of the pieces, in order.
@@ -114,12 +121,17 @@ part_after Head = Head
 part_after Octets = Last
 part_after Last = Last
 
+-- The line gives no octets.
+-- rule: follow (own) A line that is not of tshark's text ends all, with its number
+abbrev pub GivesNone : Line → Type 0
+GivesNone line = IsBadHex line ⊎ (begins_with_space line ≡ true)
+
 -- The line can't follow in this part of the text: in the head and among octets it is no line of
--- that part and no hexadecimal, and after them it is a line of neither.
+-- that part and gives no octets, and after them it is no line of that part.
 -- rule: follow (own) A line that is not of tshark's text ends all, with its number
 abbrev pub IsRefusedLine : Part → Line → Type 0
-IsRefusedLine Head line = (is_head_line line ≡ false) × IsBadHex line
-IsRefusedLine Octets line = (is_last_line line ≡ false) × IsBadHex line
+IsRefusedLine Head line = (is_head_line line ≡ false) × GivesNone line
+IsRefusedLine Octets line = (is_last_line line ≡ false) × GivesNone line
 IsRefusedLine Last line = is_last_line line ≡ false
 
 -- The line of the text with this number, counted from 1, can't follow those before it.

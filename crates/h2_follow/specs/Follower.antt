@@ -1,5 +1,5 @@
 -- What both sides have printed so far, by the state of their viewers.
-use Rattle.std.specs.Prelude.{◌≡◌, ◌≢◌, ℕ, List, [], ◌∷◌, ◌++◌, take, map, Option, Some, None, MatchBool}
+use Rattle.std.specs.Prelude.{◌≡◌, ◌≢◌, ℕ, List, [], ◌∷◌, ◌++◌, Option, Some, None, MatchBool}
 use Rattle.h2_cli.specs.declared.status.Status.{Status}
 use Rattle.h2_cli.specs.declared.status.Status.TheVariants.{Fault}
 use Rattle.h2_show.specs.declared.options.ShowOptions.{ShowOptions}
@@ -13,7 +13,7 @@ use Rattle.h2_follow.specs.declared.one_side.OneSide.{OneSide}
 use Rattle.h2_follow.specs.declared.follower.Follower.{Follower}
 use Rattle.h2_follow.specs.FollowText.{BeginsWithLines, Line, OfSide, Piece, client_by}
 use Rattle.h2_follow.specs.FollowText.{client_of, sided}
-use Rattle.h2_follow.specs.Follows.{ShowsSoFar, of_side, side_options}
+use Rattle.h2_follow.specs.Follows.{FollowsSoFar, of_side, side_options}
 
 -- These lines are all that is printed of the side's octets so far; after a fault, whatever follows.
 abbrev pub SideShows : OneSide → ShowOptions → (octets lines : List ℕ) → Type 0
@@ -60,11 +60,7 @@ pub record FollowerShows (follower : Follower) (max_frame : ℕ) (pieces : List 
       (of_side Client (sided (client_of pieces) pieces)) (of_side Client texts)
   pub server : SideShows follower.server_side (side_options max_frame Server)
       (of_side Server (sided (client_of pieces) pieces)) (of_side Server texts)
-  pub sides : map (λ text. text.0) texts
-      ≡ map (λ piece. piece.0) (sided (client_of pieces) pieces)
-  pub so_far : (count : ℕ) (side : Side) → ShowsSoFar (side_options max_frame side)
-      (of_side side (take count (sided (client_of pieces) pieces)))
-      (of_side side (take count texts))
+  pub so_far : FollowsSoFar max_frame (sided (client_of pieces) pieces) texts
 
 -- The piece was taken, and this text printed of it.
 abbrev pub FollowerTakes : (old new : Follower) → Piece → (text : OfSide) → Type 0

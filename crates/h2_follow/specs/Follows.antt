@@ -1,7 +1,8 @@
 -- What `h2 show --follow` prints of both sides, and the status with it.
 -- contract: h2_follow::follow_input
-use Rattle.std.specs.Prelude.{◌≡◌, ℕ, ◌==◌, Bool, true, false, if◌then◌else◌, List, [], ◌∷◌, ◌++◌}
-use Rattle.std.specs.Prelude.{take, map, flat_map, codes, Option, Some, None}
+use Rattle.std.specs.Prelude.{◌≡◌, ℕ, ◌==◌, ◌&&◌, ◌||◌, Bool, true, false, if◌then◌else◌, List, []}
+use Rattle.std.specs.Prelude.{◌∷◌, ◌++◌, take, drop, map, flat_map, codes, Option, Some}
+use Rattle.h2_cli.specs.Hints.{begins_with, is_capture}
 use Rattle.h2_frame.specs.Frames.{Frame}
 use Rattle.h2_wire.specs.Streams.{Frames}
 use Rattle.h2_block.specs.Grouping.{Begun}
@@ -14,7 +15,7 @@ use Rattle.h2_show.specs.Report.{begins_with_preface, limits_of}
 use Rattle.h2_show.specs.Shown.{ShowsFrames, ShowsOctets, preface_lines}
 use Rattle.h2_follow.specs.declared.hint.FollowHint.{FollowHint}
 use Rattle.h2_follow.specs.declared.hint.FollowHint.TheVariants as hints
-use Rattle.h2_follow.specs.FollowText.{FollowText, OfSide, Piece, client_of, sided}
+use Rattle.h2_follow.specs.FollowText.{FollowText, HasBadLine, Line, OfSide, Piece, client_of, sided}
 
 -- the options with which `h2 show` shows the octets of a side
 -- rule: follow (own) Each side has the lines that show prints of it, after its mark
@@ -69,18 +70,24 @@ abbrev pub status_of_both : (client server : Status) → Status
 status_of_both Good Good = Good
 status_of_both client server = Fault
 
--- The whole output of pieces: for each piece the lines of its side that it completes, after any
--- number of pieces those of the octets so far; then the lines of each side's end, the client's
--- first. A side's lines, with those of its end, are what `h2 show` prints of its octets.
+-- A text for each piece, of its side: the lines that the piece completes. After any number of pieces
+-- the texts are those of the octets so far.
+-- rule: follow (own) Each side has the lines that show prints of it, after its mark
+-- rule: follow (own) A line stands where the last octet of its frame came
+pub record FollowsSoFar (max_frame : ℕ) (pieces texts : List OfSide) : Type 0 where
+  pub sides : map (λ text. text.0) texts ≡ map (λ piece. piece.0) pieces
+  pub so_far : (count : ℕ) (side : Side) → ShowsSoFar (side_options max_frame side)
+      (of_side side (take count pieces)) (of_side side (take count texts))
+
+-- The whole output of pieces: a text for each piece, and then the lines of each side's end, the
+-- client's first. A side's lines, with those of its end, are what `h2 show` prints of its octets.
 -- rule: follow (own) Each side has the lines that show prints of it, after its mark
 -- rule: follow (own) A line stands where the last octet of its frame came
 -- rule: follow (own) A side's fault ends that side, while the other goes on
 pub record FollowsPieces (max_frame : ℕ) (pieces : List OfSide) (status : Status)
     (output : List ℕ) : Type 0 where
   pub texts : List OfSide
-  pub sides : map (λ text. text.0) texts ≡ map (λ piece. piece.0) pieces
-  pub so_far : (count : ℕ) (side : Side) → ShowsSoFar (side_options max_frame side)
-      (of_side side (take count pieces)) (of_side side (take count texts))
+  pub so_far : FollowsSoFar max_frame pieces texts
   pub client_end : List ℕ
   pub server_end : List ℕ
   pub client_status : Status
@@ -100,11 +107,35 @@ FollowsText max_frame text status output =
     (pieces : List Piece) × FollowText text pieces
     × FollowsPieces max_frame (sided (client_of pieces) pieces) status output
 
--- The hint names the line with this number, or says that the first line is that of a capture.
+-- whether the third line of a capture in the format pcapng, the first four octets of which are two
+-- lines of blanks: the length of its first block, and then its order of octets
 -- rule: follow (own) A line that is not of tshark's text ends all, with its number
-abbrev pub BadLineReports : (number : ℕ) → Option FollowHint → Type 0
-BadLineReports number (Some (hints.BadLine line)) = line ≡ number
-BadLineReports number (Some hints.Capture) = number ≡ 1
-BadLineReports number (Some hints.NoPreface) = ⊥
-BadLineReports number (Some hints.Fault) = ⊥
-BadLineReports number None = ⊥
+abbrev pub has_order_of_octets : Line → Bool
+has_order_of_octets line =
+    begins_with (drop 4 line) (0x4d ∷ 0x3c ∷ 0x2b ∷ 0x1a ∷ [])
+    || begins_with (drop 4 line) (0x1a ∷ 0x2b ∷ 0x3c ∷ 0x4d ∷ [])
+
+-- whether the line with this number, counted from 1, is one of a capture of packets
+-- rule: follow (own) A line that is not of tshark's text ends all, with its number
+abbrev pub is_capture_line : (number : ℕ) → Line → Bool
+is_capture_line number line =
+    number == 1 && is_capture line || number == 3 && has_order_of_octets line
+
+-- the hint for the line with this number, which is refused: that number, or that the text is a
+-- capture
+-- rule: follow (own) A line that is not of tshark's text ends all, with its number
+abbrev pub hint_of_line : (number : ℕ) → Line → FollowHint
+hint_of_line number line =
+    if is_capture_line number line then hints.Capture else hints.BadLine number
+
+-- What is printed of a text up to a line that is refused: a text for each piece of the lines before
+-- it, and nothing of the sides' ends. The hint is that for the line.
+-- rule: follow (own) A line that is not of tshark's text ends all, with its number
+pub record FollowsToBadLine (max_frame : ℕ) (text : List ℕ) (hint : Option FollowHint)
+    (output : List ℕ) : Type 0 where
+  pub number : ℕ
+  pub bad : HasBadLine text number
+  pub texts : List OfSide
+  pub so_far : FollowsSoFar max_frame (sided (client_of bad.pieces) bad.pieces) texts
+  pub all : output ≡ flat_map marked_of texts
+  pub reports : hint ≡ Some (hint_of_line number bad.line)

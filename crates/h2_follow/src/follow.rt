@@ -1,11 +1,11 @@
 //! The text of both directions of a connection, shown to its end.
 
-ghost use Rattle.std.specs.Prelude.{◌≡◌, ◌≢◌, ℕ, ◌+◌, List, [], ◌++◌, flat_map, IfOk, IfErr, IfSome};
+ghost use Rattle.std.specs.Prelude.{◌≡◌, ◌≢◌, ℕ, List, [], Some, IfOk, IfErr, IfSome};
 ghost use Rattle.std.specs.Io.KnownBytes.{Appends};
 ghost use Rattle.h2_cli.specs.declared.failure.Failure.TheVariants as failures;
-ghost use Rattle.h2_follow.specs.FollowText.{HasBadLine};
 ghost use Rattle.h2_follow.specs.Follower.{FollowerShows};
-ghost use Rattle.h2_follow.specs.Follows.{FollowsText, BadLineReports};
+ghost use Rattle.h2_follow.specs.Follows.{FollowsText, FollowsToBadLine, hint_of_line};
+ghost use Rattle.h2_follow.specs.Follows.{has_order_of_octets, is_capture_line};
 
 use crate::follower::Follower;
 use crate::hint::FollowHint;
@@ -26,7 +26,7 @@ pub struct FollowOptions {
 pub struct Followed {
     /// How the command ends: [`Status::Good`] or [`Status::Fault`].
     pub status: Status,
-    /// What is likely the cause of a fault.
+    /// What is likely wrong with the text or with the capture.
     pub hint: Option<FollowHint>,
 }
 
@@ -89,10 +89,10 @@ impl From<AllocError> for Unfollowed {
 ///
 /// # Errors
 ///
-/// [`Failure::BadHex`] where a line isn't of the text that tshark prints, with its number;
-/// [`Failure::Device`] where a read or a write failed, and [`Failure::Memory`] when out of memory,
-/// which a line of any length may need. What was printed by then is written, unless the writer
-/// itself fails.
+/// [`Failure::BadHex`] where a line isn't of the text that tshark prints, with its number: what the
+/// lines before it give is written then, and nothing of the sides' ends. [`Failure::Device`] where
+/// a read or a write failed, and [`Failure::Memory`] when out of memory, which a line of any length
+/// may need. What was printed by then is written, unless the writer itself fails.
 pub fn follow_input<R: Read, W: Write>(
     alloc: Global,
     options: FollowOptions,
@@ -103,8 +103,9 @@ pub fn follow_input<R: Read, W: Write>(
         (lines : List ℕ) × FollowsText options.max_frame text followed.status lines
         × Appends (W.contents out.old) (W.contents out.new) lines)) }
     ensures bad_line { IfErr result (λ unfollowed. unfollowed.failure ≡ failures.BadHex
-        → IfSome (R.remaining input.old) (λ text. (number : ℕ) × HasBadLine text number
-        × BadLineReports number unfollowed.hint)) }
+        → IfSome (R.remaining input.old) (λ text. (lines : List ℕ)
+        × FollowsToBadLine options.max_frame text unfollowed.hint lines
+        × Appends (W.contents out.old) (W.contents out.new) lines)) }
 {
     let mut lines = BufReader::with_capacity(alloc, PIECE, input)?;
     let mut follower = Follower::new(alloc, options.max_frame)?;
@@ -124,8 +125,10 @@ fn follow_lines<B: BufRead, W: Write>(
         → (lines : List ℕ) × FollowsText max_frame text followed.status lines
         × Appends (W.contents out.old) (W.contents out.new) lines)) }
     ensures bad_line { IfErr result (λ unfollowed. unfollowed.failure ≡ failures.BadHex
-        → IfSome (B.Read.remaining input.old) (λ text. (number : ℕ) × HasBadLine text number
-        × BadLineReports number unfollowed.hint)) }
+        → IfSome (B.Read.remaining input.old) (λ text.
+        (max_frame : ℕ) → FollowerShows follower.old max_frame [] []
+        → (lines : List ℕ) × FollowsToBadLine max_frame text unfollowed.hint lines
+        × Appends (W.contents out.old) (W.contents out.new) lines)) }
 {
     let mut part = Part::Head;
     let mut line = Vec::new(alloc);
@@ -141,7 +144,7 @@ fn follow_lines<B: BufRead, W: Write>(
         match read_line(alloc, part, &line) {
             Ok(next) => {
                 part = next.part;
-                follower.take_line(next.read, out)?;
+                follower.take_line(count + 1, next.read, out)?;
             }
             Err(HexError::BadHex) => return Err(bad_line(count + 1, &line)),
             Err(HexError::Memory) => return Err(Unfollowed::from(Failure::Memory)),
@@ -150,12 +153,12 @@ fn follow_lines<B: BufRead, W: Write>(
     Err(Unfollowed::from(io::Error::from(ErrorKind::Other)))
 }
 
-// rule (tested): follow (own) A hint says why a side may be at fault, or which line is bad
+// rule: follow (own) A line that is not of tshark's text ends all, with its number
 // The failure of the line with this number.
 fn bad_line(number: u64, line: &[u8]) -> Unfollowed
-    ensures { BadLineReports number result.hint }
+    ensures { result.hint ≡ Some (hint_of_line number line.now) }
 {
-    let hint = if number == 1 && is_capture(line) {
+    let hint = if is_capture_line(number, line) {
         FollowHint::Capture
     } else {
         FollowHint::BadLine(number)
@@ -164,4 +167,19 @@ fn bad_line(number: u64, line: &[u8]) -> Unfollowed
         failure: Failure::BadHex,
         hint: Some(hint),
     }
+}
+
+// Whether the line with this number is one of a capture of packets.
+fn is_capture_line(number: u64, line: &[u8]) -> bool
+    ensures { result ≡ is_capture_line number line.now }
+{
+    number == 1 && is_capture(line) || number == 3 && has_order_of_octets(line)
+}
+
+// Whether a line is the third of a capture in the format pcapng.
+fn has_order_of_octets(line: &[u8]) -> bool
+    ensures { result ≡ has_order_of_octets line.now }
+{
+    let after = &line[line.len().min(4)..];
+    after.starts_with(b"\x4d\x3c\x2b\x1a") || after.starts_with(b"\x1a\x2b\x3c\x4d")
 }

@@ -12,8 +12,8 @@ ghost use Rattle.h2_show.specs.declared.options.Side.TheVariants as sides;
 use crate::hint::FollowHint;
 use crate::marks::{mark_lines, mark_of};
 use crate::one_side::OneSide;
-use crate::text::{Node, Read, client_by, side_of};
-use h2_cli::Status;
+use crate::text::{Node, Read, client_by, is_lost_segment, side_of};
+use h2_cli::{Status, asks_http1};
 use h2_show::Side;
 use std::alloc::{AllocError, Global};
 use std::io::{self, Write};
@@ -25,6 +25,8 @@ pub(crate) struct Follower {
     server_side: OneSide,
     // The client's node, once octets have come.
     client: Option<Node>,
+    // What the octets say of the capture, if they do.
+    notice: Option<FollowHint>,
     // The lines of a piece.
     text: Vec<u8>,
     // The same, each after its mark.
@@ -44,6 +46,7 @@ impl Follower {
             client_side: OneSide::new(alloc, Side::Client, max_frame)?,
             server_side: OneSide::new(alloc, Side::Server, max_frame)?,
             client: None,
+            notice: None,
             text: Vec::new(alloc),
             lines: Vec::new(alloc),
         })
@@ -51,33 +54,54 @@ impl Follower {
 
     // contract: follow (own) A line stands where the last octet of its frame came
     // rule: follow (own) A line stands where the last octet of its frame came
-    /// Shows the octets that a line gives, if it does.
+    /// Shows the octets that the line with this number gives, if it does.
     ///
     /// # Errors
     ///
     /// `OutOfMemory` for that, and those of the writer. What was printed by then is written, unless
     /// the writer itself fails.
-    pub(crate) fn take_line<W: Write>(&mut self, read: Option<Read>, out: &mut W) -> io::Result<()>
+    pub(crate) fn take_line<W: Write>(
+        &mut self,
+        number: u64,
+        read: Option<Read>,
+        out: &mut W,
+    ) -> io::Result<()>
         ensures { OnOk result ((texts : List OfSide)
             × Appends (W.contents out.old) (W.contents out.new) (flat_map marked_of texts)
             × FollowerShowsMore self.old self.new (pieces_read read) texts) }
     {
         match read {
-            Some(read) => self.take(&read, out),
+            Some(read) => self.take(number, &read, out),
             None => Ok(()),
         }
     }
 
     // rule: follow (own) A line stands where the last octet of its frame came
-    // Shows octets that came together.
-    fn take<W: Write>(&mut self, read: &Read, out: &mut W) -> io::Result<()>
+    // Shows octets that came together, those of the line with this number.
+    fn take<W: Write>(&mut self, number: u64, read: &Read, out: &mut W) -> io::Result<()>
         ensures { OnOk result ((text : OfSide)
             × Appends (W.contents out.old) (W.contents out.new) (marked_of text)
             × FollowerTakes self.old self.new (read.now.node, read.now.octets.items) text) }
     {
+        self.notice = self.notice_with(number, &read.octets);
         let client = self.client_with(read);
         self.client = Some(client);
         self.show(side_of(client, read.node), &read.octets, out)
+    }
+
+    // rule (tested): follow (own) A hint says why a side may be at fault, or which line is bad
+    // What the octets say of the capture, those of the line with this number with them.
+    fn notice_with(&self, number: u64, octets: &[u8]) -> Option<FollowHint> {
+        if self.notice.is_some() {
+            return self.notice;
+        }
+        if self.client.is_none() && asks_http1(octets) {
+            return Some(FollowHint::Http1);
+        }
+        if is_lost_segment(octets) {
+            return Some(FollowHint::LostSegment(number));
+        }
+        None
     }
 
     // rule: follow (own) The client is whose octets come first as the preface, or else the other
@@ -156,15 +180,15 @@ impl Follower {
     }
 
     // rule (tested): follow (own) A hint says why a side may be at fault, or which line is bad
-    /// What is likely the cause of a side's fault, where one is.
+    /// What is likely wrong with the text or the capture: that there are no octets, what they say of
+    /// it, or else the cause of a side's fault, the client's first.
     pub(crate) fn hint(&self) -> Option<FollowHint> {
-        if self.client_side.lacks_preface() {
-            return Some(FollowHint::NoPreface);
+        if self.client.is_none() {
+            return Some(FollowHint::NoOctets);
         }
-        if self.client_side.is_over() || self.server_side.is_over() {
-            return Some(FollowHint::Fault);
-        }
-        None
+        self.notice
+            .or(self.client_side.hint())
+            .or(self.server_side.hint())
     }
 }
 

@@ -7,8 +7,16 @@ pub enum FollowHint {
     Capture,
     /// The line of this number, counted from 1, isn't of the text that tshark prints.
     BadLine(u64),
+    /// The text has no octets.
+    NoOctets,
+    /// The line of this number, counted from 1, says that the capture lacks octets.
+    LostSegment(u64),
+    /// The first octets are a request of HTTP/1.1.
+    Http1,
     /// The client's octets don't begin with the preface.
     NoPreface,
+    /// A frame is longer than the limit, and a greater one can be given.
+    LongFrame,
     /// A side is at fault.
     Fault,
 }

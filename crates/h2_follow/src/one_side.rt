@@ -6,7 +6,10 @@ ghost use Rattle.h2_show.specs.Viewer.{IsStreamFault};
 ghost use Rattle.h2_follow.specs.Follower.{SideAdvances, EndsSide, SideShows};
 ghost use Rattle.h2_follow.specs.Follows.{side_options};
 
+use crate::hint::FollowHint;
 use h2_cli::Status;
+use h2_frame::HeadFault;
+use h2_frame::limits::MOST_MAX_FRAME;
 use h2_show::{ShowError, Side, Viewer};
 use h2_wire::WireFault;
 use std::alloc::{AllocError, Global};
@@ -16,10 +19,12 @@ use std::io;
 #[derive(Debug, Drop)]
 pub(crate) struct OneSide {
     viewer: Viewer,
+    // The most octets of a frame's payload.
+    max_frame: u32,
     // Whether a fault has ended it.
     is_over: bool,
-    // Whether that is one of its preface.
-    lacks_preface: bool,
+    // What is likely the cause of that.
+    hint: Option<FollowHint>,
 }
 
 impl OneSide {
@@ -33,8 +38,9 @@ impl OneSide {
     {
         Ok(OneSide {
             viewer: Viewer::new(alloc, side, max_frame)?,
+            max_frame,
             is_over: false,
-            lacks_preface: false,
+            hint: None,
         })
     }
 
@@ -66,12 +72,28 @@ impl OneSide {
         ensures over { self.new.is_over ≡ true }
     {
         self.is_over = true;
-        self.lacks_preface = match error {
-            ShowError::Wire(WireFault::BadPreface) => true,
-            _ => false,
-        };
+        self.hint = Some(self.hint_of(&error));
         self.viewer.show_error(error, text)?;
         Ok(())
+    }
+
+    // rule (tested): follow (own) A hint says why a side may be at fault, or which line is bad
+    // What is likely the cause of a fault.
+    fn hint_of(&self, error: &ShowError) -> FollowHint {
+        match error {
+            ShowError::Wire(WireFault::BadPreface) => FollowHint::NoPreface,
+            ShowError::Wire(WireFault::HeadFault(HeadFault::TooLong)) => self.hint_of_length(),
+            _ => FollowHint::Fault,
+        }
+    }
+
+    // The same of a length above the limit.
+    fn hint_of_length(&self) -> FollowHint {
+        if self.max_frame < MOST_MAX_FRAME {
+            FollowHint::LongFrame
+        } else {
+            FollowHint::Fault
+        }
     }
 
     // contract: follow (own) The status is 0 only where both sides are good to their ends
@@ -92,13 +114,8 @@ impl OneSide {
         self.viewer.show_end(text)
     }
 
-    /// Whether a fault has ended the side.
-    pub(crate) fn is_over(&self) -> bool {
-        self.is_over
-    }
-
-    /// Whether the side was to begin with the preface, and doesn't.
-    pub(crate) fn lacks_preface(&self) -> bool {
-        self.lacks_preface
+    /// What is likely the cause of the side's fault, where one has ended it.
+    pub(crate) fn hint(&self) -> Option<FollowHint> {
+        self.hint
     }
 }

@@ -99,6 +99,9 @@ pub(crate) fn read_line(alloc: Global, part: Part, line: &[u8]) -> Result<LineRe
     if let Part::Last = part {
         return Err(HexError::BadHex);
     }
+    if line.starts_with(b" ") {
+        return Err(HexError::BadHex);
+    }
     let octets = from_hex(alloc, line)?;
     let node = node_of(line);
     Ok(LineRead {
@@ -139,11 +142,12 @@ fn is_empty_line(line: &[u8]) -> bool
     line.iter().all(|octet| is_blank(*octet))
 }
 
-// Whether a line says what is followed.
+// Whether a line says what is followed: octets as they are, of TCP or within TLS.
 fn is_label(line: &[u8]) -> bool
     ensures { result ≡ is_label line.now }
 {
-    line.starts_with(b"Follow: ")
+    line.starts_with(b"Follow: tcp,raw")
+        || line.starts_with(b"Follow: tls,raw")
         || line.starts_with(b"Filter: ")
         || line.starts_with(b"Node 0: ")
         || line.starts_with(b"Node 1: ")
@@ -180,4 +184,10 @@ pub(crate) fn side_of(client: Node, node: Node) -> Side
         (Node::Zero, Node::Zero) | (Node::One, Node::One) => Side::Client,
         (Node::Zero, Node::One) | (Node::One, Node::Zero) => Side::Server,
     }
+}
+
+// rule (tested): follow (own) A hint says why a side may be at fault, or which line is bad
+/// Whether octets are those that tshark puts in the place of a segment that the capture lacks.
+pub(crate) fn is_lost_segment(octets: &[u8]) -> bool {
+    octets.starts_with(b"[") && octets.ends_with(b" bytes missing in capture file]\x00")
 }

@@ -19,7 +19,7 @@ always_good (Ok value) P is = is
 always_good (Err error) P is = tt
 
 -- Octets that stand after others stay there.
-appends_keeps : (first second third : Option (List ℕ)) (octets : List ℕ)
+pub appends_keeps : (first second third : Option (List ℕ)) (octets : List ℕ)
     → Appends first second octets → Keeps second third → Appends first third octets
 appends_keeps None second third octets appends keeps = tt
 appends_keeps (Some one) None third octets appends keeps = absurd appends

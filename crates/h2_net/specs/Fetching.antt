@@ -1,6 +1,7 @@
 -- How a location is fetched.
-use Rattle.std.specs.Prelude.{◌≡◌, ◌⊎◌, [], ◌∷◌, codes, string_bytes, None}
+use Rattle.std.specs.Prelude.{◌≡◌, ◌⊎◌, ℕ, List, [], ◌∷◌, codes, string_bytes, None}
 use Rattle.std.specs.Prelude.{Result, Err}
+use Rattle.hpack.specs.declared.types.field.Field.{Field}
 use Rattle.h2_spec_log.specs.Acts.{Values}
 use Rattle.h2_message.specs.Messages.{SentMessage, plain_field}
 use Rattle.h2_link.specs.declared.error.LinkError.{LinkError}
@@ -14,6 +15,14 @@ use Rattle.h2_net.specs.declared.location.Location.{Location}
 abbrev pub default_values : Values
 default_values =
     record { table_limit = 4096; initial_window = 65535; max_streams = 100; max_frame = 16384 }
+
+-- the pseudo-fields of a request to a location with this method (section 8.3.1)
+-- rule: engines (own) A URL is asked for with GET
+abbrev pub pseudo_fields_to : (method : List ℕ) → Location → List Field
+pseudo_fields_to method location =
+    plain_field (codes ":method") method ∷ plain_field (codes ":scheme") (codes "http")
+    ∷ plain_field (codes ":path") (string_bytes location.path)
+    ∷ plain_field (codes ":authority") (string_bytes location.authority) ∷ []
 
 -- a GET of a location, without a body (section 8.3.1)
 -- rule: engines (own) A URL is asked for with GET
@@ -34,6 +43,13 @@ abbrev pub FetchesLocation : Location → (start now : Traffic) → Result Fetch
 FetchesLocation location start now result =
     Fetches default_values (get_request location) start now result
     ⊎ ((result ≡ Err errors.Memory) × (now ≡ start))
+
+-- The request was made over a new connection, however that has ended; or none could be made, or
+-- there was no memory for it.
+-- rule: engines (own) The words of get make its request and say what is printed
+abbrev pub FetchesRequest : SentMessage → Result Fetched LinkError → Type 0
+FetchesRequest message result = (result ≡ Err errors.Device) ⊎ ((result ≡ Err errors.Memory)
+    ⊎ ((start now : Traffic) × Fetches default_values message start now result))
 
 -- The location was fetched over a new connection; or none could be made, or there was no memory for
 -- it.

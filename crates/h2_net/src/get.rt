@@ -11,7 +11,8 @@ ghost use Rattle.h2_message.specs.Values.{message_value};
 ghost use Rattle.h2_engines.specs.Failures.{failures_at_end};
 ghost use Rattle.h2_engines.specs.Linked.{traffic};
 ghost use Rattle.h2_net.specs.Endings.{HasClientHint, IsClientHint, without_hint};
-ghost use Rattle.h2_net.specs.Fetching.{FetchesLocation, GetsLocation, get_request};
+ghost use Rattle.h2_net.specs.Fetching.{FetchesLocation, FetchesRequest, GetsLocation, get_request};
+ghost use Rattle.h2_net.specs.Fetching.{pseudo_fields_to};
 ghost use Rattle.h2_net.specs.Printing.{IsPhraseOf, PrintsResponse, status_line};
 
 use crate::ending::{Ending, client_hint};
@@ -31,10 +32,36 @@ use std::net::{Net, OpenStream, TcpStream};
 ///
 /// # Errors
 ///
-/// [`LinkError::Device`] (N1) also where no connection can be made; else as [`fetch_link`]. The
-/// hint says what is likely the cause of [`LinkError::Device`] (N1) and [`LinkError::Stream`] (N2).
+/// Those of [`fetch_location`].
 pub fn get_location<N: Net>(net: &N, alloc: Global, location: &Location) -> Result<Fetched, Ending>
     ensures gets { GetsLocation location.now (without_hint result) }
+    ensures hint { IfErr result HasClientHint }
+{
+    let Ok(message) = request_to(alloc, location) else {
+        return Err(Ending {
+            error: LinkError::Memory,
+            hint: None,
+        });
+    };
+    fetch_location(net, alloc, location, message)
+}
+
+// rule: engines (own) The words of get make its request and say what is printed
+// contract: engines (own) A hint after the line names the likely cause of N1 and N2
+/// Makes a request over a new connection to the host and the port of a location, and answers its
+/// response once that is whole. A host's name is looked up by the network.
+///
+/// # Errors
+///
+/// [`LinkError::Device`] (N1) also where no connection can be made; else as [`fetch_link`]. The
+/// hint says what is likely the cause of [`LinkError::Device`] (N1) and [`LinkError::Stream`] (N2).
+pub fn fetch_location<N: Net>(
+    net: &N,
+    alloc: Global,
+    location: &Location,
+    message: Message,
+) -> Result<Fetched, Ending>
+    ensures fetches { FetchesRequest (message_value message) (without_hint result) }
     ensures hint { IfErr result HasClientHint }
 {
     let stream = match TcpStream::connect(net, address_of(location)) {
@@ -47,7 +74,7 @@ pub fn get_location<N: Net>(net: &N, alloc: Global, location: &Location) -> Resu
         }
     };
     let mut link = StreamLink::new(alloc, stream)?;
-    get_with_hint(alloc, &mut link, location)
+    fetch_with_hint(alloc, &mut link, message)
 }
 
 // rule: engines (own) A URL is asked for with GET
@@ -59,20 +86,20 @@ fn address_of(location: &Location) -> (&str, u16)
     (location.host.as_str(), location.port)
 }
 
-/// Asks over a link, as [`get_over`] does, and sends all that is held for it. Where the fetch fails
-/// the hint says what is likely the cause.
-fn get_with_hint<S: Read + Write + OpenStream>(
+/// Makes a request over a link, as [`fetch_link`] does, and sends all that is held for it. Where the
+/// fetch fails the hint says what is likely the cause.
+fn fetch_with_hint<S: Read + Write + OpenStream>(
     alloc: Global,
     link: &mut StreamLink<S>,
-    location: &Location,
+    message: Message,
 ) -> Result<Fetched, Ending>
     requires { link.old.failures ≡ 0 }
-    ensures gets { GetsLocation location.now (without_hint result) }
+    ensures fetches { FetchesRequest (message_value message) (without_hint result) }
     ensures sent { (link.new.held.items ≡ []) ⊎ (link.old.failures < link.new.failures) }
     ensures hint { IfErr result (λ ending. (last_error : Option ErrorKind)
         × IsClientHint ending.error link.new.first.items last_error ending.hint) }
 {
-    let fetched = get_over(alloc, link, location);
+    let fetched = fetch_link(alloc, link, Config::default(), message);
     let last_error = link.last_error();
     // A GOAWAY may be held. That it can't be sent changes nothing of what was fetched.
     let _ = link.flush();
@@ -106,23 +133,34 @@ pub fn get_over<L: Link>(
     fetch_link(alloc, link, Config::default(), message)
 }
 
-// rule: engines (own) A URL is asked for with GET
 /// The request for a location.
 fn request_to(alloc: Global, location: &Location) -> Result<Message, AllocError>
     ensures { IfOk result (λ message. message_value message ≡ get_request location.now) }
 {
-    let path = location.path.as_bytes();
-    let authority = location.authority.as_bytes();
-    let mut head = Vec::new(alloc);
-    head.push(Field::copy_of(alloc, b":method", b"GET", false)?)?;
-    head.push(Field::copy_of(alloc, b":scheme", b"http", false)?)?;
-    head.push(Field::copy_of(alloc, b":path", path, false)?)?;
-    head.push(Field::copy_of(alloc, b":authority", authority, false)?)?;
     Ok(Message {
-        head,
+        head: head_to(alloc, b"GET", location)?,
         body: Vec::new(alloc),
         trailers: None,
     })
+}
+
+// rule: engines (own) A URL is asked for with GET
+/// The pseudo-fields of a request to a location (RFC 9113, section 8.3.1), without other fields.
+///
+/// # Errors
+///
+/// [`AllocError`] where an allocation was refused.
+pub fn head_to(alloc: Global, method: &[u8], location: &Location) -> Result<Vec<Field>, AllocError>
+    ensures { IfOk result (λ head. head.items ≡ pseudo_fields_to method.now location.now) }
+{
+    let path = location.path.as_bytes();
+    let authority = location.authority.as_bytes();
+    let mut head = Vec::new(alloc);
+    head.push(Field::copy_of(alloc, b":method", method, false)?)?;
+    head.push(Field::copy_of(alloc, b":scheme", b"http", false)?)?;
+    head.push(Field::copy_of(alloc, b":path", path, false)?)?;
+    head.push(Field::copy_of(alloc, b":authority", authority, false)?)?;
+    Ok(head)
 }
 
 // rule: engines (own) A response is printed as its status, its phrase and its body
@@ -162,8 +200,12 @@ pub fn phrase(status: u16) -> Option<&'static str>
 }
 
 // rule: engines (own) A response is printed as its status, its phrase and its body
-/// Writes a status and its phrase as a line.
-fn write_status<W: Write>(value: &[u8], out: &mut W) -> io::Result<()>
+/// Writes a status and its phrase as a line, the status alone where it has none.
+///
+/// # Errors
+///
+/// Those of the writer.
+pub fn write_status<W: Write>(value: &[u8], out: &mut W) -> io::Result<()>
     ensures { OnOk result ((phrase : Option (List ℕ)) × IsPhraseOf value.now phrase
         × Appends (W.contents out.old) (W.contents out.new) (status_line value.now phrase)) }
 {
@@ -186,7 +228,7 @@ fn phrase_of(value: &[u8]) -> Option<&'static str>
 }
 
 /// The value of `:status`, which each response has (RFC 9113, section 8.3.2).
-pub(crate) fn status_value(head: &[Field]) -> &[u8]
+pub fn status_value(head: &[Field]) -> &[u8]
     ensures { result.now ≡ status_of head.now }
 {
     for field in head {

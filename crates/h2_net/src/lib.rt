@@ -18,7 +18,10 @@ mod serving;
 mod stream_link;
 
 pub use ending::{Ending, report, status_of};
-pub use get::{get_location, get_over, phrase, print_response};
+pub use get::{
+    fetch_location, get_location, get_over, head_to, phrase, print_response, status_value,
+    write_status,
+};
 pub use h2_cli::Hint;
 pub use h2_engines::{Fetched, LinkError};
 pub use location::{Location, TargetFault, target};

@@ -182,7 +182,7 @@ kept_shown P before start text ended result shown same = grind (arith, common_st
 
 -- Lines that a buffer over a lent writer has appended, all of them written, are appended to the
 -- writer, since its name is the same.
-lent_appended : (start ended final : Option (List ℕ)) (name new_name : ℕ) (lines : List ℕ)
+pub lent_appended : (start ended final : Option (List ℕ)) (name new_name : ℕ) (lines : List ℕ)
     → (new_name ≡ name → final ≡ ended)
     → Appends (append_known (option_map (λ known. name ∷ known) start) [])
     (append_known (option_map (λ known. new_name ∷ known) ended) []) lines
@@ -190,11 +190,12 @@ lent_appended : (start ended final : Option (List ℕ)) (name new_name : ℕ) (l
 lent_appended start ended final name new_name lines returns appended = search (rules, append-nil)
 
 -- what a lent writer holds, after the name of the reference
-abbrev lent_contents : {W : Type 0} → (W → Option (List ℕ)) → Lent W → Option (List ℕ)
+abbrev pub lent_contents : {W : Type 0} → (W → Option (List ℕ)) → Lent W → Option (List ℕ)
 lent_contents contents lent = option_map (λ known. lent.out.ghost_name ∷ known)
     (contents lent.out.now)
 
-buffered : {T A : Type 0} (contents : T → Option (List ℕ)) (writer : BufWriter T A) (inner : T)
+-- the contents of a buffer that is empty are those of its writer
+pub buffered : {T A : Type 0} (contents : T → Option (List ℕ)) (writer : BufWriter T A) (inner : T)
     → writer_inner writer ≡ inner → writer_buffer writer ≡ []
     → writer_contents contents writer ≡ append_known (contents inner) []
 buffered contents writer inner same empty = λ i. append_known (contents (same i)) (empty i)

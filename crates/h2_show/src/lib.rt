@@ -3,7 +3,8 @@
 //!
 //! [`show_input`] reads from any reader and prints to any writer, so tests run it in memory.
 //! A [`Viewer`] shows one stream, piece by piece.
-//! [`write_field`] prints a field for other commands too. What these share besides is in `h2_cli`.
+//! [`write_field`] prints a field for other commands too, and [`write_text`] a name or a value. What
+//! these share besides is in `h2_cli`.
 #![tactic(auto)]
 
 mod blocks;
@@ -16,7 +17,7 @@ mod viewer;
 pub use blocks::BlockError;
 pub use h2_cli::{Failure, Status};
 pub use hint::Hint;
-pub use lines::write_field;
+pub use lines::{write_field, write_text};
 pub use options::{ShowOptions, Side};
-pub use show::{Shown, show_input};
+pub use show::{Lent, Shown, show_input};
 pub use viewer::{ShowError, Viewer};

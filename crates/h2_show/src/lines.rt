@@ -379,8 +379,13 @@ pub fn write_field<W: Write>(field: FieldRef<'_>, out: &mut W) -> io::Result<()>
 }
 
 // rule: show (own) The line of a field has its mark, its name and its value
-// Prints octets as text: those that aren't printable ASCII, and the backslash, escaped.
-fn write_text<W: Write>(octets: &[u8], out: &mut W) -> io::Result<()>
+/// Prints octets as text: those that aren't printable ASCII, and the backslash, as `\x00`, with two
+/// hexadecimal digits.
+///
+/// # Errors
+///
+/// Those of the writer.
+pub fn write_text<W: Write>(octets: &[u8], out: &mut W) -> io::Result<()>
     ensures { OnOk result (Appends (W.contents out.old) (W.contents out.new)
         (shown_octets octets.now)) }
 {

@@ -30,8 +30,9 @@ pub struct Shown {
 /// A writer that is lent: std does not say that a reference inside a `BufWriter` stays the same
 /// one, and the contract of [`show_input`] speaks of the writer's contents.
 #[derive(Drop)]
-struct Lent<'a, W> {
-    out: &'a mut W,
+pub struct Lent<'a, W> {
+    /// The writer.
+    pub out: &'a mut W,
 }
 
 impl<W: Write> Write for Lent<'_, W> {

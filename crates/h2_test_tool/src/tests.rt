@@ -3,6 +3,7 @@
 //!
 //! Tests are proved as well: small functions return whether a case holds.
 
+mod asking;
 mod devices;
 mod fetching;
 mod library;

@@ -15,14 +15,17 @@ use Rattle.h2_show.specs.Shown.{ShowsInput}
 use Rattle.h2_spec_log.specs.declared.role.Role.{Role}
 use Rattle.h2_events.specs.declared.options.ReplayOptions.{ReplayOptions}
 use Rattle.h2_events.specs.Report.{ReplayReportsInput, ReplayReportsOctets, ReplayReportsText}
+use Rattle.h2_messages.specs.declared.messages.Replayed.{Replayed}
+use Rattle.h2_messages.specs.Messages.{MessagesOfInput, MessagesOfOctets, MessagesOfText}
+use Rattle.h2_conn.specs.declared.why.Why.{Why}
 use Rattle.h2_args.specs.Words.{ShowWordsGive, ReplayWordsGive}
 use Rattle.h2_follow.specs.declared.follow.FollowOptions.{FollowOptions}
 use Rattle.h2_follow.specs.declared.follow.Followed.{Followed}
 use Rattle.h2_follow.specs.declared.follow.Unfollowed.{Unfollowed}
-use Rattle.h2_follow.specs.FollowText.{HasBadLine}
-use Rattle.h2_follow.specs.Follows.{BadLineReports, status_of_both}
+use Rattle.h2_follow.specs.Follows.{FollowsToBadLine, status_of_both}
 use Rattle.h2_args.specs.Words.{follow_options_of}
-use Rattle.h2_tool.specs.Commands.{EndsShowOne, EndsFollow, EndsReplay, FollowsSo, PrintsBoth}
+use Rattle.h2_tool.specs.Commands.{EndsShowOne, EndsFollow, EndsReplayOne, EndsMessages, FollowsSo}
+use Rattle.h2_tool.specs.Commands.{MessagesSo, PrintsBoth, PrintsOfMessages, PrintsToBadLine}
 use Rattle.h2_tool.specs.Commands.{ReplaysSo, ShowsSo}
 
 -- No input has the status of wrong words.
@@ -116,7 +119,7 @@ replay_ends : (options : ReplayOptions) (words : List (List ℕ))
     (remaining left before after : Option (List ℕ)) (status : Status)
     → ReplayWordsGive words options
     → IfSome remaining (λ given. ReplayReportsInput options given status)
-    → EndsReplay words remaining left before after status
+    → EndsReplayOne words remaining left before after status
 replay_ends options words remaining left before after status asked reports = inl (record {
   options = options;
   asked = asked;
@@ -136,7 +139,7 @@ replay_gives_up : (options : ReplayOptions) (words : List (List ℕ))
     (remaining left before after : Option (List ℕ)) (failure : Failure)
     → ReplayWordsGive words options
     → (failure ≡ failures.BadHex → (options.hex ≡ true) × IfSome remaining IsBadHex)
-    → EndsReplay words remaining left before after (failure_status failure)
+    → EndsReplayOne words remaining left before after (failure_status failure)
 replay_gives_up options words remaining left before after failure asked bad = inl (record {
   options = options;
   asked = asked;
@@ -150,14 +153,76 @@ pub replay_ends_so : (options : ReplayOptions) (words : List (List ℕ))
     → IfOk shown (λ one. IfSome remaining (λ given. ReplayReportsInput options given one.status))
     → (shown ≡ Err failures.BadHex → (options.hex ≡ true) × IfSome remaining IsBadHex)
     → MatchResult shown (λ one. status ≡ one.status) (λ failure. status ≡ failure_status failure)
-    → EndsReplay words remaining left before after status
+    → EndsReplayOne words remaining left before after status
 replay_ends_so options words remaining left before after (Ok one) status asked reports bad so =
-    subst (EndsReplay words remaining left before after) (sym so)
+    subst (EndsReplayOne words remaining left before after) (sym so)
     (replay_ends options words remaining left before after one.status asked reports)
 replay_ends_so options words remaining left before after (Err failure) status asked reports bad so =
-    subst (EndsReplay words remaining left before after) (sym so)
+    subst (EndsReplayOne words remaining left before after) (sym so)
     (replay_gives_up options words remaining left before after failure asked
     (λ is. bad (ap Err is)))
+
+-- The input was handed to a client or a server of messages.
+no_usage_of_messages : (hex : Bool) (role : Role) (given : List ℕ) (why : Option Why)
+    (output : List ℕ)
+    → MatchBool hex (MessagesOfText role given Usage why output)
+    (MessagesOfOctets role given Usage why output) → ⊥
+no_usage_of_messages true role given why output reports = reports.2
+no_usage_of_messages false role given why output reports = reports
+
+messages_so : (options : ReplayOptions) (remaining before after : Option (List ℕ))
+    (status : Status) → IfSome remaining (λ given. PrintsOfMessages options given before after status)
+    → MessagesSo options remaining before after status
+messages_so options remaining before after Good prints = prints
+messages_so options remaining before after Fault prints = prints
+messages_so options None before after Usage prints = tt
+messages_so options (Some given) before after Usage prints =
+    absurd (no_usage_of_messages options.hex options.role given prints.0 prints.1 prints.2)
+messages_so options remaining before after Device prints = tt
+messages_so options remaining before after Memory prints = tt
+
+-- It was not.
+bad_hex_of_messages : (options : ReplayOptions) (remaining before after : Option (List ℕ))
+    (failure : Failure)
+    → (failure ≡ failures.BadHex → (options.hex ≡ true) × IfSome remaining IsBadHex)
+    → MessagesSo options remaining before after (failure_status failure)
+bad_hex_of_messages options remaining before after failures.Device bad = tt
+bad_hex_of_messages options remaining before after failures.Memory bad = tt
+bad_hex_of_messages options None before after failures.BadHex bad = tt
+bad_hex_of_messages options (Some given) before after failures.BadHex bad = bad refl
+
+-- the reason, among what is said of known octets
+with_reason : (had before after : Option (List ℕ)) (options : ReplayOptions) (one : Replayed)
+    → IfSome had (λ given. (output : List ℕ)
+    × MessagesOfInput options given one.status one.why output × Appends before after output)
+    → IfSome had (λ given. PrintsOfMessages options given before after one.status)
+with_reason None before after options one told = tt
+with_reason (Some given) before after options one told = (one.why, told.0, told.1, told.2)
+
+-- So `replay --messages` ends with what came of its input.
+pub messages_end_so : (options : ReplayOptions) (words : List (List ℕ))
+    (remaining left before after : Option (List ℕ)) (replayed : Result Replayed Failure)
+    (status : Status) → ReplayWordsGive words options
+    → IfOk replayed (λ one. IfSome remaining (λ given. (output : List ℕ)
+    × MessagesOfInput options given one.status one.why output × Appends before after output))
+    → (replayed ≡ Err failures.BadHex → (options.hex ≡ true) × IfSome remaining IsBadHex)
+    → MatchResult replayed (λ one. status ≡ one.status) (λ failure. status ≡ failure_status failure)
+    → EndsMessages words remaining left before after status
+messages_end_so options words remaining left before after (Ok one) status asked told bad so =
+    inl (record {
+      options = options;
+      asked = asked;
+      so = subst (λ (some : Status). MessagesSo options remaining before after some) (sym so)
+          (messages_so options remaining before after one.status
+          (with_reason remaining before after options one told));
+    })
+messages_end_so options words remaining left before after (Err failure) status asked told bad so =
+    inl (record {
+      options = options;
+      asked = asked;
+      so = subst (λ (some : Status). MessagesSo options remaining before after some) (sym so)
+          (bad_hex_of_messages options remaining before after failure (λ is. bad (ap Err is)));
+    })
 
 -- Both sides of a text were shown; a text has no other status.
 follows_so : (options : FollowOptions) (remaining before after : Option (List ℕ)) (status : Status)
@@ -188,7 +253,8 @@ follows_so options remaining before after Memory prints = tt
 -- They were not.
 bad_line_so : (options : FollowOptions) (remaining before after : Option (List ℕ))
     (failure : Failure)
-    → (failure ≡ failures.BadHex → IfSome remaining (λ text. (number : ℕ) × HasBadLine text number))
+    → (failure ≡ failures.BadHex
+    → IfSome remaining (λ text. PrintsToBadLine options text before after))
     → FollowsSo options remaining before after (failure_status failure)
 bad_line_so options remaining before after failures.Device bad = tt
 bad_line_so options remaining before after failures.Memory bad = tt
@@ -201,8 +267,8 @@ pub follow_ends_so : (options : FollowOptions) (words : List (List ℕ))
     → IfOk followed (λ one. IfSome remaining (λ text.
     PrintsBoth options text before after one.status))
     → IfErr followed (λ one. one.failure ≡ failures.BadHex
-    → IfSome remaining (λ text. (number : ℕ) × HasBadLine text number
-    × BadLineReports number one.hint))
+    → IfSome remaining (λ text. (lines : List ℕ)
+    × FollowsToBadLine options.max_frame text one.hint lines × Appends before after lines))
     → MatchResult followed (λ one. status ≡ one.status)
     (λ one. status ≡ failure_status one.failure)
     → EndsFollow words remaining left before after status
@@ -219,12 +285,12 @@ follow_ends_so options words remaining left before after (Err one) status asked 
       asked = asked;
       so = subst (λ (some : Status). FollowsSo options remaining before after some) (sym so)
           (bad_line_so options remaining before after one.failure
-          (λ is. numbered remaining (bad is)));
+          (λ is. with_hint remaining (bad is)));
     })
   where
-    numbered : (known : Option (List ℕ))
-        → IfSome known (λ text. (number : ℕ) × HasBadLine text number
-        × BadLineReports number one.hint)
-        → IfSome known (λ text. (number : ℕ) × HasBadLine text number)
-    numbered None some = tt
-    numbered (Some text) some = (some.0, some.1)
+    with_hint : (known : Option (List ℕ))
+        → IfSome known (λ text. (lines : List ℕ)
+        × FollowsToBadLine options.max_frame text one.hint lines × Appends before after lines)
+        → IfSome known (λ text. PrintsToBadLine options text before after)
+    with_hint None prints = tt
+    with_hint (Some text) prints = (one.hint, prints.0, prints.1, prints.2)

@@ -1,4 +1,5 @@
 pub mod WordLemmas
 pub mod InputLemmas
 pub mod ProgramLemmas
+pub mod GetLemmas
 pub mod SocketLemmas

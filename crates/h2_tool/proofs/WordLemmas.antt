@@ -8,8 +8,8 @@ use Rattle.h2_cli.specs.declared.status.Status.{Status}
 use Rattle.h2_cli.specs.declared.status.Status.TheVariants.{Good, Fault, Usage, Device, Memory}
 use Rattle.h2_args.specs.Words.{ShowWordsFail, ReplayWordsFail, ProgramWordsFail, follow_faults}
 use Rattle.h2_tool.specs.Commands.{AnswersWords, AsksHelp, EndsByWords, HasWrongWords, IsOfHelp}
-use Rattle.h2_tool.specs.Commands.{IsOfWrongWords, EndsShowOne, EndsFollow, EndsReplay}
-use Rattle.h2_tool.specs.Commands.{EndsProgram}
+use Rattle.h2_tool.specs.Commands.{IsOfWrongWords, EndsShowOne, EndsFollow, EndsReplayOne}
+use Rattle.h2_tool.specs.Commands.{EndsMessages, EndsProgram}
 
 -- A kind of help is not for lack of memory.
 no_memory : (kind : ErrorKind) → IsOfHelp kind → kind ≡ kinds.OutOfMemory → ⊥
@@ -71,8 +71,20 @@ follow_fails words remaining before after error status fails answers =
 pub replay_fails : (words : List (List ℕ)) (remaining before after : Option (List ℕ))
     (error : Error) (status : Status) → ReplayWordsFail words error
     → AnswersWords (kind_of error) before after status
-    → EndsReplay words remaining remaining before after status
+    → EndsReplayOne words remaining remaining before after status
 replay_fails words remaining before after error status fails answers = inr (
+  _,
+  (fails.0, fails.1, refl),
+  refl,
+  ends_by_words error _ before after status fails.2 answers,
+)
+
+-- `replay --messages`
+pub messages_fail : (words : List (List ℕ)) (remaining before after : Option (List ℕ))
+    (error : Error) (status : Status) → ReplayWordsFail words error
+    → AnswersWords (kind_of error) before after status
+    → EndsMessages words remaining remaining before after status
+messages_fail words remaining before after error status fails answers = inr (
   _,
   (fails.0, fails.1, refl),
   refl,

@@ -1,6 +1,6 @@
 -- What the commands of `h2` do, by the words that follow their names and the status with which they
 -- end.
-use Rattle.std.specs.Prelude.{◌≡◌, ◌≢◌, ◌⊎◌, ℕ, true, List, [], ◌∷◌, Option, Some}
+use Rattle.std.specs.Prelude.{◌≡◌, ◌≢◌, ◌⊎◌, ℕ, Bool, true, false, List, [], ◌∷◌, Option, Some}
 use Rattle.std.specs.Prelude.{Result, Ok, Err, IfSome, MatchBool, codes}
 use Rattle.std.specs.Io.KnownBytes.{Appends}
 use Rattle.clap.specs.Words.{IsAmong, Kinds}
@@ -12,13 +12,16 @@ use Rattle.h2_cli.specs.declared.status.Status.TheVariants.{Good, Fault, Usage, 
 use Rattle.h2_cli.specs.Hexadecimal.{IsBadHex}
 use Rattle.h2_show.specs.Shown.{ShowsInput}
 use Rattle.h2_follow.specs.declared.follow.FollowOptions.{FollowOptions}
-use Rattle.h2_follow.specs.FollowText.{HasBadLine}
-use Rattle.h2_follow.specs.Follows.{FollowsText}
+use Rattle.h2_follow.specs.declared.hint.FollowHint.{FollowHint}
+use Rattle.h2_follow.specs.Follows.{FollowsText, FollowsToBadLine}
 use Rattle.h2_events.specs.declared.options.ReplayOptions.{ReplayOptions}
 use Rattle.h2_events.specs.Report.{ReplayReportsInput}
+use Rattle.h2_conn.specs.declared.why.Why.{Why}
+use Rattle.h2_messages.specs.Messages.{MessagesOfInput}
 use Rattle.h2_args.specs.Commands.{AreSides, SideNames}
 use Rattle.h2_args.specs.Words.{ShowWordsGive, show_faults, ReplayWordsGive, replay_faults}
-use Rattle.h2_args.specs.Words.{serve_options_of, serve_faults, url_of, get_faults, octets_asked}
+use Rattle.h2_args.specs.Words.{serve_options_of, serve_faults, GetWords, get_words_of, get_faults}
+use Rattle.h2_args.specs.Words.{octets_asked, asks_messages}
 use Rattle.h2_args.specs.Words.{asks_follow, follow_options_of, follow_faults}
 use Rattle.h2_args.specs.Words.{loop_faults, program_faults}
 use Rattle.h2_args.specs.declared.sockets.ServeOptions.{ServeOptions}
@@ -27,12 +30,16 @@ use Rattle.h2_engines.specs.declared.fetcher.Fetched.{Fetched}
 use Rattle.h2_net.specs.declared.location.Location.{Location}
 use Rattle.h2_net.specs.declared.location.TargetFault.{TargetFault}
 use Rattle.h2_net.specs.declared.location.TargetFault.TheVariants as faults
-use Rattle.h2_net.specs.Locations.{Names, IsRefusedUrl}
 use Rattle.h2_net.specs.Endings.{IsServingStatus, status_with}
-use Rattle.h2_net.specs.Fetching.{GetsLocation}
+use Rattle.h2_net.specs.Fetching.{FetchesRequest}
 use Rattle.h2_net.specs.Loopback.{ExchangesPost}
-use Rattle.h2_net.specs.Printing.{PrintsResponse, exchange_line}
+use Rattle.h2_net.specs.Printing.{exchange_line}
 use Rattle.h2_net.specs.Serving.{ServesPort}
+use Rattle.h2_get.specs.declared.request.RequestFault.{RequestFault}
+use Rattle.h2_get.specs.declared.request.RequestFault.TheVariants as requests
+use Rattle.h2_get.specs.Ports.{NamesAtPort, IsRefusedAtPort}
+use Rattle.h2_get.specs.Requests.{IsAskable, IsRefusedRequest, request_asked}
+use Rattle.h2_get.specs.Responses.{PrintsAsked, fails_as_asked}
 
 -- A kind of clap's error that asks for help, or for the version.
 abbrev pub IsOfHelp : ErrorKind → Type 0
@@ -136,6 +143,14 @@ PrintsBoth options text before after status =
     (lines : List ℕ) × FollowsText options.max_frame text status lines
     × Appends before after lines
 
+-- What was appended to the output is the lines of both sides of a text up to a line that is refused.
+-- rule: follow (own) A line that is not of tshark's text ends all, with its number
+abbrev pub PrintsToBadLine : FollowOptions → (text : List ℕ) → (before after : Option (List ℕ))
+    → Type 0
+PrintsToBadLine options text before after =
+    (hint : Option FollowHint) × (lines : List ℕ)
+    × FollowsToBadLine options.max_frame text hint lines × Appends before after lines
+
 -- How showing both sides of a text ends under these options: of a reader whose octets are known, and
 -- a writer whose contents are, before and after. `Usage` comes only where a line isn't of tshark's
 -- text.
@@ -146,7 +161,7 @@ FollowsSo options remaining before after Good =
 FollowsSo options remaining before after Fault =
     IfSome remaining (λ text. PrintsBoth options text before after Fault)
 FollowsSo options remaining before after Usage =
-    IfSome remaining (λ text. (number : ℕ) × HasBadLine text number)
+    IfSome remaining (λ text. PrintsToBadLine options text before after)
 FollowsSo options remaining before after Device = Unit {0}
 FollowsSo options remaining before after Memory = Unit {0}
 
@@ -195,14 +210,60 @@ pub record ReplaysAsAsked (words : List (List ℕ)) (remaining : Option (List �
     pub asked : ReplayWordsGive words options
     pub so : ReplaysSo options remaining status
 
--- How `h2 replay` ends. Words that give no options read nothing.
+-- How `h2 replay` ends without `--messages`. Words that give no options read nothing.
 -- rule: replay (own) The words of replay choose the end and hexadecimal
-abbrev pub EndsReplay : (words : List (List ℕ)) → (remaining left : Option (List ℕ))
+abbrev pub EndsReplayOne : (words : List (List ℕ)) → (remaining left : Option (List ℕ))
     → (before after : Option (List ℕ)) → Status → Type 0
-EndsReplay words remaining left before after status =
+EndsReplayOne words remaining left before after status =
     ReplaysAsAsked words remaining status
     ⊎ ((faults : Kinds) × ReplayFaults words faults × (left ≡ remaining)
     × EndsByWords faults before after status)
+
+-- What was appended to the output is what a client or a server of messages makes of the input.
+abbrev pub PrintsOfMessages : ReplayOptions → (given : List ℕ) → (before after : Option (List ℕ))
+    → Status → Type 0
+PrintsOfMessages options given before after status =
+    (why : Option Why) × (output : List ℕ) × MessagesOfInput options given status why output
+    × Appends before after output
+
+-- How a client or a server of messages that takes an input ends under these options: of a reader
+-- whose octets are known, and a writer whose contents are, before and after.
+-- rule: messages (own) The word --messages has the rules of messages checked
+abbrev pub MessagesSo : ReplayOptions → (remaining before after : Option (List ℕ)) → Status → Type 0
+MessagesSo options remaining before after Good =
+    IfSome remaining (λ given. PrintsOfMessages options given before after Good)
+MessagesSo options remaining before after Fault =
+    IfSome remaining (λ given. PrintsOfMessages options given before after Fault)
+MessagesSo options remaining before after Usage =
+    IfSome remaining (λ given. (options.hex ≡ true) × IsBadHex given)
+MessagesSo options remaining before after Device = Unit {0}
+MessagesSo options remaining before after Memory = Unit {0}
+
+-- The words after `replay` give options, and it ends so under these.
+pub record MessagesAsAsked (words : List (List ℕ)) (remaining before after : Option (List ℕ))
+    (status : Status) : Type 0 where
+  pub options : ReplayOptions
+  pub asked : ReplayWordsGive words options
+  pub so : MessagesSo options remaining before after status
+
+-- How `h2 replay` ends with `--messages`. Words that give no options read nothing.
+-- rule: messages (own) The word --messages has the rules of messages checked
+abbrev pub EndsMessages : (words : List (List ℕ)) → (remaining left : Option (List ℕ))
+    → (before after : Option (List ℕ)) → Status → Type 0
+EndsMessages words remaining left before after status =
+    MessagesAsAsked words remaining before after status
+    ⊎ ((faults : Kinds) × ReplayFaults words faults × (left ≡ remaining)
+    × EndsByWords faults before after status)
+
+-- How `h2 replay` ends.
+-- rule: replay (own) The words of replay choose the end and hexadecimal
+-- rule: messages (own) The word --messages has the rules of messages checked
+abbrev pub EndsReplay : (words : List (List ℕ)) → (remaining left : Option (List ℕ))
+    → (before after : Option (List ℕ)) → Status → Type 0
+EndsReplay words remaining left before after status =
+    MatchBool (asks_messages words)
+    (EndsMessages words remaining left before after status)
+    (EndsReplayOne words remaining left before after status)
 
 -- The words after `serve` give a port and a count: that number of connections were served, or the
 -- port can't be had. Nothing is printed on standard output.
@@ -221,66 +282,103 @@ abbrev pub EndsServe : (words : List (List ℕ)) → (before after : Option (Lis
 EndsServe words before after status =
     ServesCount words before after status ⊎ EndsByWords (serve_faults words) before after status
 
--- The location of a URL was fetched, with this result.
-pub record GetsUrl (url : List ℕ) (result : Result Fetched LinkError) : Type 0 where
+-- The location that the words name was fetched with the request that they ask for, with this
+-- result.
+-- rule: engines (own) The words of get make its request and say what is printed
+pub record GetsAsked (words : GetWords) (result : Result Fetched LinkError) : Type 0 where
   pub location : Location
-  pub names : Names url location
-  pub gets : GetsLocation location result
+  pub names : NamesAtPort words.url words.port location
+  pub asked : IsAskable words location
+  pub fetches : FetchesRequest (request_asked words location) result
 
 -- The fetch has ended early, with an error of this status, and nothing was printed.
-pub record FailsToGet (url : List ℕ) (before after : Option (List ℕ)) (status : Status) : Type 0
+pub record FailsToGet (words : GetWords) (before after : Option (List ℕ)) (status : Status) : Type 0
   where
     pub error : LinkError
-    pub got : GetsUrl url (Err error)
+    pub got : GetsAsked words (Err error)
     pub status_is : status_with error ≡ status
     pub unwritten : after ≡ before
 
 -- The URL can't be fetched, for another fault than of memory, and nothing was printed.
-pub record IsRefusedUrlOf (url : List ℕ) (before after : Option (List ℕ)) : Type 0 where
+pub record IsRefusedUrlOf (words : GetWords) (before after : Option (List ℕ)) : Type 0 where
   pub fault : TargetFault
-  pub refused : IsRefusedUrl url fault
+  pub refused : IsRefusedAtPort words.url words.port fault
   pub other : fault ≢ faults.Memory
   pub unwritten : after ≡ before
+
+-- No request can be made for the location, for another fault than of memory, and nothing was
+-- printed.
+-- rule: engines (own) The words of get make its request and say what is printed
+pub record IsRefusedRequestOf (words : GetWords) (before after : Option (List ℕ)) : Type 0 where
+  pub location : Location
+  pub names : NamesAtPort words.url words.port location
+  pub fault : RequestFault
+  pub refused : IsRefusedRequest words location fault
+  pub other : fault ≢ requests.Memory
+  pub unwritten : after ≡ before
+
+-- The program ends so after a line on standard error that refuses its words: the line was printed,
+-- or could not be.
+abbrev pub EndsByRefusal : Status → Type 0
+EndsByRefusal Usage = Unit {0}
+EndsByRefusal Device = Unit {0}
+EndsByRefusal status = ⊥
 
 -- How the program ends where a URL can't be fetched.
 abbrev pub RefusesUrl : TargetFault → Status → Type 0
 RefusesUrl faults.Memory status = status ≡ Memory
-RefusesUrl fault Good = ⊥
-RefusesUrl fault Fault = ⊥
-RefusesUrl fault Usage = Unit {0}
-RefusesUrl fault Device = Unit {0}
-RefusesUrl fault Memory = ⊥
+RefusesUrl fault status = EndsByRefusal status
+
+-- How the program ends where no request can be made.
+-- rule: engines (own) The words of get make its request and say what is printed
+abbrev pub RefusesRequest : RequestFault → Status → Type 0
+RefusesRequest requests.Memory status = status ≡ Memory
+RefusesRequest fault status = EndsByRefusal status
+
+-- The response was printed as the words ask, and they make it a failure, or don't.
+-- rule: engines (own) With --fail a status of 400 or above ends get with status 1
+abbrev pub PrintsResult : GetWords → (before after : Option (List ℕ)) → Fetched → (fails : Bool)
+    → Type 0
+PrintsResult words before after fetched fails =
+    (fails_as_asked words fetched ≡ fails) × PrintsAsked words before after fetched
 
 -- How the program ends where a fetch has come to this: the response is printed, or can't be; or the
 -- fetch has ended early, with its own status, and nothing is printed.
 -- rule: engines (own) N1 to N7 end a command with their statuses
-abbrev pub EndsWithFetch : Result Fetched LinkError → (before after : Option (List ℕ)) → Status
+-- rule: engines (own) With --fail a status of 400 or above ends get with status 1
+abbrev pub EndsWithFetch : GetWords → Result Fetched LinkError → (before after : Option (List ℕ))
+    → Status
     → Type 0
-EndsWithFetch (Ok fetched) before after Good = PrintsResponse before after fetched
-EndsWithFetch (Ok fetched) before after status = status ≡ Device
-EndsWithFetch (Err error) before after status = (status ≡ status_with error) × (after ≡ before)
+EndsWithFetch words (Ok fetched) before after Good = PrintsResult words before after fetched false
+EndsWithFetch words (Ok fetched) before after Fault = PrintsResult words before after fetched true
+EndsWithFetch words (Ok fetched) before after status = status ≡ Device
+EndsWithFetch words (Err error) before after status =
+    (status ≡ status_with error) × (after ≡ before)
 
--- How the fetch of a URL ends, with a writer whose contents are known. `Usage` comes only where the
--- URL can't be fetched or its request was refused (N7); `Device` for N1 and N5, and where a line
--- about the URL or the response could not be printed.
+-- How the fetch that words ask for ends, with a writer whose contents are known. `Fault` comes
+-- where the fetch has ended early, or its response is a failure; `Usage` only where the URL can't be
+-- fetched, no request can be made, or the request was refused (N7); `Device` for N1 and N5, and
+-- where a line about the words or the response could not be printed.
 -- rule: engines (own) serve, get and loop have their words
-abbrev pub GetsSo : (url : List ℕ) → (before after : Option (List ℕ)) → Status → Type 0
-GetsSo url before after Good =
-    (fetched : Fetched) × GetsUrl url (Ok fetched) × PrintsResponse before after fetched
-GetsSo url before after Fault = FailsToGet url before after Fault
-GetsSo url before after Usage =
-    IsRefusedUrlOf url before after ⊎ FailsToGet url before after Usage
-GetsSo url before after Device =
-    IsRefusedUrlOf url before after ⊎ (FailsToGet url before after Device
-    ⊎ ((fetched : Fetched) × GetsUrl url (Ok fetched)))
-GetsSo url before after Memory =
-    FailsToGet url before after Memory ⊎ (IsRefusedUrl url faults.Memory × (after ≡ before))
+-- rule: engines (own) The words of get make its request and say what is printed
+abbrev pub GetsSo : GetWords → (before after : Option (List ℕ)) → Status → Type 0
+GetsSo words before after Good = (fetched : Fetched) × GetsAsked words (Ok fetched)
+    × PrintsResult words before after fetched false
+GetsSo words before after Fault = FailsToGet words before after Fault
+    ⊎ ((fetched : Fetched) × GetsAsked words (Ok fetched)
+    × PrintsResult words before after fetched true)
+GetsSo words before after Usage = IsRefusedUrlOf words before after
+    ⊎ (IsRefusedRequestOf words before after ⊎ FailsToGet words before after Usage)
+GetsSo words before after Device = IsRefusedUrlOf words before after
+    ⊎ (IsRefusedRequestOf words before after ⊎ (FailsToGet words before after Device
+    ⊎ ((fetched : Fetched) × GetsAsked words (Ok fetched))))
+GetsSo words before after Memory = after ≡ before
 
 -- How `h2 get` ends.
 -- rule: engines (own) serve, get and loop have their words
 abbrev pub EndsGet : (words : List (List ℕ)) → (before after : Option (List ℕ)) → Status → Type 0
 EndsGet words before after status =
-    ((url : List ℕ) × (url_of words ≡ Some url) × GetsSo url before after status)
+    ((asked : GetWords) × (get_words_of words ≡ Some asked) × GetsSo asked before after status)
     ⊎ EndsByWords (get_faults words) before after status
 
 -- The exchange has ended early, with an error of this status, and nothing was printed.

@@ -62,15 +62,31 @@ fn give_hint<E: Write>(hint: Option<FollowHint>, err: &mut E) {
         Some(FollowHint::Capture) => write_hint(Some(Hint::Capture), err),
         Some(FollowHint::BadLine(number)) => writeln!(
             err,
-            "hint: line {number} is not of the text that tshark -q -z follow prints"
+            "hint: line {number} is not of the text that tshark -q -z follow,tcp,raw,N prints"
+        ),
+        Some(FollowHint::NoOctets) => writeln!(
+            err,
+            "hint: the text has no octets: has tshark found the connection, and its TLS keys?"
+        ),
+        Some(FollowHint::LostSegment(number)) => writeln!(
+            err,
+            "hint: line {number}: octets are missing in the capture"
+        ),
+        Some(FollowHint::Http1) => writeln!(
+            err,
+            "hint: the connection begins with HTTP/1.1, and --follow reads HTTP/2 alone"
         ),
         Some(FollowHint::NoPreface) => writeln!(
             err,
             "hint: no side begins with a client's preface: the capture may begin later"
         ),
+        Some(FollowHint::LongFrame) => writeln!(
+            err,
+            "hint: a frame is longer than the limit: --max-frame 1048576 takes longer frames"
+        ),
         Some(FollowHint::Fault) => writeln!(
             err,
-            "hint: a capture that begins later, or lost a segment, shows itself as a fault"
+            "hint: the capture may be at fault: has it all segments, from the connection's first?"
         ),
     };
 }

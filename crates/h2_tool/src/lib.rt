@@ -6,12 +6,15 @@
 #![tactic(auto)]
 
 mod follow;
+mod get;
+mod messages;
 mod program;
 mod replay;
 mod show;
 mod sockets;
 
+pub use get::cmd_get;
 pub use program::{no_words, run};
 pub use replay::cmd_replay;
 pub use show::cmd_show;
-pub use sockets::{cmd_get, cmd_loop, cmd_serve};
+pub use sockets::{cmd_loop, cmd_serve};

@@ -6,9 +6,10 @@ ghost use Rattle.h2_cli.specs.Status.{failure_status};
 ghost use Rattle.h2_tool.specs.Commands.{AnswersWords, EndsShow, EndsReplay, EndsServe, EndsGet};
 ghost use Rattle.h2_tool.specs.Commands.{EndsLoop, EndsProgram, NamesNoCommand, NamesNoReader};
 
+use crate::get::cmd_get;
 use crate::replay::cmd_replay;
 use crate::show::cmd_show;
-use crate::sockets::{cmd_get, cmd_loop, cmd_serve};
+use crate::sockets::{cmd_loop, cmd_serve};
 use clap::Error;
 use clap::error::ErrorKind;
 use h2_args::no_command;

@@ -3,8 +3,9 @@
 ghost use Rattle.std.specs.Prelude.{map, string_bytes};
 ghost use Rattle.h2_tool.specs.Commands.{EndsReplay};
 
+use crate::messages::cmd_messages;
 use crate::program::{answer, end_input};
-use h2_args::replay_args;
+use h2_args::{asks_messages, replay_args};
 use h2_cli::Status;
 use h2_events::replay_input;
 use std::alloc::Global;
@@ -23,7 +24,9 @@ use std::io::{Read, Write};
 /// was read.
 ///
 /// The status is that of [`replay_input`] under the options that the words give; for help it is
-/// [`Status::Good`] with nothing read, and for wrong words [`Status::Usage`].
+/// [`Status::Good`] with nothing read, and for wrong words [`Status::Usage`]. With `--messages` the
+/// input is handed to a client or a server of messages, and the status is that of
+/// [`h2_messages::messages_input`].
 pub fn cmd_replay<R: Read, W: Write, E: Write>(
     alloc: Global,
     words: &[String],
@@ -34,6 +37,9 @@ pub fn cmd_replay<R: Read, W: Write, E: Write>(
     ensures { EndsReplay (map string_bytes words.now) (R.remaining input.old)
         (R.remaining input.new) (W.contents out.old) (W.contents out.new) result }
 {
+    if asks_messages(words) {
+        return cmd_messages(alloc, words, input, out, err);
+    }
     let options = match replay_args(alloc, words) {
         Ok(options) => options,
         Err(error) => return answer(&error, out, err),

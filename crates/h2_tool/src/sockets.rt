@@ -1,18 +1,14 @@
-//! The commands over sockets: `h2 serve`, `h2 get` and `h2 loop`.
+//! The commands `h2 serve` and `h2 loop`.
 
-ghost use Rattle.std.specs.Prelude.{◌≡◌, Ok, Err, MatchResult, map, string_bytes};
-ghost use Rattle.h2_net.specs.declared.location.TargetFault.TheVariants.{Memory};
+ghost use Rattle.std.specs.Prelude.{◌≡◌, MatchResult, map, string_bytes};
 ghost use Rattle.h2_cli.specs.declared.status.Status.TheVariants.{Good};
-ghost use Rattle.h2_net.specs.Endings.{status_with, without_hint};
-ghost use Rattle.h2_tool.specs.Commands.{EndsServe, EndsWithFetch, EndsGet, EndsLoop, RefusesUrl};
+ghost use Rattle.h2_net.specs.Endings.{status_with};
+ghost use Rattle.h2_tool.specs.Commands.{EndsServe, EndsLoop};
 
-use crate::program::{answer, give_up};
-use h2_args::{get_args, loop_args, serve_args};
-use h2_cli::{Failure, Status};
-use h2_net::{
-    Ending, Fetched, LinkError, TargetFault, exchange, get_location, print_exchange,
-    print_response, report, serve_port, target,
-};
+use crate::program::answer;
+use h2_args::{loop_args, serve_args};
+use h2_cli::Status;
+use h2_net::{Ending, LinkError, exchange, print_exchange, report, serve_port};
 use std::alloc::Global;
 use std::io::Write;
 use std::net::Net;
@@ -41,35 +37,6 @@ pub fn cmd_serve<N: Net, W: Write, E: Write>(
     }
 }
 
-/// Runs `h2 get` with the words after `get`: fetches a URL, and prints the status with its phrase,
-/// and the body. A fetch that fails has a line on standard error, and a hint where the cause is
-/// known.
-///
-/// The status is [`Status::Good`] for a response that has come, whatever its own status is, and for
-/// help; [`Status::Usage`] for wrong words and a URL that can't be fetched; and else that of
-/// [`h2_net::status_of`].
-pub fn cmd_get<N: Net, W: Write, E: Write>(
-    net: &N,
-    alloc: Global,
-    words: &[String],
-    out: &mut W,
-    err: &mut E,
-) -> Status
-    ensures { EndsGet (map string_bytes words.now) (W.contents out.old) (W.contents out.new)
-        result }
-{
-    let url = match get_args(alloc, words) {
-        Ok(url) => url,
-        Err(error) => return answer(&error, out, err),
-    };
-    let target = match target(alloc, url.as_bytes()) {
-        Ok(target) => target,
-        Err(fault) => return refuse_url(fault, err),
-    };
-    let got = get_location(net, alloc, &target);
-    end_get(got, out, err)
-}
-
 /// Runs `h2 loop` with the words after `loop`: posts octets from a client to a server, both in this
 /// process, over one TCP connection, and prints how many were sent and how many came back.
 ///
@@ -92,30 +59,6 @@ pub fn cmd_loop<N: Net, W: Write, E: Write>(
     match exchange(net, alloc, count) {
         Ok(fetched) => status_of_end(print_exchange(count, &fetched, out), err),
         Err(error) => report(Ending { error, hint: None }, err),
-    }
-}
-
-// rule: engines (own) N1 to N7 end a command with their statuses
-// Prints the response that was fetched; or how the fetch has ended early, on standard error.
-fn end_get<W: Write, E: Write>(got: Result<Fetched, Ending>, out: &mut W, err: &mut E) -> Status
-    ensures { EndsWithFetch (without_hint got) (W.contents out.old) (W.contents out.new) result }
-{
-    match got {
-        Ok(fetched) => status_of_end(print_response(&fetched, out), err),
-        Err(ending) => report(ending, err),
-    }
-}
-
-// Prints on standard error why a URL can't be fetched.
-fn refuse_url<E: Write>(fault: TargetFault, err: &mut E) -> Status
-    ensures { RefusesUrl fault result }
-{
-    if fault == TargetFault::Memory {
-        return give_up(Failure::Memory, err);
-    }
-    match writeln!(err, "error: {fault}") {
-        Ok(()) => Status::Usage,
-        Err(_) => Status::Device,
     }
 }
 

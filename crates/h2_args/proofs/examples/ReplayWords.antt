@@ -2,8 +2,9 @@
 use Rattle.h2_args.proofs.Names.{◌≡◌, [], ◌∷◌, true, false, codes, refl, Some, ArgumentConflict}
 use Rattle.h2_args.proofs.Names.{DisplayHelp, UnknownArgument, sides, replay_faults}
 use Rattle.clap.proofs.OnLiterals.{clap_on_literals}
+use Rattle.clap.specs.declared.error.kind.ErrorKind.TheVariants.{InvalidValue}
 use Rattle.h2_spec_log.specs.declared.role.Role.TheVariants.{Client, Server}
-use Rattle.h2_args.specs.Words.{replay_options_of}
+use Rattle.h2_args.specs.Words.{asks_messages, replay_options_of}
 
 no_words : replay_options_of sides [] ≡ Some (record { hex = false; role = Server })
 unfolding clap_on_literals
@@ -19,6 +20,20 @@ as_server : replay_options_of sides (codes "--as" ∷ codes "server" ∷ [])
     ≡ Some (record { hex = false; role = Server })
 unfolding clap_on_literals
 as_server = refl
+
+-- rule (best): messages (own) The word --messages has the rules of messages checked
+with_messages : replay_options_of sides (codes "--messages" ∷ codes "--as=client" ∷ [])
+    ≡ Some (record { hex = false; role = Client })
+unfolding clap_on_literals
+with_messages = refl
+
+asked_messages : asks_messages (codes "--as=client" ∷ codes "--messages" ∷ []) ≡ true
+asked_messages = refl
+
+-- no value of an option is the word
+word_as_side : replay_faults sides (codes "--as" ∷ codes "--messages" ∷ []) ≡ InvalidValue ∷ []
+unfolding clap_on_literals
+word_as_side = refl
 
 side_twice : replay_faults sides (codes "--as=client" ∷ codes "--as=client" ∷ [])
     ≡ ArgumentConflict ∷ []

@@ -1,9 +1,8 @@
--- Words after `serve`, `get` and `loop`, written out.
+-- Words after `serve` and `loop`, written out.
 use Rattle.h2_args.proofs.Names.{◌≡◌, [], ◌∷◌, codes, refl, Some, UnknownArgument, ValueValidation}
 use Rattle.clap.proofs.OnLiterals.{clap_on_literals}
 use Rattle.clap.specs.declared.error.kind.ErrorKind.TheVariants.{MissingRequiredArgument}
-use Rattle.h2_args.specs.Words.{get_faults, loop_faults, octets_asked, serve_faults}
-use Rattle.h2_args.specs.Words.{serve_options_of, url_of}
+use Rattle.h2_args.specs.Words.{loop_faults, octets_asked, serve_faults, serve_options_of}
 
 -- rule: engines (own) serve, get and loop have their words
 port_and_count : serve_options_of (codes "9001" ∷ codes "2" ∷ [])
@@ -31,14 +30,6 @@ no_count = refl
 one_word_too_many : serve_faults (codes "1" ∷ codes "2" ∷ codes "3" ∷ []) ≡ UnknownArgument ∷ []
 unfolding clap_on_literals
 one_word_too_many = refl
-
-url : url_of (codes "http://h:1/a" ∷ []) ≡ Some (codes "http://h:1/a")
-unfolding clap_on_literals
-url = refl
-
-no_url : get_faults [] ≡ MissingRequiredArgument ∷ []
-unfolding clap_on_literals
-no_url = refl
 
 no_octets : octets_asked (codes "0" ∷ []) ≡ Some 0
 unfolding clap_on_literals

@@ -80,7 +80,7 @@ fn responses_are_printed(rt: HostRuntime) -> Result<(), Fail> {
 
 /// What a server of the default configuration writes for GET of `/`: SETTINGS, the acknowledgment
 /// of the client's, HEADERS with `:status` 200 and `content-length` 6, and DATA.
-const RESPONSE: &[u8] = b"\
+pub(super) const RESPONSE: &[u8] = b"\
     \x00\x00\x18\x04\x00\x00\x00\x00\x00\
     \x00\x01\x00\x00\x10\x00\x00\x03\x00\x00\x00\x64\
     \x00\x04\x00\x00\xff\xff\x00\x06\x00\x01\x00\x00\

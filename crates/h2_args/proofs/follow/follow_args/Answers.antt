@@ -1,7 +1,6 @@
-use Rattle.h2_args.proofs.Names.{◌≡◌, ◌∙◌, ℕ, IfErr, map, string_bytes, refl, ap, sym, rules, Some}
+use Rattle.h2_args.proofs.Names.{◌≡◌, ◌∙◌, ℕ, refl, ap, sym, Some}
 use Rattle.h2_args.proofs.Names.{arith, codes, ExplainsUnsignedError, HasUnsignedDigitsIfOk}
 use Rattle.h2_args.proofs.Names.{ParsesUnsigned, found_of, rows_of, follow_app}
-use Rattle.h2_follow.specs.declared.follow.FollowOptions.{FollowOptions}
 use Rattle.h2_args.specs.Words.{follow_options_in}
 use Rattle.h2_args.proofs.CommandLemmas.{follow_is_alone, follow_names_limit}
 use Rattle.h2_args.proofs.GivenLemmas.{given_by-Ok}

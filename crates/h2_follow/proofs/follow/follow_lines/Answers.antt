@@ -2,8 +2,8 @@
 use Rattle.h2_follow.proofs.Names.{[], ◌∷◌, ◌++◌, ◌+◌, ap, arith, refl, Err}
 use Rattle.std.proofs.KnownBytes.{Appends-nil}
 use Rattle.h2_follow.specs.FollowText.{pieces_read}
-use Rattle.h2_follow.proofs.LinesLemmas.{none_read, read_none, reads_next, bad_read, counted_next}
-use Rattle.h2_follow.proofs.FollowLemmas.{ended_told, texts_append}
+use Rattle.h2_follow.proofs.LinesLemmas.{none_read, read_none, reads_next, counted_next}
+use Rattle.h2_follow.proofs.FollowLemmas.{ended_told, refused_told, texts_append}
 use Rattle.h2_follow.proofs.follow.follow_lines.Goals as goal
 
 pub loop-count-init : goal.loop-count-init
@@ -28,9 +28,9 @@ returns-then-branch-eq0-clause-follows g c =
 pub returns-in-Err-BadHex-clause-bad_line : goal.returns-in-Err-BadHex-clause-bad_line
 returns-in-Err-BadHex-clause-bad_line g c = λ bad.
     let (lines, pieces, texts, counted, reads, read, written, shows) = c.loop-count.invariant in
-    bad_read (g.B.Read.remaining c.args.input.now) (g.B.Read.remaining c.read_until.new.self) lines
-    c.read_until.new.buf.items c.loop-count.part pieces (c.loop-count.count + 1)
-    c.bad_line.result.hint
+    refused_told (g.B.Read.remaining c.args.input.now) (g.B.Read.remaining c.read_until.new.self) _
+    _ c.args.follower.now c.loop-count.follower lines c.read_until.new.buf.items pieces texts
+    c.loop-count.part (c.loop-count.count + 1) c.bad_line.result.hint
     (reads_next _ _ _ lines c.clear.new.self.items c.read_until.new.buf.items reads
     c.clear.ensures.items c.in_ok-read_until.ensures.bytes c.in_ok-read_until.ensures.rest
     (λ none. c.if-branch-eq0.false (omega (
@@ -40,8 +40,9 @@ returns-in-Err-BadHex-clause-bad_line g c = λ bad.
       c.clear.ensures.len,
       none,
     ))))
-    read (rw c.deref.ensures.value at (c.in-Err-BadHex.ensures.err
-    (ap Err c.in-Err-BadHex.field-0-is))) (ap (λ number. number + 1) counted) c.bad_line.ensures
+    read written shows (rw c.deref.ensures.value at (c.in-Err-BadHex.ensures.err
+    (ap Err c.in-Err-BadHex.field-0-is))) (ap (λ number. number + 1) counted)
+    (rw c.deref-in-Err-BadHex.ensures.value at c.bad_line.ensures)
 
 pub loop-count-preserved : goal.loop-count-preserved
 loop-count-preserved g c =

@@ -12,6 +12,7 @@ pub returns : goal.returns
 returns c = record {
   ok = λ lines pieces read. read_piece c.args.part lines pieces c.args.line.now
       c.node_of-node.result c.in_ok-octets.octets.items c.in_default.not-Last
-      (sym c.passes.ensures ∙ c.if-passes.false) c.node_of-node.ensures c.in_ok-octets.ensures read;
+      (sym c.passes.ensures ∙ c.if-passes.false)
+      (sym c.starts_with.ensures.value ∙ c.if-starts_with.false) c.node_of-node.ensures c.in_ok-octets.ensures read;
   err = λ is. absurd (cc);
 }

@@ -1,29 +1,26 @@
--- A link that is not made ends the fetch, without a hint.
-use Rattle.std.proofs.Common.{◌≡◌, ◌⊎◌, [], Err, None, inl, inr, refl, ap}
-use Rattle.std.proofs.lemmas.Result.{err_from_is_err_and}
+-- A location is fetched with the request that asks for it.
+use Rattle.std.proofs.Common.{◌≡◌, Result, inl, inr, subst}
+use Rattle.h2_message.specs.Messages.{SentMessage}
+use Rattle.h2_message.specs.Values.{message_value}
 use Rattle.h2_link.specs.declared.error.LinkError.{LinkError}
-use Rattle.h2_link.specs.declared.error.LinkError.TheVariants as errors
+use Rattle.h2_engines.specs.declared.fetcher.Fetched.{Fetched}
+use Rattle.h2_engines.specs.Fetches.{Fetches}
 use Rattle.h2_net.specs.declared.location.Location.{Location}
-use Rattle.h2_net.specs.Fetching.{GetsLocation}
-use Rattle.h2_net.specs.Endings.{HasClientHint}
+use Rattle.h2_net.specs.Endings.{without_hint}
+use Rattle.h2_net.specs.Fetching.{FetchesRequest, GetsLocation, default_values, get_request}
 use Rattle.h2_net.proofs.get.get_location.Goals as goal
 
-no_link_gets : (location : Location) (error : LinkError)
-    → (error ≡ errors.Device) ⊎ (error ≡ errors.Memory) → GetsLocation location (Err error)
-no_link_gets location error (inl device) = inl (ap Err device)
-no_link_gets location error (inr memory) = inr (inl (ap Err memory))
+gets : (location : Location) (message : SentMessage) (result : Result Fetched LinkError)
+    → message ≡ get_request location → FetchesRequest message result → GetsLocation location result
+gets location message result same (inl device) = inl device
+gets location message result same (inr (inl memory)) = inr (inl memory)
+gets location message result same (inr (inr over)) = inr (inr (
+  over.0,
+  over.1,
+  inl (subst (λ (one : SentMessage). Fetches default_values one over.0 over.1 result) same over.2),
+))
 
-no_link_hints : (error : LinkError) → (error ≡ errors.Device) ⊎ (error ≡ errors.Memory)
-    → HasClientHint (record { error = error; hint = None })
-no_link_hints error (inl device) = rw device (inl ([], None, refl))
-no_link_hints error (inr memory) = rw memory (inl ([], None, refl))
-
-pub returns-in_err-link-clause-gets : goal.returns-in_err-link-clause-gets
-returns-in_err-link-clause-gets g c =
-    let answer = err_from_is_err_and c.from_residual.result c.from_residual.ensures.1 in
-    rw (answer.1, answer.2) (no_link_gets c.args.location.now _ c.in_err-link.ensures.err)
-
-pub returns-in_err-link-clause-hint : goal.returns-in_err-link-clause-hint
-returns-in_err-link-clause-hint g c =
-    let answer = err_from_is_err_and c.from_residual.result c.from_residual.ensures.1 in
-    rw (answer.1, answer.2) (no_link_hints _ c.in_err-link.ensures.err)
+pub returns-clause-gets : goal.returns-clause-gets
+returns-clause-gets g c =
+    gets c.args.location.now (message_value c.in-Ok.message) (without_hint c.fetch_location.result)
+    c.in-Ok.ensures c.fetch_location.ensures.fetches

@@ -1,9 +1,24 @@
--- Words that begin with `get` or `loop` are that command's; words without a command have a fault.
+-- Words that begin with `show`, `replay`, `get` or `loop` are that command's; words without a command
+-- have a fault.
 use Rattle.std.proofs.Common.{◌≡◌, ℕ, List, map, string_bytes, subst, rules}
-use Rattle.h2_tool.specs.Commands.{EndsGet, EndsLoop}
+use Rattle.h2_tool.specs.Commands.{EndsGet, EndsLoop, EndsReplay, EndsShow}
 use Rattle.h2_tool.proofs.ProgramLemmas.{never_pass}
 use Rattle.h2_tool.proofs.WordLemmas.{program_fails}
 use Rattle.h2_tool.proofs.program.run.Goals as goal
+
+pub returns-in-show-clause-show : goal.returns-in-show-clause-show
+returns-in-show-clause-show g c = λ others same.
+    let following : map string_bytes c.in-Some.others.now ≡ others = search rules in
+    subst (λ (words : List (List ℕ)). EndsShow words (g.R.Read.remaining c.args.input.now)
+    (g.R.Read.remaining c.cmd_show.new.input) (g.W.Write.contents c.args.out.now)
+    (g.W.Write.contents c.cmd_show.new.out) c.cmd_show.result) following c.cmd_show.ensures
+
+pub returns-in-replay-clause-replay : goal.returns-in-replay-clause-replay
+returns-in-replay-clause-replay g c = λ others same.
+    let following : map string_bytes c.in-Some.others.now ≡ others = search rules in
+    subst (λ (words : List (List ℕ)). EndsReplay words (g.R.Read.remaining c.args.input.now)
+    (g.R.Read.remaining c.cmd_replay.new.input) (g.W.Write.contents c.args.out.now)
+    (g.W.Write.contents c.cmd_replay.new.out) c.cmd_replay.result) following c.cmd_replay.ensures
 
 pub returns-in-get-clause-get : goal.returns-in-get-clause-get
 returns-in-get-clause-get g c = λ others same.

@@ -1,0 +1,154 @@
+//! An encoder and a decoder of field blocks (HPACK, RFC 7541).
+
+use crate::error::check;
+use crate::{ffi, Error, Field, Fields};
+use std::fmt;
+use std::ptr;
+
+/// Encodes the field blocks of one direction of a connection, in order. An end has its own; this is
+/// for whoever frames by itself.
+///
+/// ```
+/// use belkjoef::{Decoder, Encoder, Field};
+///
+/// let mut encoder = Encoder::new(4096)?;
+/// let mut decoder = Decoder::new(4096)?;
+/// let list = [Field::new(":status", "200"), Field::new("server", "here")];
+/// let block = encoder.encode(&list)?;
+/// assert!(decoder.decode(block, 65_536)?.iter().eq(list));
+/// # Ok::<(), belkjoef::Error>(())
+/// ```
+pub struct Encoder {
+    place: ffi::End,
+}
+
+// SAFETY: what the place holds is owned, and used through `&mut` alone.
+unsafe impl Send for Encoder {}
+
+impl Drop for Encoder {
+    fn drop(&mut self) {
+        // SAFETY: the place is as the library has left it.
+        unsafe { ffi::bj_encoder_free(&mut self.place) };
+    }
+}
+
+impl fmt::Debug for Encoder {
+    fn fmt(&self, f: &mut fmt::Formatter<'_>) -> fmt::Result {
+        f.debug_struct("Encoder").finish_non_exhaustive()
+    }
+}
+
+impl Encoder {
+    /// Makes an encoder with an empty table, whose maximum and limit are so many octets: 4,096 for a
+    /// connection that begins.
+    ///
+    /// # Errors
+    ///
+    /// `Memory`.
+    pub fn new(maximum: u32) -> Result<Encoder, Error> {
+        let mut place = ffi::End { at: ptr::null_mut(), state: 0 };
+        // SAFETY: the place is all zero.
+        check(unsafe { ffi::bj_encoder_new(maximum, &mut place) })?;
+        Ok(Encoder { place })
+    }
+
+    /// Sets the limit of the peer's table (SETTINGS_HEADER_TABLE_SIZE); the next block says what has
+    /// changed. That block takes room for `limit / 32` entries, so cap what a peer asks for.
+    pub fn set_limit(&mut self, limit: u32) {
+        // SAFETY: the place is as the library has left it.
+        unsafe { ffi::bj_encoder_set_limit(&mut self.place, limit) };
+    }
+
+    /// Makes the block of fields, and lends it. The decoder is to be given each block, in order:
+    /// the next one builds on it.
+    ///
+    /// ```compile_fail,E0499
+    /// # use belkjoef::{Encoder, Field};
+    /// # let mut encoder = Encoder::new(4096).unwrap();
+    /// let first = encoder.encode(&[Field::new("a", "1")]).unwrap();
+    /// let second = encoder.encode(&[Field::new("a", "2")]).unwrap();
+    /// println!("{first:?} {second:?}");
+    /// ```
+    ///
+    /// # Errors
+    ///
+    /// `ListTooLarge`: the fields have 2^35 octets or more. `Memory`. The encoder is as it was.
+    pub fn encode(&mut self, fields: &[Field<'_>]) -> Result<&[u8], Error> {
+        let mut block = ffi::Span { octets: ptr::null(), length: 0 };
+        // SAFETY: the pointers are of the place, of so many fields and of a span. What it lends is
+        // good until the next call of the encoder, which is borrowed until then.
+        unsafe {
+            let (at, count) = (fields.as_ptr(), fields.len());
+            check(ffi::bj_encode(&mut self.place, at, count, &mut block))?;
+            Ok(ffi::lent(block.octets, block.length))
+        }
+    }
+}
+
+/// Decodes the field blocks of one direction of a connection, in order: see [`Encoder`].
+pub struct Decoder {
+    place: ffi::End,
+    /// Room for the fields that are lent; they are used only while it lends them.
+    fields: Vec<Field<'static>>,
+}
+
+// SAFETY: as of an encoder; the fields are used by a borrower of the decoder alone.
+unsafe impl Send for Decoder {}
+
+impl Drop for Decoder {
+    fn drop(&mut self) {
+        // SAFETY: the place is as the library has left it.
+        unsafe { ffi::bj_decoder_free(&mut self.place) };
+    }
+}
+
+impl fmt::Debug for Decoder {
+    fn fmt(&self, f: &mut fmt::Formatter<'_>) -> fmt::Result {
+        f.debug_struct("Decoder").finish_non_exhaustive()
+    }
+}
+
+impl Decoder {
+    /// Makes a decoder with an empty table, whose maximum and limit are so many octets: 4,096 for a
+    /// connection that begins.
+    ///
+    /// # Errors
+    ///
+    /// `Memory`.
+    pub fn new(maximum: u32) -> Result<Decoder, Error> {
+        let mut place = ffi::End { at: ptr::null_mut(), state: 0 };
+        // SAFETY: the place is all zero.
+        check(unsafe { ffi::bj_decoder_new(maximum, &mut place) })?;
+        Ok(Decoder { place, fields: Vec::new() })
+    }
+
+    /// Sets the limit of the table, for the size updates of later blocks: once the peer has
+    /// acknowledged the SETTINGS that say it.
+    pub fn set_limit(&mut self, limit: u32) {
+        // SAFETY: the place is as the library has left it.
+        unsafe { ffi::bj_decoder_set_limit(&mut self.place, limit) };
+    }
+
+    /// Decodes a complete block, and lends its fields.
+    ///
+    /// # Errors
+    ///
+    /// `DecoderFailed`: an earlier block failed. `Compression`: the octets are no block. `Memory`.
+    /// After these two the decoder has failed. `ListTooLarge`: the fields have more than
+    /// `list_limit` octets, each counting 32 more; the next block can be decoded.
+    pub fn decode(&mut self, block: &[u8], list_limit: u32) -> Result<Fields<'_>, Error> {
+        let (mut count, mut said) = (0, 0);
+        // SAFETY: the pointers are of the place, of so many octets and of a number.
+        check(unsafe {
+            let (at, length) = (block.as_ptr(), block.len());
+            ffi::bj_decode(&mut self.place, at, length, list_limit, &mut count)
+        })?;
+        self.fields.resize(count, Field::new("", ""));
+        let at = self.fields.as_mut_ptr();
+        // SAFETY: the pointers are of the place, of so many fields and of a number. What they lend
+        // is good until the next call of the decoder, which is borrowed until then.
+        unsafe { ffi::bj_decoded(&mut self.place, 0, at, count, &mut said) };
+        self.fields.truncate(said);
+        Ok(Fields::new(&self.fields))
+    }
+}

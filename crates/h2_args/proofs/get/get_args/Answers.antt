@@ -1,0 +1,104 @@
+-- What the getters read is what the words ask for.
+use Rattle.h2_args.proofs.Names.{◌≡◌, ◌∙◌, ◌≤◌, ℕ, [], List, Option, refl, ap, sym, codes, true}
+use Rattle.h2_args.proofs.Names.{is_some, false, Some, None, unwrap_or, arith, Text, first_of}
+use Rattle.h2_args.proofs.Names.{found_of, rows_of}
+use Rattle.h2_args.proofs.Names.{first_value-rows, get_app, required_rule, ExplainsUnsignedError}
+use Rattle.h2_args.proofs.Names.{HasUnsignedDigitsIfOk, ParsesUnsigned, App, HasKind, fault_of}
+use Rattle.h2_args.proofs.Names.{is_simple_and_free, map, string_bytes, subst}
+use Rattle.std.proofs.lemmas.Result.{err_from_is_err_and}
+use Rattle.std.specs.Prelude.{Bool, IfSome}
+use Rattle.h2_args.specs.Words.{GetWords, get_faults, get_words_in}
+use Rattle.h2_args.proofs.CommandLemmas.{get_is_alone, get_names_port, get_wants_url}
+use Rattle.h2_args.proofs.GivenLemmas.{given_by-Ok}
+use Rattle.h2_args.proofs.NumberOptionLemmas.{GivesNumberIf, option_number_if}
+use Rattle.h2_args.proofs.RequiredLemmas.{required_value}
+use Rattle.h2_args.proofs.get.get_args.Goals.{After-get_one}
+use Rattle.h2_args.proofs.get.get_args.Goals as goal
+
+pub unreachable-requires : goal.unreachable-requires
+unreachable-requires c =
+    let m = c.in_ok-matches.matches in
+    let some : is_some (first_of (codes "URL") (rows_of (found_of m))) ≡ true =
+    required_value get_app c.in_ok-command.command c.in_ok-command.ensures get_is_alone m
+    c.in_ok-matches.ensures.parsed 0 (required_rule (codes "URL")) get_wants_url in
+    let none : first_of (codes "URL") (rows_of (found_of m)) ≡ None =
+    sym (first_value-rows (found_of m) (codes "URL")) ∙ sym c.in_default.ensures in
+    let bad : false ≡ true = ap (λ (o : Option Text). is_some o) (sym none) ∙ some in
+    cc
+
+-- words that ask for equal things are equal
+same_words : {url url_now : Text} {include include_now : Bool} {fields fields_now : List Text}
+    {method method_now body body_now : Option Text} {fail fail_now : Bool}
+    {port port_now : Option ℕ} → url ≡ url_now → include ≡ include_now → fields ≡ fields_now
+    → method ≡ method_now → body ≡ body_now → fail ≡ fail_now → port ≡ port_now
+    → ◌≡◌ {A = GetWords} (record {
+      url = url;
+      include = include;
+      fields = fields;
+      method = method;
+      body = body;
+      fail = fail;
+      port = port;
+    }) (record {
+      url = url_now;
+      include = include_now;
+      fields = fields_now;
+      method = method_now;
+      body = body_now;
+      fail = fail_now;
+      port = port_now;
+    })
+same_words a b c d e f g = λ i. record {
+  url = a i;
+  include = b i;
+  fields = c i;
+  method = d i;
+  body = e i;
+  fail = f i;
+  port = g i;
+}
+
+-- the port is the number that is given, if one is
+port_of : (c : After-get_one)
+    → GivesNumberIf c.get_one.result 1 65535 (codes "port")
+    (rows_of (found_of c.in_ok-matches.matches))
+port_of c = option_number_if get_app c.in_ok-command.command c.in_ok-command.ensures get_is_alone
+    c.in_ok-matches.matches c.in_ok-matches.ensures.parsed 6 (codes "port") 1 65535 get_names_port _
+    (λ bs r. ParsesUnsigned 16 10 bs r × ExplainsUnsignedError 10 bs r × HasUnsignedDigitsIfOk bs r)
+    16 c.get_one.result c.get_one.ensures.none c.get_one.ensures.value (λ u x gives. gives.0)
+    (omega arith) (omega arith)
+
+pub returns-clause-port : goal.returns-clause-port
+returns-clause-port c =
+    let given = port_of (goal.at.returns-clause-port c).After-get_one in
+    within c.get_one.result given.low given.high
+  where
+    within : (r : Option ℕ) → IfSome r (λ number. 1 ≤ number) → IfSome r (λ number. number ≤ 65535)
+        → IfSome r (λ number. (1 ≤ number) × (number ≤ 65535))
+    within None low high = tt
+    within (Some number) low high = (low, high)
+
+pub returns-clause-ok : goal.returns-clause-ok
+returns-clause-ok c =
+    let found = found_of c.in_ok-matches.matches in
+    let given = port_of (goal.at.returns-clause-ok c).After-get_one in
+    let url : unwrap_or (first_of (codes "URL") (rows_of found)) [] ≡ c.in-Some.url.now =
+    ap (λ (o : Option Text). unwrap_or o [])
+    (sym (first_value-rows found (codes "URL")) ∙ sym c.in-Some.ensures) in
+    let method = sym (first_value-rows found (codes "request")) ∙ sym c.get_str-2.ensures in
+    let body = sym (first_value-rows found (codes "data")) ∙ sym c.get_str-3.ensures in
+    given_by-Ok get_app get_words_in _ c.in_ok-command.command c.in_ok-matches.matches
+    c.in_ok-command.ensures refl refl c.in_ok-matches.ensures.matches
+    c.in_ok-matches.ensures.kinds ∙ ap Some (same_words url (sym c.is_set.ensures)
+    (sym c.in_ok-fields.ensures) method body (sym c.is_set-2.ensures) (sym given.read))
+
+pub returns-in_err-matches-clause-err : goal.returns-in_err-matches-clause-err
+returns-in_err-matches-clause-err c =
+    let words = map string_bytes c.args.words.now in
+    let is = c.in_ok-command.ensures in
+    let kinds = c.in_err-matches.ensures.kinds (ap is_simple_and_free is) in
+    let faults : HasKind (get_faults words) c.in_err-matches.field-0.0 =
+    subst (λ (a : App). HasKind (fault_of a words) c.in_err-matches.field-0.0) is kinds in
+    let answer = err_from_is_err_and c.from_residual-in_err-matches.result
+    c.from_residual-in_err-matches.ensures.1 in
+    rw (answer.1, answer.2) faults

@@ -1,0 +1,249 @@
+//! The options of `get`.
+
+ghost use Rattle.std.specs.Prelude.{◌≡◌, ◌≤◌, IfErr, IfOk, IfSome, codes, false, map, pos, Some};
+ghost use Rattle.std.specs.Prelude.{[], string_bytes, unwrap_or};
+ghost use Rattle.clap.specs.Words.{HasKind, all_of, app_of, found_of, rows_of, rule_of};
+ghost use Rattle.h2_args.specs.Commands.{flag_rule, get_app, header_rule, include_rule};
+ghost use Rattle.h2_args.specs.Commands.{number_option_rule, text_option_rule, url_and_print_app};
+ghost use Rattle.h2_args.specs.Words.{asked_by, get_faults, get_words_of};
+
+use crate::options::{CommandText, is_set, named_command};
+use crate::sockets::required_arg;
+use clap::builder::ValueParser;
+use clap::{Arg, ArgAction, ArgMatches, Command, Error, value_parser};
+use std::alloc::{AllocError, Global};
+
+/// The options of `get`.
+#[derive(Debug, Drop)]
+pub struct GetOptions<'a> {
+    /// The URL, which isn't read yet.
+    pub url: &'a str,
+    /// Whether the fields of the response are printed too.
+    pub include: bool,
+    /// The fields of the request, each as NAME:VALUE, which isn't read yet.
+    pub fields: Vec<&'a str>,
+    /// The method, where one is given.
+    pub method: Option<&'a str>,
+    /// The body of the request, where one is given.
+    pub body: Option<&'a str>,
+    /// Whether a response of status 400 or above is a failure.
+    pub fail: bool,
+    /// The port where the URL names none, from 1 to 65,535.
+    pub port: Option<u16>,
+}
+
+// contract: engines (own) serve, get and loop have their words
+// rule: engines (own) serve, get and loop have their words
+/// Reads the words after `get`.
+///
+/// # Errors
+///
+/// Those of [`crate::show_args`].
+pub fn get_args<'a>(alloc: Global, words: &'a [String]) -> Result<GetOptions<'a>, Error>
+    ensures ok { IfOk result (λ options.
+        get_words_of (map string_bytes words.entry.now) ≡ Some (asked_by options)) }
+    ensures port { IfOk result (λ options.
+        IfSome options.port (λ port. (1 ≤ port) × (port ≤ 65535))) }
+    ensures err { IfErr result (HasKind (get_faults (map string_bytes words.entry.now))) }
+{
+    let command = get_command(alloc)?;
+    let matches = command.try_get_matches_from(words)?;
+    // It is required.
+    let Some(url) = matches.get_str(URL) else {
+        unreachable!();
+    };
+    let fields = texts_of(alloc, &matches, HEADER)?;
+    Ok(GetOptions {
+        url,
+        include: is_set(&matches, INCLUDE),
+        fields,
+        method: matches.get_str(REQUEST),
+        body: matches.get_str(DATA),
+        fail: is_set(&matches, FAIL),
+        port: matches.get_one::<u16>(AT_PORT),
+    })
+}
+
+// The values of an option, of all its uses.
+fn texts_of<'a>(
+    alloc: Global,
+    matches: &ArgMatches<'a>,
+    option: &str,
+) -> Result<Vec<&'a str>, AllocError>
+    ensures { IfOk result (λ texts. map (λ text. text.now) texts.items
+        ≡ unwrap_or (all_of option.now (rows_of (found_of matches.now))) []) }
+{
+    match matches.get_strs(option) {
+        Some(texts) => Vec::from_slice(alloc, texts),
+        None => Ok(Vec::new(alloc)),
+    }
+}
+
+const URL: &str = "URL";
+
+const URL_HELP: &str = "http://HOST:PORT/PATH?QUERY";
+
+const INCLUDE: &str = "include";
+
+const INCLUDE_HELP: &str = r"Print the response's fields too: each on a line
+after the status, then an empty line; trailers
+after the body";
+
+const HEADER: &str = "header";
+
+const HEADER_HELP: &str = r"A field of the request, whose name is sent in lower
+case; may be given several times";
+
+const REQUEST: &str = "request";
+
+const REQUEST_HELP: &str = r"The request's method [default: GET, or POST with
+--data]";
+
+const DATA: &str = "data";
+
+const DATA_HELP: &str = r"The request's body, the octets as they are; it may
+not begin with @";
+
+const FAIL: &str = "fail";
+
+const FAIL_HELP: &str = r"End with status 1 where the response's status is
+400 or above, and don't print its body";
+
+const AT_PORT: &str = "port";
+
+const AT_PORT_HELP: &str = r"The port where the URL names none, 1 to 65535";
+
+/// What `get` prints, how it ends, and an example.
+const FETCHED_AND_STATUSES: &str =
+    r"It asks for the URL with GET over a new connection, which begins with the
+preface: the server has to speak HTTP/2 without being asked (RFC 9113, section
+3.3). It prints the status with its phrase, `200 OK`, or the status alone where
+it has no phrase, and then the octets of the body as they are. Interim responses
+(1xx) aren't printed, nor are trailers without --include. It follows no
+redirection and has no clocks: it waits for a server that stays idle.
+
+The URL has the scheme http, a host, and a port of 1 to 65535, unless --port
+names one; a user's name is refused, and a fragment is dropped.
+
+Fields are sent in the order of the words, after those that name the method and
+the URL. No other is added, so no content-length: the end of the stream ends the
+body. A space right after the colon is no part of the value. With --include an
+octet of a field that is no printable ASCII, or a backslash, is printed as
+`\x00`, so that a server writes nothing to the terminal by its fields. Trailers
+stand after the body and a line end.
+
+Exit status (the lines in backquotes are on standard error):
+  0  a response has come, whatever its status without --fail
+  1  `N2 Stream CODE`: the connection failed with this code (RFC 9113, section
+     7)
+     `N4 CutOff`: it ended before the response was complete
+     `N6 Reset CODE`: the request was reset with this code, or with 7, where it
+     was not processed
+     `error: status NUMBER`: with --fail, a response of 400 or above has come
+  2  wrong arguments, or a URL that can't be fetched
+     `N7 Refused`: the request breaks a rule, or its fields are too many
+  3  `N1 Device`: no connection can be made, or a read or a write failed
+     `N5 NoProgress`: a write took nothing
+  4  `N3 Memory`: out of memory
+
+A hint may follow that line. It is for people, and no status depends on it.
+
+Example, beside `h2 serve 9001 2`:
+  $ h2 get http://127.0.0.1:9001/a
+  200 OK
+  GET /a
+  $ h2 get -d hello --port 9001 http://127.0.0.1/a
+  200 OK
+  POST /a
+  hello";
+
+// A flag.
+fn flag_arg<'a>(alloc: Global, name: &'a str, help: &'a str) -> Arg<'a>
+    ensures rule { rule_of result ≡ flag_rule name.entry.now }
+    ensures local { result.global ≡ false }
+{
+    Arg::new(alloc, name)
+        .long(name)
+        .action(ArgAction::SetTrue)
+        .help(help)
+}
+
+// An option whose value is any text.
+fn text_arg<'a>(
+    alloc: Global,
+    name: &'a str,
+    letter: char,
+    value: &'a str,
+    help: &'a str,
+) -> Arg<'a>
+    ensures rule { rule_of result ≡ text_option_rule name.entry.now letter }
+    ensures local { result.global ≡ false }
+{
+    Arg::new(alloc, name)
+        .long(name)
+        .short(letter)
+        .value_name(value)
+        .help(help)
+}
+
+// The flag for the fields of the response.
+fn include_arg<'a>(alloc: Global) -> Arg<'a>
+    ensures rule { rule_of result ≡ include_rule }
+    ensures local { result.global ≡ false }
+{
+    flag_arg(alloc, INCLUDE, INCLUDE_HELP).short('i')
+}
+
+// The option of the fields of the request.
+fn header_arg<'a>(alloc: Global) -> Arg<'a>
+    ensures rule { rule_of result ≡ header_rule }
+    ensures local { result.global ≡ false }
+{
+    text_arg(alloc, HEADER, 'H', "NAME:VALUE", HEADER_HELP).action(ArgAction::Append)
+}
+
+// The ports.
+fn ports<'a>() -> ValueParser<'a>
+    ensures { result ≡ ValueParser.Signed (pos 1) (pos 65535) }
+{
+    value_parser!(u16).range(1..=65_535)
+}
+
+// The option of the port.
+fn port_arg<'a>(alloc: Global) -> Arg<'a>
+    ensures rule { rule_of result ≡ number_option_rule (codes "port") 1 65535 }
+    ensures local { result.global ≡ false }
+{
+    Arg::new(alloc, AT_PORT)
+        .long(AT_PORT)
+        .value_name("N")
+        .value_parser(ports())
+        .help(AT_PORT_HELP)
+}
+
+// The command with its first arguments.
+fn fetching_command<'a>(alloc: Global) -> Result<Command<'a>, AllocError>
+    ensures { IfOk result (λ command. app_of command ≡ url_and_print_app) }
+{
+    let text = CommandText {
+        called: "h2 get",
+        about: "Fetches a URL, and prints the status and the body",
+        usage: "h2 get [OPTIONS] URL",
+        more: FETCHED_AND_STATUSES,
+    };
+    named_command(alloc, "get", text)?
+        .arg(required_arg(alloc, URL, URL_HELP))?
+        .arg(include_arg(alloc))?
+        .arg(header_arg(alloc))
+}
+
+/// The command as clap has it.
+pub(super) fn get_command<'a>(alloc: Global) -> Result<Command<'a>, AllocError>
+    ensures { IfOk result (λ command. app_of command ≡ get_app) }
+{
+    fetching_command(alloc)?
+        .arg(text_arg(alloc, REQUEST, 'X', "METHOD", REQUEST_HELP))?
+        .arg(text_arg(alloc, DATA, 'd', "DATA", DATA_HELP))?
+        .arg(flag_arg(alloc, FAIL, FAIL_HELP))?
+        .arg(port_arg(alloc))
+}

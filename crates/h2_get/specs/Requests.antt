@@ -1,0 +1,92 @@
+-- The request that the words after `get` ask for.
+use Rattle.std.specs.Prelude.{◌≡◌, ℕ, ◌==◌, Bool, true, false, List, [], ◌∷◌, ◌++◌, map, position}
+use Rattle.std.specs.Prelude.{codes, unwrap_or, is_some, Option, Some, None, if◌then◌else◌}
+use Rattle.std.specs.List.{list_all, before_first, after_first}
+use Rattle.std.specs.Char.{to_ascii_lowercase}
+use Rattle.hpack.specs.declared.types.field.Field.{Field}
+use Rattle.h2_message.specs.Messages.{SentMessage, broken_by_request, plain_field}
+use Rattle.h2_net.specs.declared.location.Location.{Location}
+use Rattle.h2_net.specs.Fetching.{pseudo_fields_to}
+use Rattle.h2_args.specs.Words.{GetWords}
+use Rattle.h2_get.specs.declared.request.RequestFault.{RequestFault}
+use Rattle.h2_get.specs.declared.request.RequestFault.TheVariants as faults
+
+-- whether an octet is a colon
+abbrev pub is_colon : ℕ → Bool
+is_colon octet = octet == 58
+
+-- whether a word is NAME:VALUE: it has a colon
+-- rule: engines (own) The words of get make its request and say what is printed
+abbrev pub has_colon : (word : List ℕ) → Bool
+has_colon word = is_some (position is_colon word)
+
+-- octets without the space that they begin with, if they do
+-- rule: engines (own) The words of get make its request and say what is printed
+abbrev pub without_space : List ℕ → List ℕ
+without_space [] = []
+without_space (octet ∷ octets) = if octet == 32 then octets else octet ∷ octets
+
+-- The field of a word NAME:VALUE: its name is what precedes the first colon, in lower case
+-- (RFC 9113, section 8.2.1), and its value what follows, without a space right after the colon.
+-- rule: engines (own) The words of get make its request and say what is printed
+abbrev pub field_of_word : (word : List ℕ) → Field
+field_of_word word = plain_field (map to_ascii_lowercase (before_first is_colon word))
+    (without_space (after_first is_colon word))
+
+-- the method that the words name, or else POST where they give a body, and GET where they don't
+-- rule: engines (own) The words of get make its request and say what is printed
+abbrev pub method_asked : GetWords → List ℕ
+method_asked words =
+    unwrap_or words.method (if is_some words.body then codes "POST" else codes "GET")
+
+-- the body that the words give, which is empty where they give none
+-- rule: engines (own) The words of get make its request and say what is printed
+abbrev pub body_asked : GetWords → List ℕ
+body_asked words = unwrap_or words.body []
+
+-- The request for a location: the pseudo-fields (RFC 9113, section 8.3.1), the fields of the words
+-- in their order, and the body that they give. It has no other field, and no trailers.
+-- rule: engines (own) The words of get make its request and say what is printed
+abbrev pub request_asked : GetWords → Location → SentMessage
+request_asked words location = record {
+  head = pseudo_fields_to (method_asked words) location ++ map field_of_word words.fields;
+  body = body_asked words;
+  trailers = None;
+}
+
+-- whether octets begin with `@`
+-- rule: engines (own) The words of get make its request and say what is printed
+abbrev pub begins_with_at : List ℕ → Bool
+begins_with_at [] = false
+begins_with_at (octet ∷ octets) = octet == 64
+
+-- The words ask for a request: each field is NAME:VALUE, the body doesn't begin with `@`, and the
+-- request breaks no rule of messages (section 8).
+-- rule: engines (own) The words of get make its request and say what is printed
+pub record IsAskable (words : GetWords) (location : Location) : Type 0 where
+  pub fields : list_all has_colon words.fields ≡ true
+  pub body : begins_with_at (body_asked words) ≡ false
+  pub unbroken : broken_by_request (request_asked words location) ≡ None
+
+-- Why no field can be made of a word: it has no colon. Out of memory says nothing.
+abbrev pub IsRefusedWord : (word : List ℕ) → RequestFault → Type 0
+IsRefusedWord word faults.NoColon = has_colon word ≡ false
+IsRefusedWord word faults.Memory = Unit {0}
+IsRefusedWord word fault = ⊥
+
+-- Why fields can't be made of words: one has no colon. Out of memory says nothing.
+abbrev pub AreRefusedWords : (words : List (List ℕ)) → RequestFault → Type 0
+AreRefusedWords words faults.NoColon = list_all has_colon words ≡ false
+AreRefusedWords words faults.Memory = Unit {0}
+AreRefusedWords words fault = ⊥
+
+-- Why no request can be made: a word is no NAME:VALUE; the body begins with `@`; or the request
+-- breaks a rule, this one first. Out of memory says nothing.
+-- rule: engines (own) The words of get make its request and say what is printed
+abbrev pub IsRefusedRequest : GetWords → Location → RequestFault → Type 0
+IsRefusedRequest words location faults.NoColon = list_all has_colon words.fields ≡ false
+IsRefusedRequest words location faults.AtSign =
+    begins_with_at (body_asked words) ≡ true
+IsRefusedRequest words location (faults.Malformed rule) =
+    broken_by_request (request_asked words location) ≡ Some rule
+IsRefusedRequest words location faults.Memory = Unit {0}

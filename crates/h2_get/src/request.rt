@@ -1,0 +1,166 @@
+//! The request that the words after `get` ask for.
+
+ghost use Rattle.std.specs.Prelude.{◌≡◌, ◌++◌, ◌∷◌, [], IfErr, IfOk, OnOk, map};
+ghost use Rattle.std.specs.Prelude.{position, true};
+ghost use Rattle.std.specs.List.{list_all};
+ghost use Rattle.h2_message.specs.Values.{message_value};
+ghost use Rattle.h2_args.specs.Words.{asked_by};
+ghost use Rattle.h2_get.specs.Requests.{AreRefusedWords, IsAskable, IsRefusedRequest, IsRefusedWord};
+ghost use Rattle.h2_get.specs.Requests.{field_of_word, has_colon, method_asked, request_asked};
+ghost use Rattle.h2_get.specs.Requests.{begins_with_at, body_asked, is_colon, without_space};
+
+use h2_args::GetOptions;
+use h2_message::{Field, Malformed, Message, check_request};
+use h2_net::{Location, head_to};
+use std::alloc::{AllocError, Global};
+use thiserror::Error;
+
+/// Why no request can be made of the words. Its text is for the user.
+#[derive(Clone, Copy, Debug, PartialEq, Eq, Hash, Error)]
+pub enum RequestFault {
+    /// A field has no colon.
+    #[error("error: a field has to be NAME:VALUE")]
+    NoColon,
+    /// The body begins with `@`.
+    #[error("error: data that begin with @ are not taken")]
+    AtSign,
+    /// The request breaks this rule (RFC 9113, section 8), the first one of several.
+    #[error("N7 Refused")]
+    Malformed(Malformed),
+    /// Out of memory.
+    #[error("N3 Memory")]
+    Memory,
+}
+
+impl From<AllocError> for RequestFault {
+    ghost use Rattle.h2_get.specs.declared.request.RequestFault.TheVariants.{Memory};
+
+    ghost from_gives = { λ _ fault. fault ≡ Memory };
+
+    fn from(_error: AllocError) -> RequestFault {
+        RequestFault::Memory
+    }
+}
+
+// contract: engines (own) The words of get make its request and say what is printed
+// rule: engines (own) The words of get make its request and say what is printed
+/// Makes the request for a location that the words ask for, which breaks no rule.
+///
+/// # Errors
+///
+/// [`RequestFault`] says why there is none.
+pub fn request_of(
+    alloc: Global,
+    options: &GetOptions<'_>,
+    location: &Location,
+) -> Result<Message, RequestFault>
+    ensures ok { IfOk result (λ message.
+        message_value message ≡ request_asked (asked_by options.now) location.now) }
+    ensures asked { OnOk result (IsAskable (asked_by options.now) location.now) }
+    ensures err { IfErr result (IsRefusedRequest (asked_by options.now) location.now) }
+{
+    let body = body_of(options);
+    if begins_with_at(body) {
+        return Err(RequestFault::AtSign);
+    }
+    let mut head = head_to(alloc, method_of(options).as_bytes(), location)?;
+    add_fields(alloc, &mut head, &options.fields)?;
+    let message = Message {
+        head,
+        body: Vec::from_slice(alloc, body)?,
+        trailers: None,
+    };
+    match check_request(&message) {
+        Ok(()) => Ok(message),
+        Err(rule) => Err(RequestFault::Malformed(rule)),
+    }
+}
+
+// rule: engines (own) The words of get make its request and say what is printed
+/// The method that the options name, or else POST where they give a body, and GET where they don't.
+fn method_of<'a>(options: &GetOptions<'a>) -> &'a str
+    ensures { result.now ≡ method_asked (asked_by options.now) }
+{
+    match (options.method, options.body) {
+        (Some(method), _) => method,
+        (None, Some(_)) => "POST",
+        (None, None) => "GET",
+    }
+}
+
+/// The body that the options give, which is empty where they give none.
+fn body_of<'a>(options: &GetOptions<'a>) -> &'a [u8]
+    ensures { result.now ≡ body_asked (asked_by options.now) }
+{
+    match options.body {
+        Some(body) => body.as_bytes(),
+        None => &[],
+    }
+}
+
+/// Whether octets begin with `@`.
+fn begins_with_at(octets: &[u8]) -> bool
+    ensures { result ≡ begins_with_at octets.now }
+{
+    match octets {
+        [octet, ..] => *octet == b'@',
+        [] => false,
+    }
+}
+
+// rule: engines (own) The words of get make its request and say what is printed
+/// Adds the fields of words to those of a head.
+fn add_fields(alloc: Global, head: &mut Vec<Field>, words: &[&str]) -> Result<(), RequestFault>
+    ensures fields { OnOk result (head.new.items
+        ≡ head.old.items ++ map field_of_word (map (λ word. word.now) words.now)) }
+    ensures named { OnOk result (list_all has_colon (map (λ word. word.now) words.now) ≡ true) }
+    ensures err { IfErr result (AreRefusedWords (map (λ word. word.now) words.now)) }
+{
+    for word in words {
+        let field = field_of_word(alloc, word.as_bytes())?;
+        add_field(head, field)?;
+    }
+    Ok(())
+}
+
+// Adds a field to those of a head.
+fn add_field(head: &mut Vec<Field>, field: Field) -> Result<(), AllocError>
+    ensures { OnOk result (head.new.items ≡ head.old.items ++ field ∷ []) }
+{
+    head.push(field)?;
+    Ok(())
+}
+
+// rule: engines (own) The words of get make its request and say what is printed
+/// The field of a word NAME:VALUE.
+fn field_of_word(alloc: Global, word: &[u8]) -> Result<Field, RequestFault>
+    ensures field { IfOk result (λ field. field ≡ field_of_word word.now) }
+    ensures named { OnOk result (has_colon word.now ≡ true) }
+    ensures err { IfErr result (IsRefusedWord word.now) }
+{
+    let Some(place) = colon_place(word) else {
+        return Err(RequestFault::NoColon);
+    };
+    let name = word[..place].to_ascii_lowercase(alloc)?;
+    let value = without_space(&word[place + 1..]);
+    let field = Field::copy_of(alloc, &name, value, false)?;
+    Ok(field)
+}
+
+/// The place of the first colon of a word, if it has one.
+fn colon_place(word: &[u8]) -> Option<usize>
+    ensures { result ≡ position is_colon word.now }
+{
+    word.iter().position(|octet| *octet == b':')
+}
+
+// rule: engines (own) The words of get make its request and say what is printed
+/// Octets without the space that they begin with, if they do.
+fn without_space(octets: &[u8]) -> &[u8]
+    ensures { result.now ≡ without_space octets.now }
+{
+    match octets {
+        [b' ', others @ ..] => others,
+        _ => octets,
+    }
+}

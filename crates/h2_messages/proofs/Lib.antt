@@ -1,0 +1,4 @@
+mod PartLemmas
+mod CallLemmas
+mod TakeLemmas
+mod InputLemmas

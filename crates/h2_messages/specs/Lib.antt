@@ -1,0 +1,4 @@
+pub mod PartLines
+pub mod Rules
+pub mod Messages
+pub mod Taking
