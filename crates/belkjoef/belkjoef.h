@@ -5,25 +5,27 @@
  * what was read is given to bj_take, piece by piece, and what bj_waiting lends is written.
  *
  * Answers. Each function that answers an int answers 0 (BJ_OK), or a negative number where it is
- * refused or fails (bj_error_text has its text); those named bj_is_.. answer 1 for yes and 0 for
- * no, and BJ_EMPTY where the place holds no end: compare with 1. What else they say goes through
+ * refused or fails (bj_error_text has its text); those named bj_is_.. and
+ * bj_conn_is_.. answer 1 for yes and 0 for no, and BJ_EMPTY where the place holds nothing: compare
+ * with 1. What else they say goes through
  * the pointers that stand last; those are written where the answer is BJ_OK, and otherwise only as
  * their function says, but a count of what was done (`sent`, `taken`, and `count` of bj_fields,
- * bj_put_out, bj_decode and bj_decoded) and `user` are 0 after each error. What is written need
- * not have a value before. Errors are listed in the order in which they are looked for: the first
- * that holds is answered. Where it does not say otherwise, nothing has changed after one.
- * BJ_EMPTY, that the place holds none, comes first, of every function that takes a place but those
- * that make something in it.
+ * bj_put_out, bj_conn_fields, bj_conn_put_out, bj_decode and bj_decoded) and `user` are 0 after
+ * each error. What is written need not have a value before. Errors are listed in the order in
+ * which they are looked for: the first that holds is answered. Where it does not say otherwise,
+ * nothing has changed after one. BJ_EMPTY, that the place holds none, comes first, of every
+ * function that takes a place but those that make something in it.
  *
  * What the caller owes. No pointer is null, and each is aligned as its type is, also of no octets
  * or fields: give BJ_NO_OCTETS or BJ_NO_FIELDS then. A pointer and a length that follow each other
  * are so many octets, or fields, that may be read, or written where the pointer isn't const, while
  * the call lasts; the places that one call writes don't overlap each other or what it reads. A
- * bj_end is all zero (BJ_EMPTY_PLACE) or as these functions have left it, and is not copied and then
- * used twice. It belongs to one thread at a time; what hands it to another orders the two: a lock,
- * or a thread's start or join. No function is called in a signal handler, or in the child of a
- * fork of a program with threads. malloc, realloc and free are those of one allocator, whose
- * blocks are aligned to 16.
+ * bj_end is all zero (BJ_EMPTY_PLACE) or as these functions have left it, and is not copied and
+ * then used twice. A place of one kind (bj_end, bj_encoder, bj_decoder, bj_conn) is not given to
+ * functions of another, which cannot tell. It belongs to one thread at a time; what hands it to
+ * another orders the two: a lock, or a thread's start or join. No function is called in a signal
+ * handler, or in the child of a fork of a program with threads. malloc, realloc and free are those
+ * of one allocator, whose blocks are aligned to 16.
  *
  * What is lent. Addresses that are handed out are good until the next call with the same place,
  * and not in that call: what an end has lent is copied before it is given to the same end. Octets
@@ -70,7 +72,7 @@ uint32_t bj_version(void);
 
 enum {
   BJ_OK = 0,
-  BJ_EMPTY = -1,    /* the place holds no end, no encoder or no decoder */
+  BJ_EMPTY = -1,    /* the place holds nothing */
   BJ_HELD = -2,     /* the place holds one already */
   BJ_ROLE = -3,     /* a server's function at a client, or a client's at a server */
   BJ_FAILED = -4,   /* the connection has failed */
@@ -87,14 +89,16 @@ enum {
   /* Refusals of the connection. */
   BJ_CLOSED = -21,            /* it has failed */
   BJ_NO_SUCH_STREAM = -22,    /* the stream isn't active */
-  BJ_ENDED = -23,             /* this end has ended the stream: of no function here */
-  BJ_TOO_MANY_STREAMS = -24,  /* as many streams are active as the peer allows */
+  BJ_ENDED = -23,             /* this end has ended the stream: of bj_conn_send_.. alone */
+  BJ_TOO_MANY_STREAMS = -24,  /* as many streams are active as the peer allows, or 1,000; 100
+                               * before its settings */
   BJ_STREAMS_EXHAUSTED = -25, /* no number is left for a stream */
   BJ_GOING_AWAY = -26,        /* a GOAWAY was sent, or read */
   BJ_OUTPUT_FULL = -27,       /* 65,536 octets or more wait: write, and call again */
   BJ_PING_WAITS = -28,        /* a PING awaits its answer */
   BJ_TOO_MANY_RESETS = -29,   /* this end has reset 1,000 streams */
-  BJ_LIST_TOO_LARGE = -30,    /* the fields have more than 65,536 octets */
+  BJ_LIST_TOO_LARGE = -30,    /* the fields have more octets than may be: 65,536, but of
+                               * bj_encode and bj_decode */
   BJ_NOT_OWED = -31,          /* so much isn't owed on the stream, or it is nothing */
   BJ_MEMORY = -32,            /* an allocation was refused */
   BJ_SETTINGS_WAIT = -33,     /* settings await their acknowledgment */
@@ -224,11 +228,13 @@ BJ_CALL int bj_free(bj_end *end);
  * BJ_EMPTY all others are 0. */
 BJ_CALL int bj_take(bj_end *end, const uint8_t *octets, size_t length, bj_event *event);
 
-/* Says a field of the list that was handed out last, by its place: 0 is the first.
- * BJ_NO_FIELD: there are no more than so many. */
+/* Says a field of the list that the last bj_take has handed out, by its place: 0 is the first.
+ * After a bj_take that hands out none a list is left of any block that was read, also of one
+ * that was refused or ignored: ask before you take again. BJ_NO_FIELD: there are no more than so
+ * many. */
 BJ_CALL int bj_field_at(bj_end *end, size_t place, bj_field *field);
 
-/* Says the fields of the list that was handed out last, from a place on, and how many were said:
+/* Says the fields of that list, from a place on, and how many were said:
  * as many as there are, and at most as there is room for. */
 BJ_CALL int bj_fields(bj_end *end, size_t from, bj_field *fields, size_t room, size_t *count);
 
@@ -384,8 +390,8 @@ enum {
   BJ_WHY_SHIFT_TOO_LARGE = 23, /* SETTINGS bring a stream's window above 2^31 - 1 */
   BJ_WHY_TOO_MANY_RESETS = 24, /* this end would reset a 1,001st stream */
   BJ_WHY_TOO_MUCH_OUTPUT = 25, /* replies would bring the output above 262,144 octets */
-  BJ_WHY_OUT_OF_MEMORY = 26, /* an allocation was refused */
-  BJ_WHY_ENDED_ABOVE = 27 /* bj_fail ended it */
+  BJ_WHY_OUT_OF_MEMORY = 26, /* an allocation was refused, or bj_conn_refuse was given 2 */
+  BJ_WHY_ENDED_ABOVE = 27 /* bj_fail or bj_conn_fail ended it */
 };
 
 /* Says why the connection has failed: one of the above; bj_failed says its code. BJ_NONE: it has
@@ -465,7 +471,7 @@ typedef struct bj_encoder {
 } bj_encoder;
 
 /* Makes an encoder in a place that holds none, with an empty table, whose maximum and limit are so
- * many octets: 4,096 for a connection that begins.
+ * many octets: 4,096 for a connection that begins. It takes room for maximum / 32 entries.
  * BJ_HELD: the place holds one, and still does. BJ_MEMORY. */
 BJ_CALL int bj_encoder_new(uint32_t maximum, bj_encoder *encoder);
 
@@ -479,7 +485,8 @@ BJ_CALL int bj_encoder_set_limit(bj_encoder *encoder, uint32_t limit);
 /* Makes the block of fields, and lends it. The fields are copied, as those of a head in parts are.
  * The decoder is to be given each block, in order: the next one builds on it.
  * BJ_MEMORY, of the copies. BJ_LIST_TOO_LARGE: the fields have 2^35 octets or more, each counting
- * 32 more. BJ_MEMORY. *block is as it was then, and so is the encoder. */
+ * 32 more. BJ_MEMORY. *block is as it was then, and so is the encoder; octets that were lent
+ * before are not. */
 BJ_CALL int bj_encode(bj_encoder *encoder, const bj_field *fields, size_t field_count,
                       bj_span *block);
 
@@ -490,7 +497,7 @@ typedef struct bj_decoder {
 } bj_decoder;
 
 /* Makes a decoder in a place that holds none, with an empty table, whose maximum and limit are so
- * many octets: 4,096 for a connection that begins.
+ * many octets: 4,096 for a connection that begins. It takes room for maximum / 32 entries.
  * BJ_HELD: the place holds one, and still does. BJ_MEMORY. */
 BJ_CALL int bj_decoder_new(uint32_t maximum, bj_decoder *decoder);
 
@@ -502,9 +509,10 @@ BJ_CALL int bj_decoder_free(bj_decoder *decoder);
 BJ_CALL int bj_decoder_set_limit(bj_decoder *decoder, uint32_t limit);
 
 /* Decodes a complete block into the decoder's list, and says how many fields it has.
- * BJ_DECODER_FAILED: an earlier block failed. BJ_COMPRESSION: the octets are no block. BJ_MEMORY.
- * After these two the decoder has failed. BJ_LIST_TOO_LARGE: the fields have more than list_limit
- * octets, each counting 32 more; the table is as after the block, and the next one can be decoded.
+ * BJ_DECODER_FAILED: an earlier call failed so. BJ_COMPRESSION, that the octets are no block, or
+ * BJ_MEMORY: whichever is met first in them; after these two the decoder has failed for good.
+ * BJ_LIST_TOO_LARGE: the fields have more than list_limit octets, each counting 32 more; the table
+ * is as after the block, and the next one can be decoded.
  * The list is empty after each of the four. */
 BJ_CALL int bj_decode(bj_decoder *decoder, const uint8_t *block, size_t length,
                       uint32_t list_limit, size_t *count);
@@ -517,6 +525,147 @@ BJ_CALL int bj_decoded_at(bj_decoder *decoder, size_t place, bj_field *field);
  * many as there are, and at most as there is room for. */
 BJ_CALL int bj_decoded(bj_decoder *decoder, size_t from, bj_field *fields, size_t room,
                        size_t *count);
+
+/* ---- a connection without the rules of messages ----
+ *
+ * It is an end that reports fields and DATA as they come, and checks no message (HTTP/2 without
+ * RFC 9113, section 8): for whoever has rules of its own. Its functions are those of an end, with
+ * the same errors, answers and loans; a place of it is used as a bj_end is. BJ_EMPTY: it holds
+ * none. */
+
+/* A place that holds a connection, or nothing. Its members are the library's. */
+typedef struct bj_conn {
+  void *at;
+  uint64_t state;
+} bj_conn;
+
+/* What bj_conn_take reports beside BJ_RESET, BJ_UNPROCESSED, BJ_GOAWAY, BJ_ACKED and BJ_PONG. */
+enum {
+  BJ_FIELDS = 10, /* a field section: stream, fields, end */
+  BJ_DATA = 11    /* octets of a body: stream, octets, length, flow, end */
+};
+
+typedef struct bj_report {
+  size_t used;     /* octets of the piece that were used */
+  uint32_t kind;   /* one of the above */
+  uint32_t stream; /* its stream */
+  uint32_t code;   /* an error code (RFC 9113, section 7) */
+  uint32_t end;    /* 1 where nothing follows on the stream */
+  uint32_t ours;   /* 1 where this end has reset the stream */
+  uint8_t ping[8];
+  size_t fields; /* how many fields the list has: see bj_conn_field_at */
+  const uint8_t *octets;
+  size_t length;
+  uint32_t flow; /* what bj_conn_release is given once the octets are used, padding included;
+                  * nothing where it is 0 or the stream is over */
+} bj_report;
+
+/* Makes a server's, or a client's, connection in a place that holds none. Its opening waits.
+ * BJ_HELD: the place holds one, and still does. BJ_TABLE_LIMIT, BJ_INITIAL_WINDOW, BJ_MAX_STREAMS
+ * or BJ_MAX_FRAME: the value is out of its bounds. BJ_MEMORY. */
+BJ_CALL int bj_conn_server(const bj_config *config, bj_conn *conn);
+BJ_CALL int bj_conn_client(const bj_config *config, bj_conn *conn);
+
+/* Frees the connection, and the place holds none. */
+BJ_CALL int bj_conn_free(bj_conn *conn);
+
+/* Takes octets that were read, as bj_take does, and says what is reported: one event at most.
+ * BJ_FAILED: the connection fails, or has failed, with the code in report->code. Members that an
+ * event does not name are 0, but for octets, which is the address that was given. */
+BJ_CALL int bj_conn_take(bj_conn *conn, const uint8_t *octets, size_t length, bj_report *report);
+
+/* Says a field, or fields, of the list that the last bj_conn_take has reported, as bj_field_at and
+ * bj_fields: ask before you take again.
+ * BJ_NO_FIELD: there are no more than so many. */
+BJ_CALL int bj_conn_field_at(bj_conn *conn, size_t place, bj_field *field);
+BJ_CALL int bj_conn_fields(bj_conn *conn, size_t from, bj_field *fields, size_t room,
+                           size_t *count);
+
+/* Opens a stream with a field section, and says the stream: 1, 3, 5 and so on. With ends nothing
+ * follows on it. The copies are kept, as those of a head in parts are.
+ * BJ_MEMORY, of the copies. BJ_CLOSED. BJ_TOO_MANY_STREAMS. BJ_STREAMS_EXHAUSTED, at a server
+ * always. BJ_GOING_AWAY. BJ_OUTPUT_FULL. BJ_LIST_TOO_LARGE. BJ_MEMORY. */
+BJ_CALL int bj_conn_open(bj_conn *conn, const bj_field *fields, size_t field_count, bool ends,
+                         uint32_t *stream);
+
+/* Says how bj_conn_open would be refused with these fields, but for its last BJ_MEMORY: BJ_OK where
+ * it would not be. Nothing is opened or sent, and the copies are kept, as there.
+ * BJ_MEMORY, of the copies. BJ_CLOSED. BJ_TOO_MANY_STREAMS. BJ_STREAMS_EXHAUSTED, at a server
+ * always. BJ_GOING_AWAY. BJ_OUTPUT_FULL. BJ_LIST_TOO_LARGE. */
+BJ_CALL int bj_conn_refusal_to_open(bj_conn *conn, const bj_field *fields, size_t field_count);
+
+/* Sends a further field section on a stream: a response's, or trailers.
+ * BJ_MEMORY, of the copies. BJ_CLOSED. BJ_NO_SUCH_STREAM. BJ_ENDED. BJ_OUTPUT_FULL.
+ * BJ_LIST_TOO_LARGE. BJ_MEMORY. */
+BJ_CALL int bj_conn_send_fields(bj_conn *conn, uint32_t stream, const bj_field *fields,
+                                size_t field_count, bool ends);
+
+/* Sends as many octets as both windows let through, at most 65,536; says how many. Where all were
+ * sent and ends is set, the last DATA ends the stream.
+ * BJ_CLOSED. BJ_NO_SUCH_STREAM. BJ_ENDED. BJ_OUTPUT_FULL. BJ_MEMORY. *sent is 0 then. */
+BJ_CALL int bj_conn_send_data(bj_conn *conn, uint32_t stream, const uint8_t *octets,
+                              size_t length, bool ends, size_t *sent);
+
+/* Lets the peer send so many octets more on a stream, of those that were reported.
+ * BJ_CLOSED. BJ_NO_SUCH_STREAM. BJ_OUTPUT_FULL. BJ_NOT_OWED. BJ_MEMORY. */
+BJ_CALL int bj_conn_release(bj_conn *conn, uint32_t stream, uint32_t count);
+
+/* Resets a stream with an error code.
+ * BJ_CLOSED. BJ_NO_SUCH_STREAM. BJ_OUTPUT_FULL. BJ_TOO_MANY_RESETS. BJ_MEMORY. */
+BJ_CALL int bj_conn_reset(bj_conn *conn, uint32_t stream, uint32_t code);
+
+/* Resets a stream for a fault of the peer that the caller has found. With 2, INTERNAL_ERROR, the
+ * caller has no memory, and the connection fails with it; it fails with ENHANCE_YOUR_CALM where
+ * 1,000 streams were reset or the output would be above 262,144 octets, and with INTERNAL_ERROR
+ * where memory is refused: BJ_OK is answered then, bj_conn_failed says it, and the next
+ * bj_conn_take answers BJ_FAILED. BJ_CLOSED. Unless the code is 2, BJ_NO_SUCH_STREAM. */
+BJ_CALL int bj_conn_refuse(bj_conn *conn, uint32_t stream, uint32_t code);
+
+/* As bj_ping, bj_go_away, bj_fail and bj_change_settings, with the same errors. */
+BJ_CALL int bj_conn_ping(bj_conn *conn, const uint8_t octets[8]);
+BJ_CALL int bj_conn_go_away(bj_conn *conn);
+BJ_CALL int bj_conn_fail(bj_conn *conn, uint32_t code);
+BJ_CALL int bj_conn_change_settings(bj_conn *conn, const bj_config *config);
+
+/* The output: as bj_ready, bj_waiting, bj_consume and bj_put_out. BJ_MEMORY, but of
+ * bj_conn_waiting, and of bj_conn_consume not after bj_conn_ready with no other call in between
+ * that changes the connection. Of bj_conn_put_out the buffer is as it was then. */
+BJ_CALL int bj_conn_ready(bj_conn *conn);
+BJ_CALL int bj_conn_waiting(bj_conn *conn, bj_span *first, bj_span *second);
+BJ_CALL int bj_conn_consume(bj_conn *conn, size_t count, size_t *taken);
+BJ_CALL int bj_conn_put_out(bj_conn *conn, uint8_t *buffer, size_t room, size_t *count);
+
+/* Says how many octets of output wait: at most 262,144, and 262,161 with the GOAWAY of a failed
+ * connection. What bj_conn_ready would add is not counted. */
+BJ_CALL int bj_conn_waiting_count(bj_conn *conn, size_t *count);
+
+/* Readers, as those of an end without conn_ in their names. BJ_NONE: there is none. */
+BJ_CALL int bj_conn_is_active(bj_conn *conn, uint32_t stream);
+BJ_CALL int bj_conn_failed(bj_conn *conn, uint32_t *code);
+BJ_CALL int bj_conn_why(bj_conn *conn, uint32_t *why);
+BJ_CALL int bj_conn_last_flow(bj_conn *conn, uint32_t *flow);
+BJ_CALL int bj_conn_resets_received(bj_conn *conn, uint32_t *count);
+BJ_CALL int bj_conn_empty_frames_received(bj_conn *conn, uint32_t *count);
+BJ_CALL int bj_conn_peer_settings(bj_conn *conn, bj_settings *settings);
+BJ_CALL int bj_conn_room(bj_conn *conn, uint32_t stream, int64_t *room);
+BJ_CALL int bj_conn_owed(bj_conn *conn, uint32_t stream, uint32_t *owed);
+BJ_CALL int bj_conn_next_live(bj_conn *conn, uint32_t above, uint32_t *stream);
+
+/* Says how many octets of the connection's window are still to be returned: of DATA that was
+ * discarded, and of streams that have closed. 0 once the connection has failed. */
+BJ_CALL int bj_conn_due(bj_conn *conn, uint32_t *due);
+
+/* Says how many octets were used of a preface or a frame that is not complete: 1,048,585 at most; 0
+ * once the connection has failed. */
+BJ_CALL int bj_conn_held(bj_conn *conn, size_t *count);
+
+/* Says how many octets of input were used; the greatest number of 64 bits where it is more. After a
+ * fault of the peer the octet that made it is the last one of them. */
+BJ_CALL int bj_conn_place(bj_conn *conn, uint64_t *place);
+
+/* Says the number of the stream that a client opens next; 2^31 + 1 where none is left
+ * (BJ_STREAMS_EXHAUSTED). BJ_NONE: at a server, and once the connection has failed. */
+BJ_CALL int bj_conn_next_number(bj_conn *conn, uint32_t *stream);
 
 #ifdef __cplusplus
 }

@@ -117,6 +117,83 @@ static void blocks(void) {
   check("free", bj_decoder_free(&decoder));
 }
 
+/* Carries all that waits from one connection to another, and says what came of a stream last. */
+static void carry_bare(bj_conn *from, bj_conn *to, bj_report *last) {
+  bj_span one, two;
+  size_t taken;
+  check("ready", bj_conn_ready(from));
+  check("waiting", bj_conn_waiting(from, &one, &two));
+  for (int i = 0; i < 2; i++) {
+    const bj_span *span = i == 0 ? &one : &two;
+    bj_report report;
+    size_t at = 0;
+    do {
+      check("take", bj_conn_take(to, span->octets + at, span->length - at, &report));
+      at += report.used;
+      if (report.stream != 0)
+        *last = report;
+    } while (at < span->length || report.kind != BJ_NOTHING);
+  }
+  check("consume", bj_conn_consume(from, one.length + two.length, &taken));
+}
+
+/* The same, copied in pieces that are short; all that was counted comes, and is used. */
+static void copy_bare(bj_conn *from, bj_conn *to, bj_report *last) {
+  uint64_t before, after;
+  size_t waits, all = 0, count;
+  check("ping", bj_conn_ping(from, (const uint8_t *)"12345678"));
+  check("ready", bj_conn_ready(from));
+  check("waiting_count", bj_conn_waiting_count(from, &waits));
+  check("place", bj_conn_place(to, &before));
+  do {
+    uint8_t piece[7];
+    size_t at = 0;
+    check("put_out", bj_conn_put_out(from, piece, sizeof(piece), &count));
+    all += count;
+    while (at < count) {
+      bj_report report;
+      check("take", bj_conn_take(to, piece + at, count - at, &report));
+      at += report.used;
+      if (report.stream != 0)
+        *last = report;
+    }
+  } while (count > 0);
+  check("place", bj_conn_place(to, &after));
+  want("all that waited", waits >= 17 && all == waits, 1);
+  want("all that was used", after - before == all, 1);
+  check("waiting_count", bj_conn_waiting_count(from, &waits));
+  want("what waits still", waits == 0, 1);
+}
+
+/* A request and its response over connections that know no messages. */
+static void bare(const bj_config *config) {
+  static const bj_field list[] = {BJ_FIELD("no", "message")};
+  bj_conn client = BJ_EMPTY_PLACE, server = BJ_EMPTY_PLACE;
+  bj_report last = {0};
+  bj_field field;
+  uint32_t stream;
+  size_t sent;
+  check("client", bj_conn_client(config, &client));
+  check("server", bj_conn_server(config, &server));
+  want("a stream at a server", bj_conn_refusal_to_open(&server, list, 1), BJ_STREAMS_EXHAUSTED);
+  check("refusal_to_open", bj_conn_refusal_to_open(&client, list, 1));
+  check("open", bj_conn_open(&client, list, 1, false, &stream));
+  carry_bare(&client, &server, &last);
+  want("fields", (int)last.kind, BJ_FIELDS);
+  check("field_at", bj_conn_field_at(&server, 0, &field));
+  want("a value", memcmp(field.value, "message", field.value_length), 0);
+  check("send_data", bj_conn_send_data(&client, stream, (const uint8_t *)"octets", 6, true, &sent));
+  carry_bare(&client, &server, &last);
+  want("data", last.kind == BJ_DATA && last.length == 6 && last.flow == 6 && last.end == 1, 1);
+  check("send_fields", bj_conn_send_fields(&server, stream, list, 1, true));
+  carry_bare(&server, &client, &last);
+  want("the answer", last.kind == BJ_FIELDS && last.end == 1, 1);
+  copy_bare(&client, &server, &last);
+  want("a stream that is over", bj_conn_is_active(&client, stream), 0);
+  check("free", bj_conn_free(&client));
+  check("free", bj_conn_free(&server));
+}
+
 static void join(const bj_config *config, const uint8_t *body) {
   static const bj_field asks[] = {BJ_FIELD(":method", "POST"), BJ_FIELD(":scheme", "http"),
                                   BJ_FIELD(":path", "/"), BJ_FIELD("user-agent", "churn")};
@@ -158,6 +235,7 @@ int main(int count, char **words) {
       before = mallinfo2().uordblks;
     join(&config, body);
     blocks();
+    bare(&config);
   }
   size_t after = mallinfo2().uordblks;
   printf("%ld connections: %zu octets of the heap before, %zu after\n", times, before, after);

@@ -2,11 +2,10 @@
 use Rattle.std.proofs.Common.{◌≡◌, sym, subst, ℤ}
 use Rattle.std.specs.Prelude.{Option, None, Some}
 use Rattle.h2_flow.specs.declared.config.BadConfig.{BadConfig}
-use Rattle.belkjoef.specs.declared.held.Held.{Held}
 use Rattle.belkjoef.specs.Configs.{WithinBounds}
 use Rattle.belkjoef.specs.Numbers.{config_number}
 
-module _ (answer : ℤ) (Does : Held → Held → Type 0) (old new : Held) where
+module _ {A : Type 0} (answer : ℤ) (Does : A → A → Type 0) (old new : A) where
   -- None is.
   pub within_bounds : {first : Option BadConfig} → first ≡ None → Does old new
       → WithinBounds first answer Does old new

@@ -32,7 +32,7 @@ copies_none before {old = old} {new = new} refusal is same readies values end re
     )
 
 -- How many octets are taken away, where nothing is returned first.
-given_of : (log : Log) (count given : ℕ) → returns_before_put_out (log_view log) ≡ false
+pub given_of : (log : Log) (count given : ℕ) → returns_before_put_out (log_view log) ≡ false
     → MayAnswer log (PutOut count) (Count given) → given ≡ min count (waiting log)
 given_of log count given ready (accepts none is) =
     let e : given ≡ min count (waiting log

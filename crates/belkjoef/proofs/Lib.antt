@@ -1,12 +1,16 @@
 pub mod Bounds
+pub mod ConnCopies
 pub mod CopiedFields
 pub mod CopiedOctets
 pub mod CopiesOut
 pub mod LentFields
 pub mod LooseValues
+pub mod MadeConns
 pub mod MadeEnds
 pub mod OnPlaces
 pub mod PlaceSteps
+pub mod ReadyConns
 pub mod ReadyPlaces
 pub mod Steps
 pub mod TakenEvents
+pub mod TakenReports

@@ -1,6 +1,6 @@
 -- A new end in its place.
-use Rattle.std.proofs.Common.{◌≡◌, refl, sym, subst, ℤ}
-use Rattle.std.specs.Prelude.{Option, None, Some, is_some, false}
+use Rattle.std.proofs.Common.{◌≡◌, sym, subst, ℤ}
+use Rattle.std.specs.Prelude.{Option, None, Some}
 use Rattle.h2_spec_log.specs.Acts.{Values}
 use Rattle.h2_spec_log.specs.declared.role.Role.{Role}
 use Rattle.h2_flow.specs.declared.config.BadConfig.{BadConfig}
@@ -8,11 +8,6 @@ use Rattle.h2_flow.specs.Configs.{first_bad}
 use Rattle.belkjoef.specs.declared.held.Held.{Held}
 use Rattle.belkjoef.specs.declared.held.Side.{Side}
 use Rattle.belkjoef.specs.Making.{HoldsNew, IsNewSide, MakesEnd, MakesWithin, PutsNew}
-
--- A place that does not hold an end holds none.
-pub none_held : (held : Option Held) → is_some held ≡ false → held ≡ None
-none_held None is = refl
-none_held (Some end) is = cc
 
 -- A new side that was put there.
 put_new : (role : Role) (values : Values) {side : Side} → IsNewSide role values side
@@ -24,7 +19,8 @@ put_new role values is answer (Some made) put =
 -- It is made, where no value is out of its bounds and the place holds none.
 pub made_new : (role : Role) (given : Values) {values : Values} {side : Side} {old : Option Held}
     (new : Option Held) {told answer : ℤ} → told ≡ answer → old ≡ None → first_bad given ≡ None
-    → values ≡ given → IsNewSide role values side → PutsNew side answer new → MakesEnd role given told old new
+    → values ≡ given → IsNewSide role values side → PutsNew side answer new
+    → MakesEnd role given told old new
 made_new role given {side = side} new {told = told} same none good are is put =
     subst (λ (o : Option Held). MakesEnd role given told o new) (sym none)
     (subst (λ (b : Option BadConfig). MakesWithin b role given told new) (sym good)

@@ -18,10 +18,10 @@ on_place {A = A} answer Does {old = old} {new = new} {a = a} {b = b} e f done =
     (subst (λ (n : Option A). OnPlace answer Does (Some a) n) (sym f) done)
 
 -- The same of an answer that was read back.
-pub on_place_told : (Does : ℤ → Held → Held → Type 0) {told answer : ℤ} {old new : Option Held}
-    {a b : Held} → told ≡ answer → old ≡ Some a → new ≡ Some b → Does answer a b
-    → OnPlace told (Does told) old new
-on_place_told Does {told = told} {old = old} {new = new} {a = a} {b = b} same e f done =
+pub on_place_told : {A : Type 0} (Does : ℤ → A → A → Type 0) {told answer : ℤ}
+    {old new : Option A} {a b : A} → told ≡ answer → old ≡ Some a → new ≡ Some b
+    → Does answer a b → OnPlace told (Does told) old new
+on_place_told Does {told = told} {a = a} {b = b} same e f done =
     on_place told (Does told) e f (subst (λ (z : ℤ). Does z a b) (sym same) done)
 
 -- The end is a server.

@@ -10,7 +10,7 @@ use Rattle.belkjoef.specs.Numbers.{ok, refusal_number, answer_number}
 use Rattle.belkjoef.specs.Output.{HoldsReady, IsReadyOutput, FineIfReady, OkIfReady}
 
 -- No refusal has the number 0.
-no_refusal : (refusal : Refusal) → refusal_number refusal ≡ ok → ⊥
+pub no_refusal : (refusal : Refusal) → refusal_number refusal ≡ ok → ⊥
 no_refusal refusals.Closed is = cc
 no_refusal refusals.NoSuchStream is = cc
 no_refusal refusals.Ended is = cc
@@ -33,7 +33,7 @@ holds_ready (Ok value) same is at so = subst (λ (o : Option Held). HoldsReady o
 holds_ready (Err refusal) same is at so = absurd (no_refusal refusal (sym same ∙ is))
 
 -- The number of what is no refusal.
-fine_number : (outcome : Result ℕ Refusal) → IsOk outcome → answer_number outcome ≡ ok
+pub fine_number : (outcome : Result ℕ Refusal) → IsOk outcome → answer_number outcome ≡ ok
 fine_number (Ok count) is = refl
 fine_number (Err refusal) is = absurd (false≢true is)
 

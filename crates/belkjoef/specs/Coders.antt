@@ -58,7 +58,8 @@ pub record LendsBlock (fields : List Field) (said : BjSpan) (old new : EncoderSt
 -- What bj_encode does: it lends the block of the fields. Or else the list is too large, or memory
 -- was refused, and the encoder is as it was, and nothing is said.
 -- rule: c (own) An encoder makes blocks of its list, and a decoder lists of its block
-abbrev pub EncodesFields : List Field → ℤ → (before said : BjSpan) → (old new : HeldEncoder) → Type 0
+abbrev pub EncodesFields : List Field → ℤ → (before said : BjSpan) → (old new : HeldEncoder)
+    → Type 0
 EncodesFields fields answer before said old new =
     ((answer ≡ ok) × LendsBlock fields said old.encoder new.encoder)
     ⊎ (((answer ≡ list_too_large) × (2 ^ 35 ≤ list_size fields) × (said ≡ before)

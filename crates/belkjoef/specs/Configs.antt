@@ -3,7 +3,6 @@ use Rattle.std.specs.Prelude.{◌≡◌, ℤ, Option, None, Some}
 use Rattle.h2_spec_log.specs.Acts.{Values}
 use Rattle.h2_flow.specs.declared.config.BadConfig.{BadConfig}
 use Rattle.belkjoef.specs.declared.config.BjConfig.{BjConfig}
-use Rattle.belkjoef.specs.declared.held.Held.{Held}
 use Rattle.belkjoef.specs.Numbers.{config_number}
 
 abbrev pub values_given : BjConfig → Values
@@ -26,6 +25,6 @@ first_config = record {
 -- Where a value is out of its bounds the answer is the number of the first one, and nothing has
 -- changed; else this is done.
 -- rule: c (own) A new end is made in an empty place, of values within bounds
-abbrev pub WithinBounds : Option BadConfig → ℤ → (Held → Held → Type 0) → Held → Held → Type 0
+abbrev pub WithinBounds : {A : Type 0} → Option BadConfig → ℤ → (A → A → Type 0) → A → A → Type 0
 WithinBounds (Some bad) answer Does old new = (answer ≡ config_number bad) × (new ≡ old)
 WithinBounds None answer Does old new = Does old new

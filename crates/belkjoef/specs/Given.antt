@@ -35,7 +35,7 @@ message_given head body = record { head = fields_given head; body = body; traile
 
 -- Memory was refused for the copies, and nothing has changed; or else this is done.
 -- rule: c (own) What C gives is copied; without memory nothing has changed
-abbrev pub Copies : ℤ → (Held → Held → Type 0) → Held → Held → Type 0
+abbrev pub Copies : {A : Type 0} → ℤ → (A → A → Type 0) → A → A → Type 0
 Copies answer Does old new = ((answer ≡ no_memory) × (new ≡ old)) ⊎ Does old new
 
 -- Where the end is of the other role the answer is that, and nothing has changed; else this is
@@ -83,7 +83,7 @@ PumpsPass most old outcome new = EndPumpsSome old most outcome new
 -- Where the number is that of an error code this is done with it; a number above 13 is of none,
 -- and nothing has changed.
 -- rule: c (own) A call of C's is that of the end in its place
-abbrev pub WithCode : ℕ → ℤ → (Code → Held → Held → Type 0) → Held → Held → Type 0
+abbrev pub WithCode : {A : Type 0} → ℕ → ℤ → (Code → A → A → Type 0) → A → A → Type 0
 WithCode number answer Does old new =
     ((13 < number) × (answer ≡ bad_code) × (new ≡ old))
     ⊎ ((code : Code) × (code_number code ≡ number) × Does code old new)

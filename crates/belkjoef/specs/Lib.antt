@@ -1,6 +1,9 @@
 pub mod Calls
 pub mod Coders
 pub mod Configs
+pub mod ConnEvents
+pub mod ConnOutput
+pub mod Conns
 pub mod Events
 pub mod Given
 pub mod Helds

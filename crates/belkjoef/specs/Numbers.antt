@@ -12,7 +12,7 @@ use Rattle.h2_ends.specs.declared.refusal.EndRefusal.TheVariants as ends
 abbrev pub ok : ℤ
 ok = pos 0
 
--- -1: the place holds no end
+-- -1: the place holds nothing
 abbrev pub empty : ℤ
 empty = negsuc 0
 

@@ -20,8 +20,8 @@ no_error_text = codes "no error of this library"
 abbrev pub place_texts : List (ℕ × List ℕ)
 place_texts =
     (0, codes "no error") ∷
-    (1, codes "the place holds no end") ∷
-    (2, codes "the place holds an end already") ∷
+    (1, codes "the place holds nothing") ∷
+    (2, codes "the place is in use already") ∷
     (3, codes "the call is of the other role") ∷
     (4, codes "the connection has failed") ∷
     (5, codes "there is no such field") ∷

@@ -171,7 +171,8 @@ pub extern "C" fn bj_encode(
     fields: &[BjField<'_>],
     block: &mut BjSpan,
 ) -> i32
-    ensures call { OnPlace result (EncodesFields (fields_given fields.now) result block.old block.new)
+    ensures call { OnPlace result
+        (EncodesFields (fields_given fields.now) result block.old block.new)
         encoder.old.held encoder.new.held }
     ensures unheld { encoder.old.held ≡ None → block.new ≡ block.old }
 {

@@ -12,9 +12,9 @@ use hpack::{Decoded, Fault};
 
 /// All went well.
 pub(crate) const OK: i32 = 0;
-/// The place holds no end.
+/// The place holds nothing.
 pub(crate) const EMPTY: i32 = -1;
-/// The place holds an end already.
+/// The place is in use already.
 pub(crate) const HELD: i32 = -2;
 /// It is a call of the other role: of a server at a client, or of a client at a server.
 pub(crate) const ROLE: i32 = -3;

@@ -133,7 +133,7 @@ impl Held {
 
 /// Copies octets of two slices, one after the other, as many as there is room for, and answers how
 /// many.
-fn copy_both(one: &[u8], two: &[u8], buffer: &mut [u8]) -> usize
+pub(crate) fn copy_both(one: &[u8], two: &[u8], buffer: &mut [u8]) -> usize
     ensures count { result ≡ min (length buffer.old) (length (one.now ++ two.now)) }
     ensures copied { buffer.new ≡ take result (one.now ++ two.now) ++ drop result buffer.old }
 {

@@ -13,7 +13,7 @@ use crate::place::BjEnd;
 use std::alloc::Global;
 
 /// 1 or 0.
-fn yes(set: bool) -> i32
+pub(crate) fn yes(set: bool) -> i32
     ensures { result ≡ truth set }
 {
     if set { 1 } else { 0 }

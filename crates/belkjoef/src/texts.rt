@@ -71,8 +71,8 @@ fn text_of_place(number: u32) -> &'static [u8]
 {
     match number {
         0 => b"no error\0",
-        1 => b"the place holds no end\0",
-        2 => b"the place holds an end already\0",
+        1 => b"the place holds nothing\0",
+        2 => b"the place is in use already\0",
         3 => b"the call is of the other role\0",
         4 => b"the connection has failed\0",
         5 => b"there is no such field\0",

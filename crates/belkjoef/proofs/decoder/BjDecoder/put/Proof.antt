@@ -95,7 +95,8 @@ put_spec 𝓤 𝓛 𝓜 𝓡 wired =
     nothing ! $ owned ! u64 _ (uint_Makes 𝓛 w64) holds_one _ (refl, lit< tt) $ fjoin ! $
     feq_i ! (List Val) (vptr lb lo ∷ []) _ refl $ fjoin ! $ feq_i ! (List Val) (V ∷ [])
     (V ∷ []) refl $ fjoin ! $
-    fpack ! (Valss (RawPtr ∷ u64 ∷ [])) (within (shape S) (block_ptr lb lo, (holds_one, tt)) (V ∷ []))
+    fpack ! (Valss (RawPtr ∷ u64 ∷ []))
+    (within (shape S) (block_ptr lb lo, (holds_one, tt)) (V ∷ []))
     (vptr lb lo ∷ [], (vint w64 holds_one ∷ [], tt)) $ fjoin ! $
     let h' : R.Denot = record { at = block_ptr lb lo; state = holds_one; held = Some d.value } in
     move ! (1 ∷ []) $ closes ! tt R h' (V ∷ []) b o $

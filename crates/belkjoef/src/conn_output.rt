@@ -1,0 +1,114 @@
+//! The output of a connection without the rules of messages.
+
+ghost use Rattle.std.specs.Prelude.{◌≡◌, None};
+ghost use Rattle.belkjoef.specs.Calls.{OnPlace};
+ghost use Rattle.belkjoef.specs.ConnOutput.{ConnCopiesOut, HoldsReadyConn, ConnFineIfReady};
+ghost use Rattle.belkjoef.specs.Conns.{DoesConn, DoesConnWith, ReadiesConn, ConsumesConn};
+ghost use Rattle.belkjoef.specs.Conns.{LendsConnOutput};
+ghost use Rattle.belkjoef.specs.Numbers.{answer_number, count_in, ok};
+
+use crate::conn::{BjConn, HeldConn};
+use crate::numbers::{EMPTY, OK, of_answer, of_count};
+use crate::output::{BjSpan, copy_both};
+use h2_ends::Refusal;
+use std::alloc::Global;
+
+// contract: c (own) A call of C's is that of the end in its place
+/// Makes the output ready to be written from where it lies.
+#[unsafe(no_mangle)]
+pub extern "C" fn bj_conn_ready(alloc: Global, conn: &mut BjConn) -> i32
+    ensures call { OnPlace result (DoesConn answer_number ReadiesConn result)
+        conn.old.held conn.new.held }
+    ensures ready { result ≡ ok → HoldsReadyConn conn.new.held }
+{
+    let Some(mut held) = conn.open(alloc) else {
+        return EMPTY;
+    };
+    let answer = held.conn.ready();
+    conn.keep(held);
+    of_answer(answer)
+}
+
+// contract: c (own) The output that waits is lent, or copied and taken away
+/// Lends the output that waits, in two parts, the first of which comes first.
+#[unsafe(no_mangle)]
+pub extern "C" fn bj_conn_waiting(
+    alloc: Global,
+    conn: &mut BjConn,
+    first: &mut BjSpan,
+    second: &mut BjSpan,
+) -> i32
+    ensures call { OnPlace result (LendsConnOutput result first.new second.new)
+        conn.old.held conn.new.held }
+    ensures unheld { conn.old.held ≡ None
+        → (first.new ≡ first.old) × (second.new ≡ second.old) }
+{
+    let Some(held) = conn.open(alloc) else {
+        return EMPTY;
+    };
+    let (one, two) = held.conn.waiting_octets();
+    first.say(one);
+    second.say(two);
+    conn.keep(held);
+    OK
+}
+
+// contract: c (own) A call of C's is that of the end in its place
+/// Takes octets of the output away, which were written, and says how many.
+#[unsafe(no_mangle)]
+pub extern "C" fn bj_conn_consume(
+    alloc: Global,
+    conn: &mut BjConn,
+    count: usize,
+    taken: &mut usize,
+) -> i32
+    ensures call { OnPlace result (DoesConnWith answer_number count_in (ConsumesConn count) result
+        taken.new) conn.old.held conn.new.held }
+    ensures unheld { conn.old.held ≡ None → taken.new ≡ 0 }
+    ensures room { ConnFineIfReady conn.old.held result }
+{
+    *taken = 0;
+    let Some(mut held) = conn.open(alloc) else {
+        return EMPTY;
+    };
+    let answer = held.conn.consume(count);
+    conn.keep(held);
+    of_count(answer, taken)
+}
+
+// contract: c (own) The output that waits is lent, or copied and taken away
+// rule: c (own) The output that waits is lent, or copied and taken away
+/// Copies octets of the output into a buffer of C's, and takes them away; says how many.
+#[unsafe(no_mangle)]
+pub extern "C" fn bj_conn_put_out(
+    alloc: Global,
+    conn: &mut BjConn,
+    buffer: &mut [u8],
+    count: &mut usize,
+) -> i32
+    ensures call { OnPlace result (DoesConnWith answer_number count_in
+        (ConnCopiesOut buffer.old buffer.new) result count.new) conn.old.held conn.new.held }
+    ensures unheld { conn.old.held ≡ None → (count.new ≡ 0) × (buffer.new ≡ buffer.old) }
+{
+    *count = 0;
+    let Some(mut held) = conn.open(alloc) else {
+        return EMPTY;
+    };
+    let answer = held.put_out(buffer);
+    conn.keep(held);
+    of_count(answer, count)
+}
+
+impl HeldConn {
+    /// Makes the output ready, copies what there is room for, and takes that away.
+    fn put_out(&mut self, buffer: &mut [u8]) -> Result<usize, Refusal>
+        ensures { ConnCopiesOut buffer.old buffer.new self.old.conn result self.new.conn }
+    {
+        if let Err(refusal) = self.conn.ready() {
+            return Err(refusal);
+        }
+        let (one, two) = self.conn.waiting_octets();
+        let count = copy_both(one, two, buffer);
+        self.conn.consume(count)
+    }
+}
