@@ -92,7 +92,7 @@ after the body";
 const HEADER: &str = "header";
 
 const HEADER_HELP: &str = r"A field of the request, whose name is sent in lower
-case; may be given several times";
+case and is not host; may be given several times";
 
 const REQUEST: &str = "request";
 
@@ -101,8 +101,8 @@ const REQUEST_HELP: &str = r"The request's method [default: GET, or POST with
 
 const DATA: &str = "data";
 
-const DATA_HELP: &str = r"The request's body, the octets as they are; it may
-not begin with @";
+const DATA_HELP: &str = r"The request's body, UTF-8 text as it is; it may not
+begin with @, and with - or = as --data=DATA";
 
 const FAIL: &str = "fail";
 
@@ -115,22 +115,23 @@ const AT_PORT_HELP: &str = r"The port where the URL names none, 1 to 65535";
 
 /// What `get` prints, how it ends, and an example.
 const FETCHED_AND_STATUSES: &str =
-    r"It asks for the URL with GET over a new connection, which begins with the
-preface: the server has to speak HTTP/2 without being asked (RFC 9113, section
-3.3). It prints the status with its phrase, `200 OK`, or the status alone where
-it has no phrase, and then the octets of the body as they are. Interim responses
-(1xx) aren't printed, nor are trailers without --include. It follows no
-redirection and has no clocks: it waits for a server that stays idle.
+    r"It asks for the URL over a new connection, which begins with the preface: the
+server has to speak HTTP/2 without being asked (RFC 9113, section 3.3). It
+prints the status with its phrase, `200 OK`, or the status alone where it has no
+phrase, and then the octets of the body as they are. Interim responses (1xx)
+aren't printed, nor are trailers without --include. It follows no redirection
+and has no clocks: it waits for a server that stays idle.
 
 The URL has the scheme http, a host, and a port of 1 to 65535, unless --port
 names one; a user's name is refused, and a fragment is dropped.
 
 Fields are sent in the order of the words, after those that name the method and
 the URL. No other is added, so no content-length: the end of the stream ends the
-body. A space right after the colon is no part of the value. With --include an
-octet of a field that is no printable ASCII, or a backslash, is printed as
-`\x00`, so that a server writes nothing to the terminal by its fields. Trailers
-stand after the body and a line end.
+body. A field host is refused, since the URL names the host. One space right
+after the colon is no part of the value; any other blank at its ends is refused.
+With --include an octet of a field that is no printable ASCII, or a backslash,
+is printed as `\x00`, so that a server writes nothing to the terminal by its
+fields. Trailers stand after the body and a line end.
 
 Exit status (the lines in backquotes are on standard error):
   0  a response has come, whatever its status without --fail

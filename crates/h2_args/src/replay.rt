@@ -97,14 +97,17 @@ Then, once the input has ended or the connection has failed:
   out OCTETS         all that this end sends, in hexadecimal: its opening and
                      its replies
 
-The rules of messages (section 8) are checked with --messages alone: the end is
-a client or a server of messages then, and a part of a message that breaks a
-rule is not handed out. This end resets its stream, and before the line of that
-stands
+The rules of messages are checked with --messages alone: M1 to M12 of
+docs/PROTOCOL.md, of section 8. CONNECT breaks one of them here, since it isn't
+supported; whether host and :authority agree, a user in them and :scheme aren't
+looked at. The end is a client or a server of messages then, and a part of a
+message that breaks a rule is not handed out. This end resets its stream, and
+before the line of that stands
   malformed ID RULE  the number and the name of the least rule that the part
                      breaks, as `M10 ConnectionField` (docs/PROTOCOL.md)
-A malformed message is no fault, so the status stays 0. Of a fault a hint says
-the reason, where no other hint is given.
+A malformed message is no fault, so the status stays 0; but the 1001st stream
+that this end resets is a fault, which stands in place of its line. Of a fault a
+hint says the reason, where no other hint is given.
 
 Exit status (the lines in backquotes are on standard error):
   0  the connection has not failed, wherever the input ends

@@ -1,7 +1,8 @@
 -- The request that the words after `get` ask for.
 use Rattle.std.specs.Prelude.{◌≡◌, ℕ, ◌==◌, Bool, true, false, List, [], ◌∷◌, ◌++◌, map, position}
 use Rattle.std.specs.Prelude.{codes, unwrap_or, is_some, Option, Some, None, if◌then◌else◌}
-use Rattle.std.specs.List.{list_all, before_first, after_first}
+use Rattle.std.specs.List.{list_all, list_any, before_first, after_first}
+use Rattle.std.specs.Str.{bytes_eq}
 use Rattle.std.specs.Char.{to_ascii_lowercase}
 use Rattle.hpack.specs.declared.types.field.Field.{Field}
 use Rattle.h2_message.specs.Messages.{SentMessage, broken_by_request, plain_field}
@@ -60,11 +61,18 @@ abbrev pub begins_with_at : List ℕ → Bool
 begins_with_at [] = false
 begins_with_at (octet ∷ octets) = octet == 64
 
--- The words ask for a request: each field is NAME:VALUE, the body doesn't begin with `@`, and the
--- request breaks no rule of messages (section 8).
+-- whether a field is named `host`: in a request of HTTP/2 that is `:authority`, which the URL gives,
+-- and the two must not differ (RFC 9113, section 8.3.1)
+-- rule: engines (own) The words of get make its request and say what is printed
+abbrev pub has_host : List Field → Bool
+has_host fields = list_any (λ field. bytes_eq field.name (codes "host")) fields
+
+-- The words ask for a request: each field is NAME:VALUE and none is `host`, the body doesn't begin
+-- with `@`, and the request breaks no rule of messages (section 8).
 -- rule: engines (own) The words of get make its request and say what is printed
 pub record IsAskable (words : GetWords) (location : Location) : Type 0 where
   pub fields : list_all has_colon words.fields ≡ true
+  pub host : has_host (request_asked words location).head ≡ false
   pub body : begins_with_at (body_asked words) ≡ false
   pub unbroken : broken_by_request (request_asked words location) ≡ None
 
@@ -80,13 +88,15 @@ AreRefusedWords words faults.NoColon = list_all has_colon words ≡ false
 AreRefusedWords words faults.Memory = Unit {0}
 AreRefusedWords words fault = ⊥
 
--- Why no request can be made: a word is no NAME:VALUE; the body begins with `@`; or the request
--- breaks a rule, this one first. Out of memory says nothing.
+-- Why no request can be made: a word is no NAME:VALUE; one is `host`; the body begins with `@`; or
+-- the request breaks a rule, this one first. Out of memory says nothing.
 -- rule: engines (own) The words of get make its request and say what is printed
 abbrev pub IsRefusedRequest : GetWords → Location → RequestFault → Type 0
 IsRefusedRequest words location faults.NoColon = list_all has_colon words.fields ≡ false
 IsRefusedRequest words location faults.AtSign =
     begins_with_at (body_asked words) ≡ true
+IsRefusedRequest words location faults.Host =
+    has_host (request_asked words location).head ≡ true
 IsRefusedRequest words location (faults.Malformed rule) =
     broken_by_request (request_asked words location) ≡ Some rule
 IsRefusedRequest words location faults.Memory = Unit {0}

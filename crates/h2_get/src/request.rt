@@ -6,7 +6,8 @@ ghost use Rattle.std.specs.List.{list_all};
 ghost use Rattle.h2_message.specs.Values.{message_value};
 ghost use Rattle.h2_args.specs.Words.{asked_by};
 ghost use Rattle.h2_get.specs.Requests.{AreRefusedWords, IsAskable, IsRefusedRequest, IsRefusedWord};
-ghost use Rattle.h2_get.specs.Requests.{field_of_word, has_colon, method_asked, request_asked};
+ghost use Rattle.h2_get.specs.Requests.{field_of_word, has_colon, has_host, method_asked};
+ghost use Rattle.h2_get.specs.Requests.{request_asked};
 ghost use Rattle.h2_get.specs.Requests.{begins_with_at, body_asked, is_colon, without_space};
 
 use h2_args::GetOptions;
@@ -24,6 +25,9 @@ pub enum RequestFault {
     /// The body begins with `@`.
     #[error("error: data that begin with @ are not taken")]
     AtSign,
+    /// A field is named `host`, which is `:authority` in the request (RFC 9113, section 8.3.1).
+    #[error("error: the URL names the host, so a field host is not taken")]
+    Host,
     /// The request breaks this rule (RFC 9113, section 8), the first one of several.
     #[error("N7 Refused")]
     Malformed(Malformed),
@@ -65,6 +69,9 @@ pub fn request_of(
     }
     let mut head = head_to(alloc, method_of(options).as_bytes(), location)?;
     add_fields(alloc, &mut head, &options.fields)?;
+    if has_host(&head) {
+        return Err(RequestFault::Host);
+    }
     let message = Message {
         head,
         body: Vec::from_slice(alloc, body)?,
@@ -106,6 +113,19 @@ fn begins_with_at(octets: &[u8]) -> bool
         [octet, ..] => *octet == b'@',
         [] => false,
     }
+}
+
+// rule: engines (own) The words of get make its request and say what is printed
+/// Whether a field is named `host`.
+fn has_host(fields: &[Field]) -> bool
+    ensures { result ≡ has_host fields.now }
+{
+    for field in fields {
+        if field.name.as_slice() == b"host".as_slice() {
+            return true;
+        }
+    }
+    false
 }
 
 // rule: engines (own) The words of get make its request and say what is printed

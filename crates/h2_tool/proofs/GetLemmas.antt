@@ -84,6 +84,15 @@ get_asks_nothing words before location requests.AtSign status names refused so =
       other = λ is. cc;
       unwritten = refl;
     }) so
+get_asks_nothing words before location requests.Host status names refused so =
+    request_refused words before status (record {
+      location = location;
+      names = names;
+      fault = requests.Host;
+      refused = refused;
+      other = λ is. cc;
+      unwritten = refl;
+    }) so
 get_asks_nothing words before location (requests.Malformed rule) status names refused so =
     request_refused words before status (record {
       location = location;
