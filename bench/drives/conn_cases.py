@@ -207,6 +207,8 @@ class Drive:
         self.changes()
         if self.end.failed is None:
             self.read_stream(chooser.stream())
+            if self.end.partial is not None:
+                self.read_block()
 
     def read_stream(self, number):
         """What is answered of a stream that is not active; of active ones `changes` says it."""
@@ -215,16 +217,27 @@ class Drive:
             self.command(f"owed {number}", ["0"])
             self.command(f"is_active {number}", ["false"])
 
+    def read_block(self):
+        end = self.end
+        is_open = end.failed is None and end.partial is not None
+        self.command("block_stream", [str(end.partial[0]) if is_open else "none"])
+        if is_open:
+            self.marks.reach("open block")
+
     def read_counts(self):
         end = self.end
         self.command("last_flow", [str(end.last_flow)])
         self.command("resets_received", [str(end.resets_read)])
         self.command("empty_frames_received", [str(end.empty_read)])
+        self.command("pings_received", [str(end.pings_read)])
+        self.command("settings_received", [str(end.settings_read)])
+        self.read_block()
         self.command("why", [end.why or "none"])
         if end.failed is None:
             self.command("peer_settings", [f"{end.window} {end.peer_frame}"])
         for count, mark in ((end.last_flow, "flow of the last data"), (end.resets_read, "resets counted"),
-                            (end.empty_read, "empty frames counted")):
+                            (end.empty_read, "empty frames counted"), (end.pings_read, "pings counted"),
+                            (end.settings_read > 1, "settings counted")):
             if count:
                 self.marks.reach(mark)
 

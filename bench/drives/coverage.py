@@ -13,7 +13,8 @@ stream update taken, unknown, too many resets, too much output, credit returned,
 credit returned later, frame size named, frame size lowered, frame too long, long frame sent, long block sent,
 long frame taken,
 refused with internal error, refused at a thousand, take after failure, partial frame, ended by a call,
-flow of the last data, resets counted, empty frames counted
+flow of the last data, resets counted, empty frames counted, pings counted, settings counted,
+open block
 """
 
 

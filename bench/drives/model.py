@@ -71,6 +71,7 @@ class Model:
         self.encoder, self.decoder = Encoder(), Decoder()
         self.partial = None  # the stream, the end flag and the octets of a block that has begun
         self.resets_read = self.empty_read = 0  # frames of the peer: RST_STREAM, and those that say nothing
+        self.pings_read = self.settings_read = 0  # those that are to be answered
         self.last_flow = 0  # what the last DATA took of the windows
         self.open_connection()
 
@@ -184,6 +185,8 @@ class Model:
         """Frames that cost the peer little are counted (section 10.5), and what DATA takes is known (6.1)."""
         self.resets_read += frame.kind == "reset"
         self.empty_read += frame.says_nothing()
+        self.pings_read += frame.kind == "ping" and not frame.ack
+        self.settings_read += frame.kind == "settings"
         if frame.kind == "data":
             self.last_flow = frame.flow()
 

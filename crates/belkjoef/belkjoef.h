@@ -421,6 +421,17 @@ BJ_CALL int bj_resets_received(bj_end *end, uint32_t *count);
  * more than that. It works after a failure too. */
 BJ_CALL int bj_empty_frames_received(bj_end *end, uint32_t *count);
 
+/* Says how many PING and SETTINGS frames of the peer's were read that are to be answered, those
+ * without ACK; 2^32 - 1 where it is more than that. Their answers that wait are limited with all
+ * output, the frames of a peer that reads them are not. It works after a failure too. */
+BJ_CALL int bj_pings_received(bj_end *end, uint32_t *count);
+BJ_CALL int bj_settings_received(bj_end *end, uint32_t *count);
+
+/* Says the stream of the field block that has begun and is not whole, between HEADERS without
+ * END_HEADERS and the CONTINUATION that ends them. BJ_NONE: no block is open, or the connection has
+ * failed. */
+BJ_CALL int bj_block_stream(bj_end *end, uint32_t *stream);
+
 /* Values of the peer's settings (RFC 9113, section 6.5.2). */
 typedef struct bj_settings {
   uint32_t initial_window; /* octets of a new stream's window */
@@ -646,6 +657,9 @@ BJ_CALL int bj_conn_why(bj_conn *conn, uint32_t *why);
 BJ_CALL int bj_conn_last_flow(bj_conn *conn, uint32_t *flow);
 BJ_CALL int bj_conn_resets_received(bj_conn *conn, uint32_t *count);
 BJ_CALL int bj_conn_empty_frames_received(bj_conn *conn, uint32_t *count);
+BJ_CALL int bj_conn_pings_received(bj_conn *conn, uint32_t *count);
+BJ_CALL int bj_conn_settings_received(bj_conn *conn, uint32_t *count);
+BJ_CALL int bj_conn_block_stream(bj_conn *conn, uint32_t *stream);
 BJ_CALL int bj_conn_peer_settings(bj_conn *conn, bj_settings *settings);
 BJ_CALL int bj_conn_room(bj_conn *conn, uint32_t stream, int64_t *room);
 BJ_CALL int bj_conn_owed(bj_conn *conn, uint32_t stream, uint32_t *owed);

@@ -70,7 +70,7 @@ static void in_parts(bj_end *client, bj_end *server, const bj_field *asks) {
   static const bj_field trailers[] = {BJ_FIELD("x-sum", "0")};
   struct message request = {0}, response = {0};
   bj_settings settings;
-  uint32_t stream, resets, empty;
+  uint32_t stream, resets, empty, pings, asked;
   size_t sent;
   for (int i = 0; i < 2; i++) {
     check("begin_request", bj_begin_request(client, asks, 4, &stream));
@@ -85,9 +85,14 @@ static void in_parts(bj_end *client, bj_end *server, const bj_field *asks) {
   want("the responses", response.whole, 1);
   check("resets_received", bj_resets_received(server, &resets));
   check("empty_frames_received", bj_empty_frames_received(server, &empty));
+  check("pings_received", bj_pings_received(server, &pings));
+  check("settings_received", bj_settings_received(server, &asked));
   check("peer_settings", bj_peer_settings(server, &settings));
   want("resets", (int)resets, 2);
   want("empty frames", (int)empty, 0);
+  want("PINGs", (int)pings, 0);
+  want("SETTINGS", (int)asked, 1);
+  want("an open block", bj_block_stream(server, &stream), BJ_NONE);
   want("the peer's greatest frame", (int)settings.max_frame, 16384);
 }
 

@@ -433,6 +433,33 @@ impl<Role> End<Role> {
         count
     }
 
+    /// How many PING frames of the peer's were read that are to be answered; [`u32::MAX`] where it
+    /// is more than that.
+    pub fn pings_received(&self) -> u32 {
+        let mut count = 0;
+        // SAFETY: the pointers are of the place and of a number.
+        unsafe { ffi::bj_pings_received(self.place(), &mut count) };
+        count
+    }
+
+    /// How many SETTINGS frames of the peer's were read that are to be acknowledged; [`u32::MAX`]
+    /// where it is more than that.
+    pub fn settings_received(&self) -> u32 {
+        let mut count = 0;
+        // SAFETY: the pointers are of the place and of a number.
+        unsafe { ffi::bj_settings_received(self.place(), &mut count) };
+        count
+    }
+
+    /// The stream of the field block that has begun and is not whole. `None` where no block is
+    /// open, and once the connection has failed.
+    pub fn block_stream(&self) -> Option<u32> {
+        let mut stream = 0;
+        // SAFETY: the pointers are of the place and of a number.
+        let answer = unsafe { ffi::bj_block_stream(self.place(), &mut stream) };
+        (answer == ffi::OK).then_some(stream)
+    }
+
     /// The values of the peer's settings that are in force: those that were read last, and those of
     /// the standard before. Once the connection has failed they say nothing.
     pub fn peer_settings(&self) -> PeerSettings {

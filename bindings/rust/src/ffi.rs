@@ -172,6 +172,9 @@ extern "C" {
     pub(crate) fn bj_last_flow(end: *mut End, flow: *mut u32) -> c_int;
     pub(crate) fn bj_resets_received(end: *mut End, count: *mut u32) -> c_int;
     pub(crate) fn bj_empty_frames_received(end: *mut End, count: *mut u32) -> c_int;
+    pub(crate) fn bj_pings_received(end: *mut End, count: *mut u32) -> c_int;
+    pub(crate) fn bj_settings_received(end: *mut End, count: *mut u32) -> c_int;
+    pub(crate) fn bj_block_stream(end: *mut End, stream: *mut u32) -> c_int;
     pub(crate) fn bj_peer_settings(end: *mut End, settings: *mut Settings) -> c_int;
     pub(crate) fn bj_room(end: *mut End, stream: u32, room: *mut i64) -> c_int;
     pub(crate) fn bj_owed(end: *mut End, stream: u32, owed: *mut u32) -> c_int;

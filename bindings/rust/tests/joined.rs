@@ -519,6 +519,11 @@ fn resets_and_empty_frames_are_counted() {
     pair.up();
     give(&mut pair.server, &[0, 0, 0, 0, 0, 0, 0, 0, id as u8]).unwrap(); // DATA without octets
     assert_eq!(pair.server.empty_frames_received(), 1);
+    assert_eq!((pair.server.pings_received(), pair.server.settings_received()), (0, 1));
+    give(&mut pair.server, b"\0\0\x08\x06\0\0\0\0\012345678").unwrap();
+    assert_eq!((pair.server.pings_received(), pair.server.block_stream()), (1, None));
+    give(&mut pair.server, b"\0\0\x01\x01\0\0\0\0\x63\x82").unwrap(); // HEADERS, more to come
+    assert_eq!(pair.server.block_stream(), Some(99));
     pair.server.fail(Code::ENHANCE_YOUR_CALM).unwrap();
     assert_eq!((pair.server.resets_received(), pair.server.empty_frames_received()), (3, 1));
 }

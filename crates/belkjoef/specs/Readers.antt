@@ -5,6 +5,7 @@ use Rattle.h2_frame.specs.Codes.{code_number}
 use Rattle.h2_spec_log.specs.Acts.{Values}
 use Rattle.h2_spec_log.specs.CallRules.{reader_room, reader_owed}
 use Rattle.h2_spec_log.specs.Counted.{counted, empty_among, resets_among}
+use Rattle.h2_spec_log.specs.Counted.{pings_among, settings_among}
 use Rattle.h2_spec_log.specs.Limits.{full_output}
 use Rattle.h2_spec_log.specs.Log.{Log, waiting, active, reader_next_live}
 use Rattle.h2_spec_log.specs.LogView.{log_view}
@@ -84,6 +85,12 @@ resets_read log = counted (resets_among log.frames)
 
 abbrev pub empty_frames_read : Log → ℕ
 empty_frames_read log = counted (empty_among log.frames)
+
+abbrev pub pings_read : Log → ℕ
+pings_read log = counted (pings_among log.frames)
+
+abbrev pub settings_read : Log → ℕ
+settings_read log = counted (settings_among log.frames)
 
 -- Unless the connection has failed, these are the values of the peer's settings that were read
 -- last, and those of the standard before.

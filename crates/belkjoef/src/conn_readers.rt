@@ -9,8 +9,7 @@ ghost use Rattle.belkjoef.specs.Conns.{due_of, conn_place, SaysWhyOfConn, SaysSe
 ghost use Rattle.belkjoef.specs.Conns.{OfReported};
 ghost use Rattle.belkjoef.specs.Lent.{LendsField, LendsFields};
 ghost use Rattle.belkjoef.specs.Readers.{truth, room_on, owed_at, next_above, failed_with};
-ghost use Rattle.belkjoef.specs.Readers.{active_on, flow_of_data, resets_read};
-ghost use Rattle.belkjoef.specs.Readers.{empty_frames_read};
+ghost use Rattle.belkjoef.specs.Readers.{active_on, flow_of_data};
 
 use crate::conn::{BjConn, HeldConn};
 use crate::fields::{BjLent, lend, lend_at};
@@ -110,42 +109,6 @@ pub extern "C" fn bj_conn_last_flow(alloc: Global, conn: &mut BjConn, flow: &mut
         return EMPTY;
     };
     *flow = held.conn.last_flow();
-    conn.keep(held);
-    OK
-}
-
-// contract: c (own) A reader says what the end in its place answers
-/// Says how many RST_STREAM frames of the peer's were read.
-#[unsafe(no_mangle)]
-pub extern "C" fn bj_conn_resets_received(alloc: Global, conn: &mut BjConn, count: &mut u32) -> i32
-    ensures call { OnPlace result (SaysOfConn (SaysConnLog resets_read) result count.new)
-        conn.old.held conn.new.held }
-    ensures unheld { conn.old.held ≡ None → count.new ≡ count.old }
-{
-    let Some(held) = conn.open(alloc) else {
-        return EMPTY;
-    };
-    *count = held.conn.resets_received();
-    conn.keep(held);
-    OK
-}
-
-// contract: c (own) A reader says what the end in its place answers
-/// Says how many frames without octets of the peer's were read that say nothing.
-#[unsafe(no_mangle)]
-pub extern "C" fn bj_conn_empty_frames_received(
-    alloc: Global,
-    conn: &mut BjConn,
-    count: &mut u32,
-) -> i32
-    ensures call { OnPlace result (SaysOfConn (SaysConnLog empty_frames_read) result count.new)
-        conn.old.held conn.new.held }
-    ensures unheld { conn.old.held ≡ None → count.new ≡ count.old }
-{
-    let Some(held) = conn.open(alloc) else {
-        return EMPTY;
-    };
-    *count = held.conn.empty_frames_received();
     conn.keep(held);
     OK
 }

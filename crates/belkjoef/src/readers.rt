@@ -5,7 +5,7 @@ ghost use Rattle.belkjoef.specs.Calls.{OnPlace, AnswersOfEnd, FindsInEnd, SaysOf
 ghost use Rattle.belkjoef.specs.Readers.{truth, AnswersLog, IsFull, IsDrained, AnswersQuiet};
 ghost use Rattle.belkjoef.specs.Readers.{SaysLog, room_on, owed_at, next_above, failed_with};
 ghost use Rattle.belkjoef.specs.Readers.{active_on, SaysUnsent, SaysMalformed, flow_of_data};
-ghost use Rattle.belkjoef.specs.Readers.{resets_read, empty_frames_read, SaysPeerSettings};
+ghost use Rattle.belkjoef.specs.Readers.{SaysPeerSettings};
 ghost use Rattle.belkjoef.specs.WhyNumbers.{SaysWhy};
 
 use crate::numbers::{EMPTY, NONE, OK};
@@ -253,40 +253,6 @@ pub extern "C" fn bj_last_malformed(
     };
     end.keep(held);
     answer
-}
-
-// contract: c (own) A reader says what the end in its place answers
-// rule: c (own) A reader says what the end in its place answers
-/// Says how many RST_STREAM frames of the peer's were read.
-#[unsafe(no_mangle)]
-pub extern "C" fn bj_resets_received(alloc: Global, end: &mut BjEnd, count: &mut u32) -> i32
-    ensures call { OnPlace result (SaysOfEnd (SaysLog resets_read) result count.new)
-        end.old.held end.new.held }
-    ensures unheld { end.old.held ≡ None → count.new ≡ count.old }
-{
-    let Some(held) = end.open(alloc) else {
-        return EMPTY;
-    };
-    *count = held.side.conn().resets_received();
-    end.keep(held);
-    OK
-}
-
-// contract: c (own) A reader says what the end in its place answers
-// rule: c (own) A reader says what the end in its place answers
-/// Says how many frames without octets of the peer's were read that say nothing.
-#[unsafe(no_mangle)]
-pub extern "C" fn bj_empty_frames_received(alloc: Global, end: &mut BjEnd, count: &mut u32) -> i32
-    ensures call { OnPlace result (SaysOfEnd (SaysLog empty_frames_read) result count.new)
-        end.old.held end.new.held }
-    ensures unheld { end.old.held ≡ None → count.new ≡ count.old }
-{
-    let Some(held) = end.open(alloc) else {
-        return EMPTY;
-    };
-    *count = held.side.conn().empty_frames_received();
-    end.keep(held);
-    OK
 }
 
 /// `bj_settings`: the values of the peer's settings that are in force (RFC 9113, section

@@ -16,8 +16,9 @@
 //! - `out`: the frames of all output; `drop out` and `drop out N`: it is taken away, and not shown.
 //! - The readers: `waiting`, `lent` (the frames of the queued output), `held`, `place`, `due`,
 //!   `failed`, `why`, `next_number`, `room ID`, `owed ID`, `next_live ID`, `is_active ID`,
-//!   `refusal_to_open FIELDS`, `last_flow`, `resets_received`, `empty_frames_received`, and
-//!   `peer_settings` (the initial window and the greatest frame).
+//!   `refusal_to_open FIELDS`, `last_flow`, `resets_received`, `empty_frames_received`,
+//!   `pings_received`, `settings_received`, `block_stream`, and `peer_settings` (the initial window
+//!   and the greatest frame).
 //! - `changes`: which of these numbers have changed since the last such command, or, at the first
 //!   one, all: `waiting N`, `held N`, `due N`, `room N`; `room ID N` and `owed ID N` of each active
 //!   stream; `live N`, how many of these there are, and `sum N`, the sum of their numbers.
@@ -178,6 +179,9 @@ fn read_frames_of_peer(conn: &Conn, name: &str, text: &mut Text) -> bool {
         "last_flow" => add_value(text, conn.last_flow()),
         "resets_received" => add_value(text, conn.resets_received()),
         "empty_frames_received" => add_value(text, conn.empty_frames_received()),
+        "pings_received" => add_value(text, conn.pings_received()),
+        "settings_received" => add_value(text, conn.settings_received()),
+        "block_stream" => add_option(text, conn.block_stream()),
         "peer_settings" => {
             let settings = conn.peer_settings();
             write!(

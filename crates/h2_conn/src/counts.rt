@@ -3,7 +3,8 @@
 ghost use Rattle.std.specs.Prelude.{◌≡◌, List, [], ◌∷◌, ◌++◌, None};
 ghost use Rattle.h2_frame.specs.Frames.{Frame, frame_of};
 ghost use Rattle.h2_frame.specs.Encoding.{refusal};
-ghost use Rattle.h2_spec_log.specs.Counted.{is_reset_frame, is_empty_frame};
+ghost use Rattle.h2_spec_log.specs.Counted.{is_reset_frame, is_empty_frame, is_asking_ping};
+ghost use Rattle.h2_spec_log.specs.Counted.{is_asking_settings};
 ghost use Rattle.h2_conn.specs.Counts.{CountsFrames, flow_after};
 
 use h2_frame::FrameRef;
@@ -17,6 +18,10 @@ pub(crate) struct Counts {
     pub(crate) resets: u32,
     /// Frames that say nothing.
     pub(crate) empty: u32,
+    /// PING that is to be answered.
+    pub(crate) pings: u32,
+    /// SETTINGS that are to be acknowledged.
+    pub(crate) settings: u32,
     /// The octets of the payload of the last DATA, 0 before any.
     pub(crate) flow: u32,
 }
@@ -29,11 +34,13 @@ impl Counts {
         Counts {
             resets: 0,
             empty: 0,
+            pings: 0,
+            settings: 0,
             flow: 0,
         }
     }
 
-    // rule: 10.5 (own) The resets and the empty frames that a peer has sent are counted
+    // rule: 10.5 (own) Frames that cost a peer little are counted
     /// The counts once this frame has come, too.
     pub(crate) fn with(self, frame: FrameRef) -> Counts
         requires good { refusal (frame_of frame) ≡ None }
@@ -43,6 +50,10 @@ impl Counts {
         Counts {
             resets: self.resets.saturating_add(u32::from(is_reset(frame))),
             empty: self.empty.saturating_add(u32::from(says_nothing(frame))),
+            pings: self.pings.saturating_add(u32::from(is_asking_ping(frame))),
+            settings: self
+                .settings
+                .saturating_add(u32::from(is_asking_settings(frame))),
             flow: flow_after(self.flow, frame),
         }
     }
@@ -72,6 +83,20 @@ fn is_reset(frame: FrameRef) -> bool
     ensures { result ≡ is_reset_frame (frame_of frame.entry) }
 {
     matches!(frame, FrameRef::Reset { .. })
+}
+
+/// Whether it is PING that is to be answered.
+fn is_asking_ping(frame: FrameRef) -> bool
+    ensures { result ≡ is_asking_ping (frame_of frame.entry) }
+{
+    matches!(frame, FrameRef::Ping { ack: false, .. })
+}
+
+/// Whether it is SETTINGS that are to be acknowledged.
+fn is_asking_settings(frame: FrameRef) -> bool
+    ensures { result ≡ is_asking_settings (frame_of frame.entry) }
+{
+    matches!(frame, FrameRef::Settings { ack: false, .. })
 }
 
 /// Whether it says nothing: DATA that doesn't end its stream, or a part of a field block that

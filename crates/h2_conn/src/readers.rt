@@ -5,7 +5,9 @@ ghost use Rattle.h2_wire.specs.Cutter.{saturated};
 ghost use Rattle.hpack.specs.Written.{AreOctets};
 ghost use Rattle.h2_spec_log.specs.Acts.{Values, Open};
 ghost use Rattle.h2_spec_log.specs.Counted.{counted, empty_among, resets_among};
+ghost use Rattle.h2_spec_log.specs.Counted.{pings_among, settings_among};
 ghost use Rattle.h2_spec_log.specs.Log.{Log, active, waiting, reader_held, reader_next_live};
+ghost use Rattle.h2_spec_log.specs.Log.{reader_block_stream};
 ghost use Rattle.h2_spec_log.specs.LogView.{log_view};
 ghost use Rattle.h2_spec_log.specs.Settings.{value_read};
 ghost use Rattle.h2_spec_log.specs.Windows.{first_window};
@@ -177,7 +179,7 @@ impl Conn {
         self.inner.counts.flow
     }
 
-    // contract: 10.5 (own) The resets and the empty frames that a peer has sent are counted
+    // contract: 10.5 (own) Frames that cost a peer little are counted
     /// How many RST_STREAM frames (section 6.4) of the peer's were read; the greatest number of 32
     /// bits where it is more than that. One whose head or payload is at fault is not among them.
     /// This end sets no limit on them: a layer above may end the connection ([`Conn::fail`]) where
@@ -190,7 +192,7 @@ impl Conn {
         self.inner.counts.resets
     }
 
-    // contract: 10.5 (own) The resets and the empty frames that a peer has sent are counted
+    // contract: 10.5 (own) Frames that cost a peer little are counted
     /// How many frames without octets of the peer's were read that say nothing (section 10.5):
     /// DATA, padded or not, without END_STREAM, and HEADERS and CONTINUATION without END_HEADERS;
     /// the greatest number of 32 bits where it is more than that. PRIORITY, and frames of unknown
@@ -200,6 +202,45 @@ impl Conn {
             → result ≡ counted (empty_among log.frames) }
     {
         self.inner.counts.empty
+    }
+
+    // contract: 10.5 (own) Frames that cost a peer little are counted
+    /// How many PING frames of the peer's were read that are to be answered (section 6.7): those
+    /// without ACK; the greatest number of 32 bits where it is more than that. Each costs this end
+    /// an answer: the answers that wait are limited (262,144 octets with all other output), the
+    /// PINGs of a peer that reads them are not (section 10.5). It works after a failure too, and
+    /// has no errors.
+    pub fn pings_received(&self) -> u32
+        ensures { (values : Values) (log : Log) → ConnRepresents values self.now log
+            → result ≡ counted (pings_among log.frames) }
+    {
+        self.inner.counts.pings
+    }
+
+    // contract: 10.5 (own) Frames that cost a peer little are counted
+    /// How many SETTINGS frames of the peer's were read that are to be acknowledged (section 6.5):
+    /// those without ACK; the greatest number of 32 bits where it is more than that. The first is
+    /// among them. It works after a failure too, and has no errors.
+    pub fn settings_received(&self) -> u32
+        ensures { (values : Values) (log : Log) → ConnRepresents values self.now log
+            → result ≡ counted (settings_among log.frames) }
+    {
+        self.inner.counts.settings
+    }
+
+    // contract: 4.3 (own) A gatherer says what it holds of a block, and if it is inside one
+    /// The stream of the field block that has begun and is not whole (section 4.3): HEADERS without
+    /// END_HEADERS have come, and the CONTINUATION that ends them has not. Nothing else may come
+    /// meanwhile, so a layer with a clock may limit how long that lasts. `None` where no block is
+    /// open, and once the connection has failed. It has no errors.
+    pub fn block_stream(&self) -> Option<u32>
+        ensures { (values : Values) (log : Log) → ConnRepresents values self.now log
+            → result ≡ reader_block_stream log }
+    {
+        if self.inner.end.failed().is_some() {
+            return None;
+        }
+        self.inner.end.block_stream()
     }
 
     // rule: calls (own) An end lends its output, and says the place of a fault

@@ -2,6 +2,7 @@
 -- from it for whoever asks.
 use Rattle.std.specs.Prelude.{ℕ, ◌+◌, ◌-◌, ◌^◌, ◌==◌, nat_lt, ◌||◌, ◌&&◌, min, max, Bool, false}
 use Rattle.std.specs.Prelude.{if◌then◌else◌, ℤ, List, [], ◌∷◌, length, Option, Some, None, is_some}
+use Rattle.std.specs.Prelude.{option_map}
 use Rattle.std.specs.List.{list_any}
 use Rattle.hpack.specs.Tables.{Entries}
 use Rattle.hpack.specs.Lists.{EncoderState}
@@ -192,10 +193,14 @@ unfoldable pub next_active : Log → ℕ → ℕ
 next_active log id = least_block (λ j. active log j && nat_lt id j)
     (openings log.role log.received log.sent)
 
--- The readers that a view doesn't have: the octets of a partial frame, and the next active stream.
--- After a failure they answer 0 and nothing.
+-- The readers that a view doesn't have: the octets of a partial frame, the stream of the field block
+-- that has begun, and the next active stream. After a failure they answer 0 and nothing.
 abbrev pub reader_held : Log → ℕ
 reader_held log = if is_some log.failed then 0 else length log.unparsed
+
+abbrev pub reader_block_stream : Log → Option ℕ
+reader_block_stream log = if is_some log.failed then None else option_map (λ begun. begun.stream)
+    log.begun
 
 abbrev pub reader_next_live : Log → ℕ → Option ℕ
 reader_next_live log id = if is_some log.failed || next_active log id == 0 then None else Some

@@ -3,10 +3,11 @@ use Rattle.h2_spec_log.proofs.Names.{None, Some, [], codes, false, map, negsuc, 
 use Rattle.h2_spec_log.proofs.Names.{NoError, Count, Done, PutOut, Refuse, Release, Log, waiting}
 use Rattle.h2_spec_log.proofs.Names.{with_call, log_view}
 use Rattle.h2_spec_log.specs.CallRules.{reader_due, reader_owed, reader_room}
-use Rattle.h2_spec_log.specs.Log.{reader_held, reader_next_live}
+use Rattle.h2_spec_log.specs.Log.{reader_held, reader_next_live, reader_block_stream}
 use Rattle.h2_spec_log.specs.LogSteps.{took_part}
 use Rattle.h2_spec_log.proofs.Computing.{computing}
-use Rattle.h2_spec_log.proofs.examples.Blocks.{resetting_server}
+use Rattle.h2_spec_log.proofs.examples.Blocks.{resetting_server, begun_server, longer_server}
+use Rattle.h2_spec_log.proofs.examples.Blocks.{server_with_three_frames}
 use Rattle.h2_spec_log.proofs.examples.Credit.{emptied_client, held_client}
 use Rattle.h2_spec_log.proofs.examples.Ends.{client_with_two, server_with_body}
 use Rattle.h2_spec_log.proofs.examples.Octets.{octets}
@@ -29,6 +30,15 @@ octets_held :
     ≡ 0 ∷ 4 ∷ 0 ∷ []
 unfolding computing
 octets_held = refl
+
+-- `block_stream` answers the stream of a block from the frame that begins it to the one that ends
+-- it, and nothing after a failure.
+open_blocks_seen :
+    map reader_block_stream (server_with_part ∷ begun_server ∷ longer_server
+    ∷ server_with_three_frames ∷ with_call longer_server (Refuse 1 2) Done ∷ [])
+    ≡ None ∷ Some 1 ∷ Some 1 ∷ None ∷ None ∷ []
+unfolding computing
+open_blocks_seen = refl
 
 -- `room` answers the window of the connection, or that of an active stream; nothing after a
 -- failure.

@@ -9,6 +9,8 @@ pub returns : goal.returns
 returns c = λ frames were. record {
   resets = grind (arith, common_steps);
   empty = grind (arith, common_steps);
+  pings = grind (arith, common_steps);
+  settings = grind (arith, common_steps);
   flow = c.flow_after.ensures
       ∙ ap (λ (n : ℕ). flow_after n (frame_of c.args.frame)) were.flow
       ∙ sym (flow_one_more 0 frames (frame_of c.args.frame));
