@@ -7,7 +7,8 @@ _h2() {
         case "${COMP_WORDS[1]} $before" in
             'show --from') words='client server' ;;
             'show --max-frame') words='16384 65536 1048576' ;;
-            'show '*) words='--hex --from --max-frame --follow --help' ;;
+            'show --color') words='always never' ;;
+            'show '*) words='--hex --from --max-frame --follow --file --names --offsets --color --json --help' ;;
             'replay --as') words='client server' ;;
             'replay '*) words='--hex --as --messages --help' ;;
             'serve '*) words='--help' ;;

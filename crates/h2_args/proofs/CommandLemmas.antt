@@ -3,22 +3,28 @@ use Rattle.h2_args.proofs.Names.{◌≡◌, ◌<◌, refl, arith, codes, true, �
 use Rattle.h2_args.proofs.Names.{Rule, follow_app, get_app, loop_app, number_option_rule, number_rule}
 use Rattle.h2_args.proofs.Names.{replay_app, required_rule, serve_app, show_app}
 use Rattle.std.proofs.Common.{lit<, zero, suc}
-use Rattle.h2_args.specs.Commands.{SideNames}
+use Rattle.h2_args.specs.Commands.{ShowNames, SideNames}
 use Rattle.h2_args.proofs.RequiredLemmas.{IsAlone, IsNamedAt, IsRequiredAt}
 
-pub show_is_alone : (names : SideNames) → IsAlone (show_app names)
+pub show_is_alone : (names : ShowNames) → IsAlone (show_app names)
 show_is_alone names = record { ready = refl; leaves = refl; free = refl; negates = refl }
 
 -- the third argument of `show` alone is its limit of payloads
-only_limit : (names : SideNames) (j : ℕ) (d : Rule) → j < 4
+only_limit : (names : ShowNames) (j : ℕ) (d : Rule) → j < 9
     → bytes_eq (slice_index_or (show_app names).top.rules j d).id (codes "max-frame") ≡ true → j ≡ 2
 only_limit names zero d lt same = cc
 only_limit names (suc zero) d lt same = cc
 only_limit names (suc (suc zero)) d lt same = refl
 only_limit names (suc (suc (suc zero))) d lt same = cc
-only_limit names (suc (suc (suc (suc j)))) d lt same = absurd (omega arith)
+only_limit names (suc (suc (suc (suc zero)))) d lt same = cc
+only_limit names (suc (suc (suc (suc (suc zero))))) d lt same = cc
+only_limit names (suc (suc (suc (suc (suc (suc zero)))))) d lt same = cc
+only_limit names (suc (suc (suc (suc (suc (suc (suc zero))))))) d lt same = cc
+only_limit names (suc (suc (suc (suc (suc (suc (suc (suc zero)))))))) d lt same = cc
+only_limit names (suc (suc (suc (suc (suc (suc (suc (suc (suc j))))))))) d lt same =
+    absurd (omega arith)
 
-pub show_names_limit : (names : SideNames)
+pub show_names_limit : (names : ShowNames)
     → IsNamedAt (show_app names) 2 (number_option_rule (codes "max-frame") 16384 1048576)
 show_names_limit names = record {
   inside = lit< tt;

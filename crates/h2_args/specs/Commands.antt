@@ -58,17 +58,67 @@ abbrev pub follow_rule : Rule
 follow_rule =
     record (new_rule (codes "follow")) { long = Some (codes "follow"); action = Some SetTrue }
 
+-- a flag without a letter
+abbrev pub flag_rule : Text → Rule
+flag_rule name = record (new_rule name) { long = Some name; action = Some SetTrue }
+
+-- the words that say when there are colors
+abbrev pub AreColorWords : SideNames → Type 0
+AreColorWords names = map (λ name. name.now) names.now ≡ codes "always" ∷ codes "never" ∷ []
+
+-- these words where they stand at no place in memory
+abbrev pub color_words : SideNames
+color_words = at_no_place (at_no_place (codes "always") ∷ at_no_place (codes "never") ∷ [])
+
+-- the option of colors
+-- rule: show (own) The words choose names, places, colors and JSON
+abbrev pub color_rule : SideNames → Rule
+color_rule names = record (new_rule (codes "color")) {
+  long = Some (codes "color");
+  value_names = 1;
+  parser = Some (Names names);
+}
+
+-- the rule is that of the option of colors
+abbrev pub IsColorRule : Rule → Type 0
+IsColorRule rule = (names : SideNames) × AreColorWords names × (rule ≡ color_rule names)
+
+-- an option whose value is any text, without a letter
+abbrev pub file_rule : Rule
+file_rule = record (new_rule (codes "file")) { long = Some (codes "file"); value_names = 1 }
+
+-- The sides, and the words of colors, as the parsers of `show` lend them.
+abbrev pub ShowNames : Type 0
+ShowNames = SideNames × SideNames
+
+abbrev pub AreShowNames : ShowNames → Type 0
+AreShowNames names = AreSides names.0 × AreColorWords names.1
+
+abbrev pub show_names : ShowNames
+show_names = (sides, color_words)
+
 -- `show [--hex] [--from SIDE] [--max-frame N]`, of the client where no side is given; the number is
 -- from 16,384 to 1,048,576. Words with `--follow` are not of this command but of `follow_app`: it
 -- has the flag for its help.
 -- rule: show (own) The words choose the end and hexadecimal
 -- rule: show (own) The words choose the limit of payloads
-abbrev pub show_app : SideNames → App
-show_app names = with_rule
+abbrev pub shown_input_app : SideNames → App
+shown_input_app names = with_rule
     (with_rule
     (with_rule (with_rule (named_app (codes "show")) hex_rule)
     (side_rule (codes "from") (codes "client") names))
     (number_option_rule (codes "max-frame") 16384 1048576)) follow_rule
+
+-- `show [--file FILE] [--names] [--offsets] [--color WHEN] [--json]` beside these
+-- rule: show (own) The words choose names, places, colors and JSON
+-- rule: show (own) With --file the input is that of a file
+abbrev pub show_app : ShowNames → App
+show_app names = with_rule
+    (with_rule
+    (with_rule
+    (with_rule (with_rule (shown_input_app names.0) file_rule) (flag_rule (codes "names")))
+    (flag_rule (codes "offsets")))
+    (color_rule names.1)) (flag_rule (codes "json"))
 
 -- `show --follow [--max-frame N]`
 -- rule: follow (own) The word --follow excludes --hex and --from
@@ -78,7 +128,11 @@ follow_app = with_rule (with_rule (named_app (codes "show")) follow_rule)
 
 -- the command is `show`
 abbrev pub IsShowCommand : App → Type 0
-IsShowCommand a = (names : SideNames) × AreSides names × (a ≡ show_app names)
+IsShowCommand a = (names : ShowNames) × AreShowNames names × (a ≡ show_app names)
+
+-- the command is `show` with its first options
+abbrev pub IsShownInputCommand : App → Type 0
+IsShownInputCommand a = (names : SideNames) × AreSides names × (a ≡ shown_input_app names)
 
 -- the flag `--messages`
 abbrev pub messages_rule : Rule
@@ -115,10 +169,6 @@ number_rule name least most = with_numbers (required_rule name) (Signed (pos lea
 abbrev pub serve_app : App
 serve_app = with_rule (with_rule (named_app (codes "serve")) (number_rule (codes "PORT") 1 65535))
     (number_rule (codes "COUNT") 1 65535)
-
--- a flag without a letter
-abbrev pub flag_rule : Text → Rule
-flag_rule name = record (new_rule name) { long = Some name; action = Some SetTrue }
 
 -- the flag `--include`, or `-i`
 abbrev pub include_rule : Rule
@@ -167,12 +217,12 @@ bare_program = on_top (λ s. record s { subcommand_required = true; arg_required
     named_program
 
 -- the program with its commands
-abbrev pub program_app : SideNames → SideNames → App
+abbrev pub program_app : ShowNames → SideNames → App
 program_app shown replayed = with_subcommand (with_subcommand (with_subcommand (with_subcommand
     (with_subcommand bare_program (show_app shown).top) (replay_app replayed).top) serve_app.top)
     get_app.top) loop_app.top
 
 -- the command is the program with its commands
 abbrev pub IsProgram : App → Type 0
-IsProgram a = (shown replayed : SideNames) × AreSides shown × AreSides replayed
+IsProgram a = (shown : ShowNames) × (replayed : SideNames) × AreShowNames shown × AreSides replayed
     × (a ≡ program_app shown replayed)

@@ -1,5 +1,5 @@
 -- What the words after a command's name give.
-use Rattle.std.specs.Prelude.{◌≡◌, ℕ, Bool, false, List, Option, Some, None, []}
+use Rattle.std.specs.Prelude.{◌≡◌, ℕ, Bool, true, false, List, Option, Some, None, []}
 use Rattle.std.specs.Prelude.{if◌then◌else◌, codes, map, option_map, unwrap_or}
 use Rattle.std.specs.List.{list_any}
 use Rattle.std.specs.Str.{bytes_eq}
@@ -13,7 +13,11 @@ use Rattle.h2_show.specs.declared.options.Side.TheVariants.{Client, Server}
 use Rattle.h2_events.specs.declared.options.ReplayOptions.{ReplayOptions}
 use Rattle.h2_spec_log.specs.declared.role.Role.TheVariants as role
 use Rattle.h2_follow.specs.declared.follow.FollowOptions.{FollowOptions}
+use Rattle.h2_show.specs.declared.options.Style.{Style}
+use Rattle.h2_show.specs.declared.options.Style.TheVariants.{Plain, Text as Marked, Json}
 use Rattle.h2_args.specs.Commands.{AreSides, SideNames, program_app, replay_app, show_app}
+use Rattle.h2_args.specs.Commands.{AreShowNames, ShowNames}
+use Rattle.h2_args.specs.declared.show.ShowWords.{ShowWords}
 use Rattle.h2_args.specs.Commands.{follow_app, serve_app, get_app, loop_app}
 use Rattle.h2_args.specs.declared.get.GetOptions.{GetOptions}
 use Rattle.h2_args.specs.declared.sockets.ServeOptions.{ServeOptions}
@@ -38,6 +42,23 @@ abbrev pub number_or : ℕ → Option Text → ℕ
 number_or default (Some text) = digits_value 10 (without_leading_plus text)
 number_or default None = default
 
+-- How lines are printed, by what the matches of `show` say: JSON has names and places always, and
+-- no colors, whatever else is asked for.
+-- rule: show (own) The words choose names, places, colors and JSON
+abbrev pub style_of : (json names places colors : Bool) → Style
+style_of true names places colors = Json
+style_of false true places colors =
+    Marked (record { names = true; places = places; colors = colors })
+style_of false false true colors =
+    Marked (record { names = false; places = true; colors = colors })
+style_of false false false true = Marked (record { names = false; places = false; colors = true })
+style_of false false false false = Plain
+
+abbrev pub style_in : List Row → Style
+style_in rows = style_of (is_set (one_of (codes "json") rows)) (is_set (one_of (codes "names") rows))
+    (is_set (one_of (codes "offsets") rows))
+    (has_value (codes "always") (first_of (codes "color") rows))
+
 -- What the matches of `show` say. Payloads have at most 16,384 octets where no number is given.
 -- rule: show (own) The words choose the limit of payloads
 abbrev pub show_options_in : List Row → ShowOptions
@@ -45,28 +66,53 @@ show_options_in rows = record {
   hex = is_set (one_of (codes "hex") rows);
   from = if has_value (codes "server") (first_of (codes "from") rows) then Server else Client;
   max_frame = number_or 16384 (one_of (codes "max-frame") rows);
+  style = style_in rows;
 }
 
--- The options that the words after `show` give, if they have no fault.
+-- the file that is read, where the value names one: `-` is standard input
+-- rule: show (own) With --file the input is that of a file
+abbrev pub file_of : Option Text → Option Text
+file_of None = None
+file_of (Some text) = if bytes_eq text (codes "-") then None else Some text
+
+-- What the words after `show` ask for: how the input is shown, and the file that has it, where it is
+-- not standard input.
+-- rule: show (own) With --file the input is that of a file
+pub record ShowAsked : Type 0 where
+  pub options : ShowOptions
+  pub file : Option Text
+
+abbrev pub show_asked_in : List Row → ShowAsked
+show_asked_in rows = record {
+  options = show_options_in rows;
+  file = file_of (first_of (codes "file") rows);
+}
+
+-- What the words after `show` ask for, if they have no fault.
 -- rule: show (own) The words choose the end and hexadecimal
-abbrev pub show_options_of : SideNames → List Text → Option ShowOptions
-show_options_of names = given_by (show_app names) show_options_in
+abbrev pub show_asked_of : ShowNames → List Text → Option ShowAsked
+show_asked_of names = given_by (show_app names) show_asked_in
 
 -- the kinds of error that the words after `show` may have
 -- rule: show (own) The words choose the end and hexadecimal
-abbrev pub show_faults : SideNames → List Text → Kinds
+abbrev pub show_faults : ShowNames → List Text → Kinds
 show_faults names = fault_of (show_app names)
 
--- the words after `show` give these options
+-- the words after `show` ask for this
 -- rule: show (own) The words choose the end and hexadecimal
-abbrev pub ShowWordsGive : List Text → ShowOptions → Type 0
-ShowWordsGive words options =
-    (names : SideNames) × AreSides names × (show_options_of names words ≡ Some options)
+abbrev pub ShowWordsAsk : List Text → ShowAsked → Type 0
+ShowWordsAsk words asked =
+    (names : ShowNames) × AreShowNames names × (show_asked_of names words ≡ Some asked)
+
+-- what words of the code ask for
+abbrev pub show_asked_by : ShowWords → ShowAsked
+show_asked_by asked =
+    record { options = asked.options; file = option_map (λ file. file.now) asked.file }
 
 -- the words after `show` have a fault of the error's kind, or memory ran out
 abbrev pub ShowWordsFail : List Text → Error → Type 0
 ShowWordsFail words error =
-    (names : SideNames) × AreSides names × HasKind (show_faults names words) error
+    (names : ShowNames) × AreShowNames names × HasKind (show_faults names words) error
 
 -- Whether one of the words is this one.
 abbrev pub has_word : List Text → Text → Bool
@@ -204,15 +250,17 @@ abbrev pub loop_faults : List Text → Kinds
 loop_faults = fault_of loop_app
 
 -- the kinds of error that the words of the program may have
-abbrev pub program_faults : SideNames → SideNames → List Text → Kinds
+abbrev pub program_faults : ShowNames → SideNames → List Text → Kinds
 program_faults shown replayed = fault_of (program_app shown replayed)
 
 -- the words of the program have no fault
 abbrev pub ProgramWordsPass : List Text → Type 0
-ProgramWordsPass words = (shown replayed : SideNames) × AreSides shown × AreSides replayed
+ProgramWordsPass words = (shown : ShowNames) × (replayed : SideNames) × AreShowNames shown
+    × AreSides replayed
     × (program_faults shown replayed words ≡ [])
 
 -- the words of the program have a fault of the error's kind, or memory ran out
 abbrev pub ProgramWordsFail : List Text → Error → Type 0
-ProgramWordsFail words error = (shown replayed : SideNames) × AreSides shown × AreSides replayed
+ProgramWordsFail words error = (shown : ShowNames) × (replayed : SideNames)
+    × AreShowNames shown × AreSides replayed
     × HasKind (program_faults shown replayed words) error

@@ -3,11 +3,11 @@
 ghost use Rattle.std.specs.Prelude.{◌≡◌, ◌≤◌, IfErr, IfOk, IfSome, codes, false, map, pos, Some};
 ghost use Rattle.std.specs.Prelude.{[], string_bytes, unwrap_or};
 ghost use Rattle.clap.specs.Words.{HasKind, all_of, app_of, found_of, rows_of, rule_of};
-ghost use Rattle.h2_args.specs.Commands.{flag_rule, get_app, header_rule, include_rule};
+ghost use Rattle.h2_args.specs.Commands.{get_app, header_rule, include_rule};
 ghost use Rattle.h2_args.specs.Commands.{number_option_rule, text_option_rule, url_and_print_app};
 ghost use Rattle.h2_args.specs.Words.{asked_by, get_faults, get_words_of};
 
-use crate::options::{CommandText, is_set, named_command};
+use crate::options::{CommandText, flag_arg, is_set, named_command};
 use crate::sockets::required_arg;
 use clap::builder::ValueParser;
 use clap::{Arg, ArgAction, ArgMatches, Command, Error, value_parser};
@@ -157,17 +157,6 @@ Example, beside `h2 serve 9001 2`:
   200 OK
   POST /a
   hello";
-
-// A flag.
-fn flag_arg<'a>(alloc: Global, name: &'a str, help: &'a str) -> Arg<'a>
-    ensures rule { rule_of result ≡ flag_rule name.entry.now }
-    ensures local { result.global ≡ false }
-{
-    Arg::new(alloc, name)
-        .long(name)
-        .action(ArgAction::SetTrue)
-        .help(help)
-}
 
 // An option whose value is any text.
 fn text_arg<'a>(

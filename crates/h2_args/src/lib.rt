@@ -18,5 +18,5 @@ pub use follow::{asks_follow, follow_args};
 pub use get::{GetOptions, get_args};
 pub use program::no_command;
 pub use replay::{asks_messages, replay_args};
-pub use show::show_args;
+pub use show::{ShowWords, show_args};
 pub use sockets::{MOST_POSTED, ServeOptions, loop_args, serve_args};

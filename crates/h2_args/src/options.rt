@@ -2,7 +2,7 @@
 
 ghost use Rattle.std.specs.Prelude.{◌≡◌, IfOk, false, map, string_bytes};
 ghost use Rattle.clap.specs.Words.{app_of, first_of, found_of, one_of, rows_of, rule_of};
-ghost use Rattle.h2_args.specs.Commands.{IsSideRule, hex_rule, named_app};
+ghost use Rattle.h2_args.specs.Commands.{IsSideRule, flag_rule, hex_rule, named_app};
 ghost use Rattle.h2_args.specs.Words.{has_value, has_word, is_set};
 
 use clap::{Arg, ArgAction, ArgMatches, Command};
@@ -60,6 +60,17 @@ pub(super) fn hex_arg<'a>(alloc: Global) -> Arg<'a>
         .long(HEX)
         .action(ArgAction::SetTrue)
         .help(HEX_HELP)
+}
+
+/// A flag.
+pub(super) fn flag_arg<'a>(alloc: Global, name: &'a str, help: &'a str) -> Arg<'a>
+    ensures rule { rule_of result ≡ flag_rule name.entry.now }
+    ensures local { result.global ≡ false }
+{
+    Arg::new(alloc, name)
+        .long(name)
+        .action(ArgAction::SetTrue)
+        .help(help)
 }
 
 /// An option that names a side, with the name that it has where it isn't given.

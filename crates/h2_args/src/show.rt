@@ -1,38 +1,57 @@
 //! The options of `show`.
 
 ghost use Rattle.std.specs.Prelude.{◌≡◌, ◌≤◌, IfErr, IfOk, codes, false, map, pos, string_bytes};
-ghost use Rattle.clap.specs.Words.{app_of, found_of, rows_of, rule_of};
-ghost use Rattle.h2_args.specs.Commands.{IsShowCommand, number_option_rule};
-ghost use Rattle.h2_args.specs.Words.{ShowWordsFail, ShowWordsGive, show_options_in};
+ghost use Rattle.std.specs.Prelude.{option_map};
+ghost use Rattle.clap.specs.Words.{app_of, first_of, found_of, rows_of, rule_of};
+ghost use Rattle.h2_args.specs.Commands.{IsColorRule, IsShowCommand, IsShownInputCommand, file_rule};
+ghost use Rattle.h2_args.specs.Commands.{number_option_rule};
+ghost use Rattle.h2_args.specs.Words.{ShowWordsAsk, ShowWordsFail, file_of, show_asked_by};
+ghost use Rattle.h2_args.specs.Words.{show_options_in, style_in, style_of};
 
 use crate::follow::follow_arg;
-use crate::options::{CommandText, HEX, hex_arg, is_named, is_set, named_command, side_arg};
+use crate::options::{
+    CommandText, HEX, flag_arg, hex_arg, is_named, is_set, named_command, side_arg,
+};
 use clap::builder::ValueParser;
 use clap::{Arg, ArgMatches, Command, Error, value_parser};
 use h2_frame::limits::{LEAST_MAX_FRAME, MOST_MAX_FRAME};
-use h2_show::{ShowOptions, Side};
+use h2_show::{ShowOptions, Side, Style, TextStyle};
 use std::alloc::{AllocError, Global};
+
+/// What the words after `show` ask for.
+#[derive(Clone, Copy, Debug, PartialEq, Eq)]
+pub struct ShowWords<'a> {
+    /// How the input is shown.
+    pub options: ShowOptions,
+    /// The file that has the input; none for standard input.
+    pub file: Option<&'a str>,
+}
 
 // contract: show (own) The words choose the end and hexadecimal
 // rule: show (own) The words choose the end and hexadecimal
 // contract: show (own) The words choose the limit of payloads
 // rule: show (own) The words choose the limit of payloads
+// contract: show (own) The words choose names, places, colors and JSON
+// contract: show (own) With --file the input is that of a file
 /// Reads the words after `show`.
 ///
 /// # Errors
 ///
 /// The kind is `DisplayHelp` where help is asked for, `OutOfMemory` when out of memory, and another
 /// one where a word is wrong. The error's text is for the user.
-pub fn show_args(alloc: Global, words: &[String]) -> Result<ShowOptions, Error>
-    ensures ok { IfOk result (ShowWordsGive (map string_bytes words.now)) }
-    ensures least { IfOk result (λ options. 16384 ≤ options.max_frame) }
-    ensures most { IfOk result (λ options. options.max_frame ≤ 1048576) }
-    ensures err { IfErr result (ShowWordsFail (map string_bytes words.now)) }
+pub fn show_args<'a>(alloc: Global, words: &'a [String]) -> Result<ShowWords<'a>, Error>
+    ensures ok { IfOk result (λ asked.
+        ShowWordsAsk (map string_bytes words.entry.now) (show_asked_by asked)) }
+    ensures least { IfOk result (λ asked. 16384 ≤ asked.options.max_frame) }
+    ensures most { IfOk result (λ asked. asked.options.max_frame ≤ 1048576) }
+    ensures err { IfErr result (ShowWordsFail (map string_bytes words.entry.now)) }
 {
     let command = show_command(alloc)?;
     let matches = command.try_get_matches_from(words)?;
     let max_frame = matches.get_one::<u32>(MAX_FRAME).unwrap_or(LEAST_MAX_FRAME);
-    Ok(options_of(&matches, max_frame))
+    let options = options_of(&matches, max_frame);
+    let file = file_of(&matches);
+    Ok(ShowWords { options, file })
 }
 
 // The options that the matches of `show` give, with this limit of payloads.
@@ -50,8 +69,73 @@ fn options_of(matches: &ArgMatches<'_>, max_frame: u32) -> ShowOptions
         hex: is_set(matches, HEX),
         from,
         max_frame,
+        style: style_in(matches),
     }
 }
+
+// rule: show (own) The words choose names, places, colors and JSON
+// How lines are printed, by the matches of `show`.
+fn style_in(matches: &ArgMatches<'_>) -> Style
+    ensures { result ≡ style_in (rows_of (found_of matches.now)) }
+{
+    let json = is_set(matches, JSON);
+    let names = is_set(matches, NAMES);
+    let places = is_set(matches, OFFSETS);
+    let colors = is_named(matches, COLOR, "always");
+    style_of(json, names, places, colors)
+}
+
+// How lines are printed.
+fn style_of(json: bool, names: bool, places: bool, colors: bool) -> Style
+    ensures { result ≡ style_of json names places colors }
+{
+    match (json, names, places, colors) {
+        (true, _, _, _) => Style::Json,
+        (false, false, false, false) => Style::Plain,
+        _ => Style::Text(TextStyle {
+            names,
+            places,
+            colors,
+        }),
+    }
+}
+
+// rule: show (own) With --file the input is that of a file
+// The file that is read, where the matches of `show` name one.
+fn file_of<'a>(matches: &ArgMatches<'a>) -> Option<&'a str>
+    ensures { option_map (λ file. file.now) result
+        ≡ file_of (first_of (codes "file") (rows_of (found_of matches.now))) }
+{
+    match matches.get_str(FILE) {
+        Some("-") | None => None,
+        Some(file) => Some(file),
+    }
+}
+
+const FILE: &str = "file";
+
+const FILE_HELP: &str = r"Read this file, and not standard input; - is standard
+input";
+
+const NAMES: &str = "names";
+
+const NAMES_HELP: &str = r"Print settings by name, and names after error codes
+(RFC 9113, sections 6.5.2 and 7)";
+
+const OFFSETS: &str = "offsets";
+
+const OFFSETS_HELP: &str = r"Print before the preface and each frame the number of
+its first octet, counted from 1, in ten digits";
+
+const COLOR: &str = "color";
+
+const COLOR_HELP: &str = r"Whether types are bold, fields faint and faults red:
+always or never [default: never]";
+
+const JSON: &str = "json";
+
+const JSON_HELP: &str = r"Print a JSON object a line, with names and offsets in
+any case and without colors (docs/SHOW-JSON.md)";
 
 const FROM: &str = "from";
 
@@ -84,6 +168,15 @@ a block follow the frame that ends it. Other lines:
                      which came
   unfinished block   the input ends inside a field block
 
+With --names a setting has its name in place of its number, where it has one,
+and an error code its name after the number: code=8 CANCEL. With --offsets the
+preface and each frame begin with the number of their first octet, which
+`fault CODE at N` counts likewise, in ten digits or more and with a space; lines
+of fields and others have none. With --color always the type of a frame is bold,
+its fields are faint, and a fault, `rest N` and `unfinished block` are red. With
+--json each line is an object, in which --names and --offsets change nothing.
+--follow takes none of these.
+
 The rules of a connection (`h2 replay` checks them) and those of messages
 (section 8) are not checked.
 
@@ -93,7 +186,7 @@ Exit status (the lines in backquotes are on standard error):
   2  wrong arguments; or `bad hex`: the input isn't hexadecimal text, and
      nothing of it is shown, or, with --follow, nothing after the line that
      isn't of tshark's text
-  3  `N1 Device`: a read or a write failed
+  3  `N1 Device`: a read or a write failed, or the file can't be opened
   4  `N3 Memory`: out of memory
 
 A hint may follow on standard error. It is for people; no status depends on it.
@@ -139,9 +232,34 @@ pub(super) fn max_frame_arg<'a>(alloc: Global) -> Arg<'a>
         .help(MAX_FRAME_HELP)
 }
 
-/// The command as clap has it.
-pub(super) fn show_command<'a>(alloc: Global) -> Result<Command<'a>, AllocError>
-    ensures { IfOk result (λ command. IsShowCommand (app_of command)) }
+// The option of the file as clap has it.
+fn file_arg<'a>(alloc: Global) -> Arg<'a>
+    ensures rule { rule_of result ≡ file_rule }
+    ensures local { result.global ≡ false }
+{
+    Arg::new(alloc, FILE)
+        .long(FILE)
+        .value_name("FILE")
+        .help(FILE_HELP)
+}
+
+// The option of colors as clap has it.
+fn color_arg<'a>(alloc: Global) -> Arg<'a>
+    ensures rule { IsColorRule (rule_of result) }
+    ensures local { result.global ≡ false }
+{
+    Arg::new(alloc, COLOR)
+        .long(COLOR)
+        .value_name("WHEN")
+        .value_parser(["always", "never"].as_slice())
+        // The help says the words, within 80 columns.
+        .hide_possible_values(true)
+        .help(COLOR_HELP)
+}
+
+// The command with its first options.
+fn shown_input_command<'a>(alloc: Global) -> Result<Command<'a>, AllocError>
+    ensures { IfOk result (λ command. IsShownInputCommand (app_of command)) }
 {
     let text = CommandText {
         called: "h2 show",
@@ -154,4 +272,16 @@ pub(super) fn show_command<'a>(alloc: Global) -> Result<Command<'a>, AllocError>
         .arg(side_arg(alloc, FROM, "client", FROM_HELP))?
         .arg(max_frame_arg(alloc))?
         .arg(follow_arg(alloc))
+}
+
+/// The command as clap has it.
+pub(super) fn show_command<'a>(alloc: Global) -> Result<Command<'a>, AllocError>
+    ensures { IfOk result (λ command. IsShowCommand (app_of command)) }
+{
+    shown_input_command(alloc)?
+        .arg(file_arg(alloc))?
+        .arg(flag_arg(alloc, NAMES, NAMES_HELP))?
+        .arg(flag_arg(alloc, OFFSETS, OFFSETS_HELP))?
+        .arg(color_arg(alloc))?
+        .arg(flag_arg(alloc, JSON, JSON_HELP))
 }

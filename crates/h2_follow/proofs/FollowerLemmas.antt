@@ -2,8 +2,8 @@
 use Rattle.h2_follow.proofs.Names.{◌≡◌, ◌∙◌, ◌++◌, ◌∷◌, ℕ, [], List, refl, sym, ap, subst, length}
 use Rattle.h2_follow.proofs.Names.{append-nil, Bool, true, false, MatchBool, take, map}
 use Rattle.h2_follow.proofs.Names.{Option, Some, None, arith, common_steps, ShowOptions, Side}
-use Rattle.h2_follow.proofs.Names.{Client, Server, OneSide, SideShows, OfSide, Piece, ViewerShows}
-use Rattle.h2_follow.proofs.Names.{begins_with_preface, limits_of, ShowsOctets, Fault, flat_map}
+use Rattle.h2_follow.proofs.Names.{Client, Server, OneSide, SideShows, OfSide, Piece}
+use Rattle.h2_follow.proofs.Names.{ViewerHasPrinted, styled_text, ShowsOctets, Fault, flat_map}
 use Rattle.h2_follow.proofs.Names.{ShowsSoFar, goes_on, is_over, side_options, of_side, Result, Ok}
 use Rattle.h2_follow.proofs.Names.{Err, OnOk, Appends, Node, part_of_side, marked_of, Follower, EndsSide}
 use Rattle.h2_follow.proofs.Names.{Status}
@@ -23,14 +23,13 @@ shows_so_far one options octets lines = by one.is_over
   where
     by : (over : Bool)
         → MatchBool over ((more : List ℕ) → ShowsOctets options (octets ++ more) Fault lines)
-        (ViewerShows one.viewer.cutter one.viewer.blocks one.viewer.preface.is_due
-        (begins_with_preface options.from) (limits_of options) octets lines)
-        → ShowsSoFar options octets lines
+        (ViewerHasPrinted one.viewer options octets lines) → ShowsSoFar options octets lines
     by true ended = is_over ended
-    by false shows =
+    by false printed =
+        let shows = printed.shows in
         goes_on shows.frames one.viewer.cutter.unparsed one.viewer.blocks.gather.begun shows.lines
         shows.cut.split (frames_shown one.viewer.blocks shows.frames shows.lines shows.blocks_show)
-        shows.all
+        (printed.all ∙ ap (styled_text options.style) shows.all)
 
 -- what is of a side, with one more
 of_side_next : (side : Side) (all : List OfSide) (one : OfSide)

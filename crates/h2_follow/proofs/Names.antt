@@ -13,7 +13,9 @@ pub use Rattle.h2_show.specs.declared.options.Side.{Side}
 pub use Rattle.h2_show.specs.declared.options.Side.TheVariants.{Client, Server}
 pub use Rattle.h2_show.specs.declared.viewer.ShowError.{ShowError}
 pub use Rattle.h2_show.specs.declared.viewer.Viewer.{Viewer}
-pub use Rattle.h2_show.specs.Printed.{ViewerShows, ViewerPrints, ViewerFailsWith, error_lines}
+pub use Rattle.h2_show.specs.Printed.{ViewerHasPrinted, ViewerPrints, ViewerFailsWith, error_lines}
+pub use Rattle.h2_show.specs.ShownLines.{ShowLine}
+pub use Rattle.h2_show.specs.Styles.{places_past, text_from, styled_text}
 pub use Rattle.h2_show.specs.Printed.{end_lines}
 pub use Rattle.h2_show.specs.Report.{begins_with_preface, limits_of}
 pub use Rattle.h2_show.specs.Shown.{ShowsOctets}

@@ -5,8 +5,7 @@ use Rattle.h2_cli.specs.declared.status.Status.TheVariants.{Fault}
 use Rattle.h2_show.specs.declared.options.ShowOptions.{ShowOptions}
 use Rattle.h2_show.specs.declared.options.Side.{Side}
 use Rattle.h2_show.specs.declared.options.Side.TheVariants.{Client, Server}
-use Rattle.h2_show.specs.Printed.{ViewerShows}
-use Rattle.h2_show.specs.Report.{begins_with_preface, limits_of}
+use Rattle.h2_show.specs.Printed.{ViewerHasPrinted}
 use Rattle.h2_show.specs.Shown.{ShowsOctets}
 use Rattle.h2_follow.specs.declared.text.Node.{Node}
 use Rattle.h2_follow.specs.declared.one_side.OneSide.{OneSide}
@@ -20,8 +19,7 @@ abbrev pub SideShows : OneSide → ShowOptions → (octets lines : List ℕ) →
 SideShows one options octets lines =
     MatchBool one.is_over
     ((more : List ℕ) → ShowsOctets options (octets ++ more) Fault lines)
-    (ViewerShows one.viewer.cutter one.viewer.blocks one.viewer.preface.is_due
-    (begins_with_preface options.from) (limits_of options) octets lines)
+    (ViewerHasPrinted one.viewer options octets lines)
 
 -- The side has taken these octets, and printed this.
 abbrev pub SideAdvances : (old new : OneSide) → (octets printed : List ℕ) → Type 0

@@ -12,6 +12,9 @@ use Rattle.h2_show.specs.declared.options.ShowOptions.{ShowOptions}
 use Rattle.h2_show.specs.declared.options.Side.{Side}
 use Rattle.h2_show.specs.declared.options.Side.TheVariants.{Client, Server}
 use Rattle.h2_show.specs.Report.{begins_with_preface, limits_of}
+use Rattle.h2_show.specs.declared.options.Style.TheVariants.{Plain}
+use Rattle.h2_show.specs.ShownLines.{ShowLine}
+use Rattle.h2_show.specs.Styles.{styled_text}
 use Rattle.h2_show.specs.Shown.{ShowsFrames, ShowsOctets, preface_lines}
 use Rattle.h2_follow.specs.declared.hint.FollowHint.{FollowHint}
 use Rattle.h2_follow.specs.declared.hint.FollowHint.TheVariants as hints
@@ -20,7 +23,8 @@ use Rattle.h2_follow.specs.FollowText.{FollowText, HasBadLine, Line, OfSide, Pie
 -- the options with which `h2 show` shows the octets of a side
 -- rule: follow (own) Each side has the lines that show prints of it, after its mark
 abbrev pub side_options : (max_frame : ℕ) → Side → ShowOptions
-side_options max_frame side = record { hex = false; from = side; max_frame = max_frame }
+side_options max_frame side =
+    record { hex = false; from = side; max_frame = max_frame; style = Plain }
 
 -- octets of one side, where they are of the other: none
 abbrev pub part_of_side : (side sent : Side) → List ℕ → List ℕ
@@ -56,10 +60,12 @@ marked_of lines = marked (mark_of lines.0) true lines.1
 -- among the octets, all that is printed of them, whatever follows.
 -- rule: follow (own) A line stands where the last octet of its frame came
 pub data ShowsSoFar (options : ShowOptions) (octets : List ℕ) (lines : List ℕ) : Type 0 where
-  goes_on : (frames : List Frame) (unparsed : List ℕ) (begun : Option Begun) (shown : List ℕ)
+  goes_on : (frames : List Frame) (unparsed : List ℕ) (begun : Option Begun)
+      (shown : List ShowLine)
       → Frames (begins_with_preface options.from) (limits_of options) octets frames unparsed
       → ShowsFrames frames begun shown
-      → lines ≡ preface_lines (begins_with_preface options.from) octets ++ shown
+      → lines ≡ styled_text options.style
+      (preface_lines (begins_with_preface options.from) octets ++ shown)
       → ShowsSoFar options octets lines
   is_over : ((more : List ℕ) → ShowsOctets options (octets ++ more) Fault lines)
       → ShowsSoFar options octets lines

@@ -2,6 +2,7 @@
 
 ghost use Rattle.std.specs.Prelude.{◌≡◌, ℕ, true, List, [], ◌++◌, OnOk, IfOk};
 ghost use Rattle.h2_show.specs.Printed.{error_lines};
+ghost use Rattle.h2_show.specs.Styles.{text_from};
 ghost use Rattle.h2_show.specs.Viewer.{IsStreamFault};
 ghost use Rattle.h2_follow.specs.Follower.{SideAdvances, EndsSide, SideShows};
 ghost use Rattle.h2_follow.specs.Follows.{side_options};
@@ -10,7 +11,7 @@ use crate::hint::FollowHint;
 use h2_cli::Status;
 use h2_frame::HeadFault;
 use h2_frame::limits::MOST_MAX_FRAME;
-use h2_show::{ShowError, Side, Viewer};
+use h2_show::{ShowError, ShowOptions, Side, Style, Viewer};
 use h2_wire::WireFault;
 use std::alloc::{AllocError, Global};
 use std::io;
@@ -36,8 +37,14 @@ impl OneSide {
     pub(crate) fn new(alloc: Global, side: Side, max_frame: u32) -> Result<OneSide, AllocError>
         ensures { IfOk result (λ one. SideShows one (side_options max_frame side) [] []) }
     {
+        let options = ShowOptions {
+            hex: false,
+            from: side,
+            max_frame,
+            style: Style::Plain,
+        };
         Ok(OneSide {
-            viewer: Viewer::new(alloc, side, max_frame)?,
+            viewer: Viewer::new(alloc, options)?,
             max_frame,
             is_over: false,
             hint: None,
@@ -67,7 +74,8 @@ impl OneSide {
     // Adds the line of a fault, which ends the side.
     fn end_with(&mut self, error: ShowError, text: &mut Vec<u8>) -> io::Result<()>
         ensures lines { OnOk result (text.new.items ≡ text.old.items
-            ++ error_lines error self.old.viewer.cutter.place self.old.viewer.preface.is_due) }
+            ++ text_from self.old.viewer.printer.style self.old.viewer.printer.next
+            (error_lines error self.old.viewer.cutter.place self.old.viewer.printer.is_due)) }
         ensures fault { OnOk result (IsStreamFault error) }
         ensures over { self.new.is_over ≡ true }
     {

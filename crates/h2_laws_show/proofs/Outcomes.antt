@@ -1,6 +1,6 @@
 -- A stream has one output and one status.
 use Rattle.std.proofs.Common.{◌≡◌, ◌⊎◌, ℕ, ◌≤◌, Bool, true, false, List, [], ◌∷◌, ◌++◌, length}
-use Rattle.std.proofs.Common.{take, drop, Option, Some, None, MatchBool, refl, sym, ◌∙◌, inl, inr}
+use Rattle.std.proofs.Common.{take, drop, Option, Some, None, MatchBool, refl, sym, ◌∙◌, ap, inl, inr}
 use Rattle.std.proofs.Common.{subst, append-nil, rules}
 use Rattle.std.proofs.lemmas.List.{take-append-drop}
 use Rattle.h2_frame.specs.declared.code.Code.{Code}
@@ -15,7 +15,8 @@ use Rattle.h2_show.specs.declared.options.ShowOptions.{ShowOptions}
 use Rattle.h2_cli.specs.declared.status.Status.{Status}
 use Rattle.h2_cli.specs.declared.status.Status.TheVariants.{Good, Fault}
 use Rattle.h2_show.specs.Blocks.{FramesDecode, EndsWithBlockError}
-use Rattle.h2_show.specs.Lines.{fault_line, rest_line, unfinished_line}
+use Rattle.h2_show.specs.ShownLines.{ShowLine, fault_shown, rest_shown, unfinished_shown}
+use Rattle.h2_show.specs.Styles.{styled_text}
 use Rattle.h2_show.specs.Shown.{ShowsFrames, preface_lines, Shows, is_complete, ends_inside_frame}
 use Rattle.h2_show.specs.Shown.{ends_inside_block, has_wire_fault, has_block_error, ShowsOctets}
 use Rattle.h2_show.specs.Printed.{ShowsText}
@@ -34,18 +35,18 @@ end_status [] (Some begun) = Fault
 end_status (first ∷ others) begun = Fault
 
 -- the line at the end of a stream without fault, where there is one
-abbrev end_line : (unparsed : List ℕ) → Option Begun → List ℕ
+abbrev end_line : (unparsed : List ℕ) → Option Begun → List ShowLine
 end_line [] None = []
-end_line [] (Some begun) = unfinished_line
-end_line (first ∷ others) begun = rest_line (length (first ∷ others))
+end_line [] (Some begun) = unfinished_shown ∷ []
+end_line (first ∷ others) begun = rest_shown (length (first ∷ others)) ∷ []
 
 -- The stream is read to its end, without fault.
 record ShownToEnd (expects : Bool) (limits : Limits) (stream : List ℕ) (status : Status)
-    (output : List ℕ) : Type 0 where
+    (output : List ShowLine) : Type 0 where
   frames : List Frame
   unparsed : List ℕ
   begun : Option Begun
-  lines : List ℕ
+  lines : List ShowLine
   reading : Frames expects limits stream frames unparsed
   shown : ShowsFrames frames begun lines
   known : status ≡ end_status unparsed begun
@@ -53,46 +54,46 @@ record ShownToEnd (expects : Bool) (limits : Limits) (stream : List ℕ) (status
 
 -- The stream has an octet at fault.
 record ShownToWireFault (expects : Bool) (limits : Limits) (stream : List ℕ) (status : Status)
-    (output : List ℕ) : Type 0 where
+    (output : List ShowLine) : Type 0 where
   frames : List Frame
   begun : Option Begun
   place : ℕ
   fault : WireFault
-  lines : List ℕ
+  lines : List ShowLine
   at : WireFaultAt expects limits stream frames place fault
   shown : ShowsFrames frames begun lines
   known : status ≡ Fault
   all : output ≡ (preface_lines expects stream ++ lines)
-      ++ fault_line (wire_fault_code fault) (saturated place)
+      ++ fault_shown (wire_fault_code fault) (saturated place) ∷ []
 
 -- The stream has a frame with an error of its blocks.
 record ShownToBlockError (expects : Bool) (limits : Limits) (stream : List ℕ) (status : Status)
-    (output : List ℕ) : Type 0 where
+    (output : List ShowLine) : Type 0 where
   frames : List Frame
   last : Frame
   begun : Option Begun
   place : ℕ
   code : Code
-  lines : List ℕ
+  lines : List ShowLine
   within : place ≤ length stream
   reading : Frames expects limits (take place stream) (frames ++ last ∷ []) []
   error : EndsWithBlockError (frames ++ last ∷ []) code
   shown : ShowsFrames frames begun lines
   known : status ≡ Fault
-  all : output ≡ (preface_lines expects stream ++ lines) ++ fault_line code (saturated place)
+  all : output ≡ (preface_lines expects stream ++ lines) ++ fault_shown code (saturated place) ∷ []
 
 -- What may have come of a stream.
-abbrev Outcome : Bool → Limits → List ℕ → Status → List ℕ → Type 0
+abbrev Outcome : Bool → Limits → List ℕ → Status → List ShowLine → Type 0
 Outcome expects limits stream status output = ShownToEnd expects limits stream status output
     ⊎ (ShownToWireFault expects limits stream status output
     ⊎ ShownToBlockError expects limits stream status output)
 
 -- a stream that ends inside a frame
 inside_frame_outcome : (expects : Bool) (limits : Limits) (stream : List ℕ) (status : Status)
-    (output : List ℕ) (frames : List Frame) (unparsed : List ℕ) (begun : Option Begun)
-    (lines : List ℕ) → Frames expects limits stream frames unparsed → (unparsed ≡ [] → ⊥)
+    (output : List ShowLine) (frames : List Frame) (unparsed : List ℕ) (begun : Option Begun)
+    (lines : List ShowLine) → Frames expects limits stream frames unparsed → (unparsed ≡ [] → ⊥)
     → ShowsFrames frames begun lines → status ≡ Fault
-    → output ≡ (preface_lines expects stream ++ lines) ++ rest_line (length unparsed)
+    → output ≡ (preface_lines expects stream ++ lines) ++ rest_shown (length unparsed) ∷ []
     → ShownToEnd expects limits stream status output
 inside_frame_outcome expects limits stream status output frames [] begun lines reading some shown
     known all = absurd (some refl)
@@ -100,8 +101,8 @@ inside_frame_outcome expects limits stream status output frames (first ∷ other
     some shown known all = search rules
 
 -- What is shown of a stream is one of the outcomes.
-outcome : (expects : Bool) (limits : Limits) (stream : List ℕ) (status : Status) (output : List ℕ)
-    → Shows expects limits stream status output → Outcome expects limits stream status output
+outcome : (expects : Bool) (limits : Limits) (stream : List ℕ) (status : Status)
+    (output : List ShowLine) → Shows expects limits stream status output → Outcome expects limits stream status output
 outcome expects limits stream status output (is_complete frames lines reading shown known all) =
     let line = all ∙ sym (append-nil (preface_lines expects stream ++ lines)) in search rules
 outcome expects limits stream status output
@@ -116,7 +117,8 @@ outcome expects limits stream status output
     search rules
 
 -- The same frames are shown with the same lines, and the same has begun.
-same_showing : (frames others : List Frame) (begun other : Option Begun) (lines texts : List ℕ)
+same_showing : (frames others : List Frame) (begun other : Option Begun)
+    (lines texts : List ShowLine)
     → frames ≡ others → ShowsFrames frames begun lines → ShowsFrames others other texts
     → (begun ≡ other) × (lines ≡ texts)
 same_showing frames others begun other lines texts same shown again =
@@ -124,7 +126,7 @@ same_showing frames others begun other lines texts same shown again =
     (subst (λ (line : List Frame). ShowsFrames line other texts) (sym same) again)
 
 module _ (expects : Bool) (limits : Limits) (stream : List ℕ) (status other : Status)
-    (output another : List ℕ) where
+    (output another : List ShowLine) where
   -- Two ends of a stream without fault are one.
   same_ends : ShownToEnd expects limits stream status output
       → ShownToEnd expects limits stream other another → (status ≡ other) × (output ≡ another)
@@ -147,13 +149,13 @@ module _ (expects : Bool) (limits : Limits) (stream : List ℕ) (status other : 
       let same = same_showing _ _ _ _ _ _ at.0 one.shown two.shown in (
         one.known ∙ sym two.known,
         one.all ∙ (λ i. (preface_lines expects stream ++ same.1 i)
-            ++ fault_line (wire_fault_code (at.2 i)) (saturated (at.1 i))) ∙ sym two.all,
+            ++ fault_shown (wire_fault_code (at.2 i)) (saturated (at.1 i)) ∷ []) ∙ sym two.all,
       )
 
 -- A stream without fault has no frame with an error of its blocks.
 no_end_and_error : {Goal : Type 0} (expects : Bool) (limits : Limits) (stream : List ℕ)
-    (status other : Status) (output another : List ℕ)
-    → ShownToEnd expects limits stream status output
+    (status other : Status)
+    (output another : List ShowLine) → ShownToEnd expects limits stream status output
     → ShownToBlockError expects limits stream other another → Goal
 no_end_and_error expects limits stream status other output another one two =
     absurd (no_error_within _ _ _ _ _ _ _ _ _ _ two.reading two.error one.reading
@@ -161,16 +163,16 @@ no_end_and_error expects limits stream status other output another one two =
 
 -- A stream without fault has no octet at fault.
 no_end_and_fault : {Goal : Type 0} (expects : Bool) (limits : Limits) (stream : List ℕ)
-    (status other : Status) (output another : List ℕ)
-    → ShownToEnd expects limits stream status output
+    (status other : Status)
+    (output another : List ShowLine) → ShownToEnd expects limits stream status output
     → ShownToWireFault expects limits stream other another → Goal
 no_end_and_fault expects limits stream status other output another one two =
     absurd (no_reading_here _ _ _ _ _ _ _ _ two.at one.reading)
 
 -- No frame with an error of its blocks precedes an octet at fault after frames that decode.
 no_fault_and_error : {Goal : Type 0} (expects : Bool) (limits : Limits) (stream : List ℕ)
-    (status other : Status) (output another : List ℕ)
-    → ShownToWireFault expects limits stream status output
+    (status other : Status)
+    (output another : List ShowLine) → ShownToWireFault expects limits stream status output
     → ShownToBlockError expects limits stream other another → Goal
 no_fault_and_error expects limits stream status other output another one two =
     let (following, same) = longer_fault _ _ _ (drop two.place stream) _ _ _ _ _ two.reading
@@ -181,7 +183,7 @@ no_fault_and_error expects limits stream status other output another one two =
     (shown_frames_decode _ _ _ one.shown)))
 
 module _ (expects : Bool) (limits : Limits) (stream : List ℕ) (status other : Status)
-    (output another : List ℕ) where
+    (output another : List ShowLine) where
   -- Two octets of a stream at the ends of frames with errors of their blocks are one.
   same_errors : ShownToBlockError expects limits stream status output
       → ShownToBlockError expects limits stream other another → (status ≡ other)
@@ -199,7 +201,7 @@ module _ (expects : Bool) (limits : Limits) (stream : List ℕ) (status other : 
       let same = same_showing _ _ _ _ _ _ (one_without_last _ _ _ _ framed) one.shown two.shown in (
         one.known ∙ sym two.known,
         one.all ∙ (λ i. (preface_lines expects stream ++ same.1 i)
-            ++ fault_line (code i) (saturated (place i))) ∙ sym two.all,
+            ++ fault_shown (code i) (saturated (place i)) ∷ []) ∙ sym two.all,
       )
 
   -- Two outcomes of a stream are one.
@@ -229,6 +231,16 @@ module _ (expects : Bool) (limits : Limits) (stream : List ℕ) (status other : 
   one_output_lem shows again = same_outcomes (outcome expects limits stream status output shows)
       (outcome expects limits stream other another again)
 
+-- The octets that an end sent have one output and one status.
+one_output_of_octets : (options : ShowOptions) (octets : List ℕ) (status other : Status)
+    (output another : List ℕ) → ShowsOctets options octets status output
+    → ShowsOctets options octets other another → (status ≡ other) × (output ≡ another)
+one_output_of_octets options octets status other output another (lines, shows, text)
+    (others, again, texts) =
+    let same = one_output_lem (begins_with_preface options.from) (limits_of options) octets status
+    other lines others shows again in
+    (same.0, text ∙ ap (styled_text options.style) same.1 ∙ sym texts)
+
 -- An input has one output and one status, whether it is octets or hexadecimal.
 pub one_output_of_input : (hex : Bool) (options : ShowOptions) (given : List ℕ)
     (status other : Status) (output another : List ℕ)
@@ -238,14 +250,10 @@ pub one_output_of_input : (hex : Bool) (options : ShowOptions) (given : List ℕ
     (ShowsOctets options given other another)
     → (status ≡ other) × (output ≡ another)
 one_output_of_input false options given status other output another shows again =
-    one_output_lem (begins_with_preface options.from) (limits_of options) given status other output
-    another shows again
+    one_output_of_octets options given status other output another shows again
 one_output_of_input true options given status other output another (octets, read, shows)
     (others, reread, again) =
     let decoded = sym read ∙ reread in
     let same : octets ≡ others = cc in
-    one_output_lem (begins_with_preface options.from) (limits_of options) others status other output
-    another
-    (subst (λ (some : List ℕ).
-    Shows (begins_with_preface options.from) (limits_of options) some status output) same shows)
-    again
+    one_output_of_octets options others status other output another
+    (subst (λ (some : List ℕ). ShowsOctets options some status output) same shows) again

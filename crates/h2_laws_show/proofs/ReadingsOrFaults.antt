@@ -147,9 +147,9 @@ record BodyFault (limits : Limits) (preceding : ℕ) (octets : List ℕ) : Type 
   wrong : IsWrong (limits (preceding + length body + 9)) last fault
 
 -- The place after a frame and others is counted from either.
-place_after : (preceding : ℕ) (first body : List ℕ)
+place_past : (preceding : ℕ) (first body : List ℕ)
     → preceding + length first + length body + 9 ≡ preceding + length (first ++ body) + 9
-place_after preceding first body = omega (arith, length-append first body)
+place_past preceding first body = omega (arith, length-append first body)
 
 -- A frame, and then what is read.
 read_after : (limits : Limits) (preceding : ℕ) (octets : List ℕ)
@@ -164,7 +164,7 @@ read_after limits preceding octets begun read = record {
       ∙ sym (append_assoc begun.first read.body read.unparsed);
   framed = (begun.first, read.body, refl, begun.sound, read.framed);
   partial = subst (λ (place : ℕ). IsPartial (limits place) read.unparsed)
-      (place_after preceding begun.first read.body) read.partial;
+      (place_past preceding begun.first read.body) read.partial;
 }
 
 -- A frame, and then what has a fault.
@@ -182,7 +182,7 @@ fault_after limits preceding octets begun at = record {
       ∙ sym (append_assoc begun.first at.body (at.last ++ at.beyond));
   framed = (begun.first, at.body, refl, begun.sound, at.framed);
   wrong = subst (λ (place : ℕ). IsWrong (limits place) at.last at.fault)
-      (place_after preceding begun.first at.body) at.wrong;
+      (place_past preceding begun.first at.body) at.wrong;
 }
 
 -- The place of octets that nothing precedes.

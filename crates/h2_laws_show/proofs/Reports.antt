@@ -17,6 +17,7 @@ use Rattle.h2_show.specs.Blocks.{FramesDecode, EndsWithBlockError}
 use Rattle.h2_show.specs.Report.{StatusReports, IsComplete, IsAtFault, inside_frame, inside_block}
 use Rattle.h2_show.specs.Report.{wire_fault, block_error, begins_with_preface, limits_of}
 use Rattle.h2_show.specs.Report.{StatusReportsOctets, StatusReportsText}
+use Rattle.h2_show.specs.ShownLines.{ShowLine}
 use Rattle.h2_show.specs.Shown.{Shows, is_complete, ends_inside_frame, ends_inside_block}
 use Rattle.h2_show.specs.Shown.{has_wire_fault, has_block_error}
 use Rattle.h2_laws_show.proofs.LongerStreams.{longer_reading}
@@ -25,7 +26,7 @@ use Rattle.h2_laws_show.proofs.BlockErrors.{error_stops}
 
 module _ (expects : Bool) (limits : Limits) (stream : List ℕ) where
   -- The status that comes with an output reports the stream.
-  pub shown_reports : (status : Status) (output : List ℕ)
+  pub shown_reports : (status : Status) (output : List ShowLine)
       → Shows expects limits stream status output → StatusReports expects limits stream status
   shown_reports status output (is_complete frames lines reading shown known all)
       = subst (λ (reported : Status). StatusReports expects limits stream reported) (sym known)

@@ -18,6 +18,7 @@ ghost use Rattle.h2_cli.specs.declared.status.Status.{Status};
 ghost use Rattle.h2_cli.specs.declared.status.Status.TheVariants.{Good, Fault};
 ghost use Rattle.h2_show.specs.Report.{StatusReports, StatusReportsInput};
 ghost use Rattle.h2_show.specs.Shown.{Shows, ShowsInput};
+ghost use Rattle.h2_show.specs.ShownLines.{ShowLine};
 
 // contract: 4.1 Octets encode a frame exactly where they have no fault
 /// Octets that encode a frame have no fault: neither their head, whose form is checked whatever the
@@ -85,10 +86,11 @@ pub fn grouping_or_fault()
 {}
 
 // contract: show (own) An input has one output: preface, frames, then how it ends
-/// A stream has one output and one status: they are determined by its octets.
+/// A stream has one output and one status: its lines, in whatever style they are printed, are
+/// determined by its octets.
 pub fn one_output()
     ensures { (expects : Bool) (limits : Limits) (stream : List ℕ) (status other : Status)
-        (output another : List ℕ)
+        (output another : List ShowLine)
         → Shows expects limits stream status output → Shows expects limits stream other another
         → (status ≡ other) × (output ≡ another) }
 {}
@@ -105,7 +107,7 @@ pub fn one_output_of_an_input()
 /// The status that comes with an output reports the stream.
 pub fn shown_status_reports()
     ensures { (expects : Bool) (limits : Limits) (stream : List ℕ) (status : Status)
-        (output : List ℕ)
+        (output : List ShowLine)
         → Shows expects limits stream status output → StatusReports expects limits stream status }
 {}
 

@@ -1,10 +1,10 @@
 -- Frames are taken one by one, and their lines are shown.
-use Rattle.h2_show.proofs.Names.{◌≡◌, ℕ, Bool, true, List, [], ◌∷◌, ◌++◌, Option, None, refl, sym}
-use Rattle.h2_show.proofs.Names.{◌∙◌, ap, subst, append_assoc, append-nil, flat_map, arith}
-use Rattle.h2_show.proofs.Names.{nat_tests, flat_map-append, Frame, Item, alone, block, Begun}
+use Rattle.h2_show.proofs.Names.{◌≡◌, ℕ, Bool, true, List, [], ◌∷◌, ◌++◌, Option, None, Some, refl, sym}
+use Rattle.h2_show.proofs.Names.{◌∙◌, ap, subst, append_assoc, append-nil, map, arith}
+use Rattle.h2_show.proofs.Names.{nat_tests, map-append, Listing, Frame, Item, alone, block, Begun}
 use Rattle.h2_show.proofs.Names.{Field, DecodesInto, HoldsList, Entries, Blocks}
-use Rattle.h2_show.proofs.Names.{BlocksRepresent, frame_line, list_lines, decoded_lines, AreShown}
-use Rattle.h2_show.proofs.Names.{BlocksShow, common_steps, rules}
+use Rattle.h2_show.proofs.Names.{BlocksRepresent, ShowLine, frame_shown, listing_of, decoded_listing}
+use Rattle.h2_show.proofs.Names.{BlocksShow, AreShown, frame_lines, common_steps, rules}
 use Rattle.h2_block.specs.Grouping.{IsLeft, IsItem, is_standalone, AreItems}
 use Rattle.h2_block.specs.Gather.{GatherState, GatherRepresents}
 use Rattle.hpack.specs.declared.types.field.Decoded.{Decoded}
@@ -13,7 +13,7 @@ use Rattle.h2_show.specs.Blocks.{ItemsDecode}
 
 -- items that are shown, and others after them, are shown together
 shown_append : (table mid after : Entries) (items others : List Item) (frames more : List Frame)
-    (lines rest : List ℕ) → AreShown table items frames mid lines
+    (lines rest : List ShowLine) → AreShown table items frames mid lines
     → AreShown mid others more after rest
     → AreShown table (items ++ others) (frames ++ more) after (lines ++ rest)
 shown_append table mid after [] others frames more lines rest (none, same, empty) later =
@@ -24,46 +24,48 @@ shown_append table mid after (alone frame ∷ items) others frames more lines re
       text ++ rest,
       ap (λ (some : List Frame). some ++ more) joined,
       is,
-      ap (λ (some : List ℕ). some ++ rest) all ∙ append_assoc (frame_line frame) text rest,
+      ap (λ (some : List ShowLine). some ++ rest) all,
       shown_append table mid after items others following more text rest one later,
     )
 shown_append table mid after (block stream end octets ∷ items) others frames more lines rest
-    (first, following, text, fields, next, joined, is, decoded, all, one) later = (
+    (first, last, following, text, fields, next, joined, is, decoded, all, one) later = (
       first,
+      last,
       following ++ more,
       text ++ rest,
       fields,
       next,
-      ap (λ (some : List Frame). some ++ more) joined ∙ append_assoc first following more,
+      ap (λ (some : List Frame). some ++ more) joined
+          ∙ append_assoc (first ++ last ∷ []) following more,
       is,
       decoded,
-      ap (λ (some : List ℕ). some ++ rest) all ∙ simp append_assoc,
+      ap (λ (some : List ShowLine). some ++ rest) all ∙ append_assoc (frame_lines first) _ rest,
       shown_append next mid after items others following more text rest one later,
     )
 
 -- items that are shown are items
-pub shown_items : (table after : Entries) (items : List Item) (frames : List Frame) (lines : List ℕ)
-    → AreShown table items frames after lines → AreItems items frames
+pub shown_items : (table after : Entries) (items : List Item) (frames : List Frame)
+    (lines : List ShowLine) → AreShown table items frames after lines → AreItems items frames
 shown_items table after [] frames lines (none, same, empty) = none
 shown_items table after (alone frame ∷ items) frames lines
     (following, text, joined, is, all, one) =
     (frame ∷ [], following, joined, is, shown_items table after items following text one)
 shown_items table after (block stream end octets ∷ items) frames lines
-    (first, following, text, fields, next, joined, is, decoded, all, one) =
-    (first, following, joined, is, shown_items next after items following text one)
+    (first, last, following, text, fields, next, joined, is, decoded, all, one) =
+    (first ++ last ∷ [], following, joined, is, shown_items next after items following text one)
 
 -- items that are shown decode
 pub shown_decode : (table after : Entries) (items : List Item) (frames : List Frame)
-    (lines : List ℕ) → AreShown table items frames after lines → ItemsDecode table items after
+    (lines : List ShowLine) → AreShown table items frames after lines → ItemsDecode table items after
 shown_decode table after [] frames lines (none, same, empty) = same
 shown_decode table after (alone frame ∷ items) frames lines
     (following, text, joined, is, all, one) = shown_decode table after items following text one
 shown_decode table after (block stream end octets ∷ items) frames lines
-    (first, following, text, fields, next, joined, is, decoded, all, one) =
+    (first, last, following, text, fields, next, joined, is, decoded, all, one) =
     (fields, next, decoded, shown_decode next after items following text one)
 
 -- blocks that show frames represent them
-pub show_represents : (blocks : Blocks) (frames : List Frame) (lines : List ℕ)
+pub show_represents : (blocks : Blocks) (frames : List Frame) (lines : List ShowLine)
     → BlocksShow blocks frames lines → BlocksRepresent blocks frames
 show_represents blocks frames lines shows = grind (arith, common_steps, shown_items, shown_decode)
 
@@ -75,24 +77,24 @@ unfolding is_standalone
 none_begun begun left others frame passed none standalone joined = search rules
 
 -- the frames that are left are a block that has begun, and nothing precedes them
-only_left : (blocks : Blocks) (frames : List Frame) (lines : List ℕ)
+only_left : (blocks : Blocks) (frames : List Frame) (lines : List ShowLine)
     → (shows : BlocksShow blocks frames lines) → GatherRepresents blocks.gather shows.left []
 only_left blocks frames lines shows = search rules
 
 -- the lines so far where no frame is left
-none_left : (blocks : Blocks) (frames : List Frame) (lines : List ℕ)
+none_left : (blocks : Blocks) (frames : List Frame) (lines : List ShowLine)
     → (shows : BlocksShow blocks frames lines) → shows.left ≡ []
     → (frames ≡ shows.complete) × (lines ≡ shows.first)
-none_left blocks frames lines shows none = grind (arith, common_steps, append-nil, flat_map)
+none_left blocks frames lines shows none = grind (arith, common_steps, append-nil, map)
 
 -- a frame that is passed on
 pub show_alone : (blocks : Blocks) (gather : GatherState) (frame passed : Frame)
-    (frames : List Frame) (lines : List ℕ)
+    (frames : List Frame) (lines : List ShowLine)
     → ((so_far : List Frame) (items : List Item) → GatherRepresents blocks.gather so_far items
     → GatherRepresents gather (so_far ++ frame ∷ []) (items ++ alone passed ∷ []))
     → BlocksShow blocks frames lines
     → BlocksShow (record { gather = gather; decoder = blocks.decoder; list = blocks.list })
-    (frames ++ frame ∷ []) (lines ++ (frame_line frame ++ []))
+    (frames ++ frame ∷ []) (lines ++ frame_shown frame None ∷ [])
 show_alone blocks gather frame passed frames lines continues shows =
     let after = continues shows.left [] (only_left _ _ _ shows) in
     let (one, others, whole, is, none) = after.split.grouped in
@@ -111,23 +113,24 @@ show_alone blocks gather frame passed frames lines continues shows =
       items = shows.items ++ alone frame ∷ [];
       complete = shows.complete ++ frame ∷ [];
       left = [];
-      first = shows.first ++ (frame_line frame ++ []);
+      first = shows.first ++ frame_shown frame None ∷ [];
       joined = ap (λ (some : List Frame). some ++ frame ∷ []) known.0 ∙ sym (append-nil _);
       shown = shown_append _ _ _ shows.items _ shows.complete _ shows.first _ shows.shown
           ([], [], refl, (ap is_standalone itself ∙ is.0, refl), refl, (refl, refl, refl));
       unfinished = subst (λ (some : List Frame). IsLeft gather.begun some) ended
           after.split.unfinished;
-      all = ap (λ (some : List ℕ). some ++ (frame_line frame ++ [])) known.1 ∙ sym (append-nil _);
+      all = ap (λ (some : List ShowLine). some ++ frame_shown frame None ∷ []) known.1
+          ∙ sym (append-nil _);
     }
 
 -- a frame of a block that isn't complete
 pub show_more : (blocks : Blocks) (gather : GatherState) (frame : Frame)
-    (frames : List Frame) (lines : List ℕ)
+    (frames : List Frame) (lines : List ShowLine)
     → ((so_far : List Frame) (items : List Item) → GatherRepresents blocks.gather so_far items
     → GatherRepresents gather (so_far ++ frame ∷ []) (items ++ []))
     → BlocksShow blocks frames lines
     → BlocksShow (record { gather = gather; decoder = blocks.decoder; list = blocks.list })
-    (frames ++ frame ∷ []) (lines ++ (frame_line frame ++ []))
+    (frames ++ frame ∷ []) (lines ++ frame_shown frame None ∷ [])
 show_more blocks gather frame frames lines continues shows =
     let after = continues shows.left [] (only_left blocks frames lines shows) in
     let nothing : after.split.complete ≡ [] = after.split.grouped in
@@ -146,20 +149,20 @@ show_more blocks gather frame frames lines continues shows =
       shown = shows.shown;
       unfinished = subst (λ (some : List Frame). IsLeft gather.begun some) (sym same)
           after.split.unfinished;
-      all = ap (λ (some : List ℕ). some ++ (frame_line frame ++ [])) shows.all
-          ∙ append_assoc shows.first (flat_map frame_line shows.left) (frame_line frame ++ [])
-          ∙ ap (λ (some : List ℕ). shows.first ++ some)
-          (sym (flat_map-append frame_line shows.left (frame ∷ [])));
+      all = ap (λ (some : List ShowLine). some ++ frame_shown frame None ∷ []) shows.all
+          ∙ append_assoc shows.first (frame_lines shows.left) (frame_shown frame None ∷ [])
+          ∙ ap (λ (some : List ShowLine). shows.first ++ some)
+          (sym (map-append (λ (one : Frame). frame_shown one None) shows.left (frame ∷ [])));
     }
 
--- the lines of a list that holds a block's fields are those of the fields
+-- what is shown of a list that holds a block's fields is what is shown of the fields
 decoded_is : (fields list : List Field) (decoded : Decoded) → HoldsList 65536 fields decoded list
-    → decoded_lines decoded list ≡ list_lines fields
-decoded_is fields list decoded holds = grind (arith, common_steps, nat_tests, flat_map)
+    → decoded_listing (Some decoded) list ≡ Some (listing_of fields)
+decoded_is fields list decoded holds = grind (arith, common_steps, nat_tests)
 
 -- a frame that ends a block, which decodes
 pub show_block : (blocks new : Blocks) (gather : GatherState) (frame : Frame)
-    (frames : List Frame) (lines : List ℕ) (stream : ℕ) (end : Bool) (octets : List ℕ)
+    (frames : List Frame) (lines : List ShowLine) (stream : ℕ) (end : Bool) (octets : List ℕ)
     (decoded : Decoded) (list : List Field)
     → ((so_far : List Frame) (items : List Item) → GatherRepresents blocks.gather so_far items
     → GatherRepresents gather (so_far ++ frame ∷ []) (items ++ block stream end octets ∷ []))
@@ -167,7 +170,7 @@ pub show_block : (blocks new : Blocks) (gather : GatherState) (frame : Frame)
     → DecodesInto blocks.decoder octets 65536 decoded list new.decoder
     → BlocksShow blocks frames lines
     → BlocksShow new (frames ++ frame ∷ [])
-    (lines ++ (frame_line frame ++ decoded_lines decoded list))
+    (lines ++ frame_shown frame (decoded_listing (Some decoded) list) ∷ [])
 show_block blocks new gather frame frames lines stream end octets decoded list continues ended same
     decodes shows =
     let after = continues shows.left [] (only_left blocks frames lines shows) in
@@ -176,17 +179,8 @@ show_block blocks new gather frame frames lines stream end octets decoded list c
     (λ (begun : Option Begun). IsLeft begun after.split.left) ended after.split.unfinished in
     let joined : shows.left ++ frame ∷ [] ≡ one = after.split.joined ∙ (λ i. whole i ++ nothing i) ∙
     append-nil (one ++ others) ∙ ap (λ (some : List Frame). one ++ some) none ∙ append-nil one in
-    let text : List ℕ = flat_map frame_line (shows.left ++ frame ∷ []) ++ list_lines decodes.fields
-    in
-    let lent : flat_map frame_line shows.left ++ (frame_line frame ++ decoded_lines decoded list)
-    ≡ text =
-    ap (λ (some : List ℕ). flat_map frame_line shows.left ++ (frame_line frame ++ some))
-    (decoded_is decodes.fields list decoded decodes.holds)
-    ∙ sym (append_assoc (flat_map frame_line shows.left) (frame_line frame)
-    (list_lines decodes.fields)) ∙ ap (λ (some : List ℕ). some ++ list_lines decodes.fields)
-    (ap (λ (some : List ℕ). flat_map frame_line shows.left ++ some)
-    (sym (append-nil (frame_line frame)))
-    ∙ sym (flat_map-append frame_line shows.left (frame ∷ []))) in
+    let line : ShowLine = frame_shown frame (decoded_listing (Some decoded) list) in
+    let listing = decoded_is decodes.fields list decoded decodes.holds in
     record {
       grouping = rw same after.sound;
       decoding = rw decodes.state refl;
@@ -194,12 +188,13 @@ show_block blocks new gather frame frames lines stream end octets decoded list c
       items = shows.items ++ block stream end octets ∷ [];
       complete = shows.complete ++ (shows.left ++ frame ∷ []);
       left = [];
-      first = shows.first ++ (text ++ []);
+      first = shows.first ++ (frame_lines shows.left ++ line ∷ []);
       joined = ap (λ (some : List Frame). some ++ frame ∷ []) shows.joined ∙ append_assoc
           shows.complete shows.left (frame ∷ []) ∙ sym (append-nil _);
       shown = shown_append _ _ _ shows.items (block stream end octets ∷ []) shows.complete
-          (shows.left ++ frame ∷ []) shows.first (text ++ []) shows.shown (
-            shows.left ++ frame ∷ [],
+          (shows.left ++ frame ∷ []) shows.first (frame_lines shows.left ++ line ∷ []) shows.shown (
+            shows.left,
+            frame,
             [],
             [],
             decodes.fields,
@@ -208,13 +203,12 @@ show_block blocks new gather frame frames lines stream end octets decoded list c
             subst (λ (some : List Frame). IsItem (block stream end octets) some) (sym joined) is,
             subst (λ (limit : ℕ). Block blocks.decoder.table limit octets decodes.fields
                 decodes.after) shows.limit decodes.block,
-            refl,
+            ap (λ (some : Option Listing). frame_lines shows.left ++ frame_shown frame some ∷ [])
+                listing,
             (refl, rw decodes.state refl, refl),
           );
       unfinished = rw (same, ended) refl;
-      all = ap (λ (some : List ℕ). some ++ (frame_line frame ++ decoded_lines decoded list))
-          shows.all ∙ append_assoc shows.first (flat_map frame_line shows.left)
-          (frame_line frame ++ decoded_lines decoded list)
-          ∙ ap (λ (some : List ℕ). shows.first ++ some)
-          (lent ∙ sym (append-nil text)) ∙ sym (append-nil (shows.first ++ (text ++ [])));
+      all = ap (λ (some : List ShowLine). some ++ line ∷ []) shows.all
+          ∙ append_assoc shows.first (frame_lines shows.left) (line ∷ [])
+          ∙ sym (append-nil (shows.first ++ (frame_lines shows.left ++ line ∷ [])));
     }

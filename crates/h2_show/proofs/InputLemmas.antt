@@ -1,12 +1,13 @@
 -- What an input prints, piece by piece.
-use Rattle.h2_show.proofs.Names.{◌≡◌, ℕ, ◌==◌, not, ◌&&◌, Bool, if◌then◌else◌, List, [], ◌∷◌, ◌++◌}
-use Rattle.h2_show.proofs.Names.{length, take, Option, Some, None, IfSome, sym, subst, append_assoc}
-use Rattle.h2_show.proofs.Names.{append-nil, Result, Ok, Err, IfOk, Appends-trans, Consumes-trans}
+use Rattle.h2_show.proofs.Names.{◌≡◌, ℕ, ◌==◌, not, ◌&&◌, Bool, if◌then◌else◌, List, [], ◌∷◌, ◌++◌, ◌∙◌}
+use Rattle.h2_show.proofs.Names.{length, take, Option, Some, None, IfSome, refl, sym, subst}
+use Rattle.h2_show.proofs.Names.{append_assoc, append-nil, Result, Ok, Err, IfOk, Consumes-trans}
 use Rattle.h2_show.proofs.Names.{Consumes-whole, is_some, Appends, Consumes, IsAtEnd, Keeps}
 use Rattle.h2_show.proofs.Names.{append_known, CutterState, Blocks, ShowOptions, Shown, Status}
 use Rattle.h2_show.proofs.Names.{Good, Fault, ShowError, ViewerShows, ViewerPrints, ViewerFailsWith}
 use Rattle.h2_show.proofs.Names.{ShowsAfter, end_lines, error_lines, begins_with_preface, limits_of}
-use Rattle.h2_show.proofs.Names.{StatusReportsOctets, Shows, common_steps, rules, arith}
+use Rattle.h2_show.proofs.Names.{StatusReportsOctets, Shows, ShowLine, Style, text_from, styled_text, AppendsLines}
+use Rattle.h2_show.proofs.Names.{common_steps, rules, arith}
 use Rattle.std.proofs.Common.{option_map, IsOk}
 use Rattle.std.proofs.KnownBytes.{Appends-kept}
 use Rattle.std.specs.declared.io.buffered.BufWriter.{BufWriter}
@@ -18,6 +19,7 @@ use Rattle.h2_cli.specs.Hexadecimal.{without_blanks}
 use Rattle.h2_show.specs.Report.{StatusReportsText}
 use Rattle.h2_show.specs.Shown.{ShowsOctets}
 use Rattle.h2_show.proofs.FaultLemmas.{end_shows_after}
+use Rattle.h2_show.proofs.StyleLemmas.{lines_trans, lines_styled, text_after}
 
 -- what holds of the octets with whatever follows them, of all that a reader had
 consumed_all : (before after : Option (List ℕ)) (octets : List ℕ) (P : List ℕ → Type 0)
@@ -26,8 +28,8 @@ consumed_all before after octets P read holds = search rules
 
 -- after octets that were shown, a fault in those that follow shows all, whatever follows them
 fails_after : (cutter mid new_cutter : CutterState) (blocks mid_blocks : Blocks)
-    (due mid_due new_due : Bool) (octets piece left one two : List ℕ) (error : ShowError)
-    (status : Status)
+    (due mid_due new_due : Bool) (octets piece left : List ℕ) (one two : List ShowLine)
+    (error : ShowError) (status : Status)
     → ViewerPrints cutter blocks due octets mid mid_blocks mid_due one
     → ViewerFailsWith mid mid_blocks mid_due piece error new_cutter new_due two
     → status ≡ Fault
@@ -35,7 +37,7 @@ fails_after : (cutter mid new_cutter : CutterState) (blocks mid_blocks : Blocks)
     ((one ++ two) ++ error_lines error new_cutter.place new_due)
 fails_after cutter mid new_cutter blocks mid_blocks due mid_due new_due octets piece left one two
     error status prints fails is = λ expects limits stream output shows.
-    let lines : List ℕ = error_lines error new_cutter.place new_due in
+    let lines : List ShowLine = error_lines error new_cutter.place new_due in
     let same : ((stream ++ octets) ++ piece) ++ left ≡ stream ++ ((octets ++ piece) ++ left) =
     simp append_assoc in
     let alike : ((output ++ one) ++ two) ++ lines ≡ output ++ ((one ++ two) ++ lines) =
@@ -44,113 +46,141 @@ fails_after cutter mid new_cutter blocks mid_blocks due mid_due new_due octets p
     (output ++ ((one ++ two) ++ lines))) (sym is)
     (subst (λ (all : List ℕ). Shows expects limits all Fault (output ++ ((one ++ two) ++ lines)))
     same
-    (subst (λ (text : List ℕ). Shows expects limits (((stream ++ octets) ++ piece) ++ left) Fault
+    (subst (λ (text : List ShowLine). Shows expects limits (((stream ++ octets) ++ piece) ++ left) Fault
     text) alike
-    (fails expects limits (stream ++ octets) (output ++ one) left
+    (fails expects limits (stream ++ octets) left (output ++ one)
     (prints expects limits stream output shows))))
 
 -- the end of the input
 pub end_shows_all : (cutter new_cutter : CutterState) (blocks new_blocks : Blocks)
-    (due new_due : Bool) (before middle after start text ended : Option (List ℕ))
-    (octets buffer printed : List ℕ) (count : ℕ) (status : Status)
+    (due new_due : Bool) (style same : Style) (at mid : ℕ)
+    (before middle after start text ended : Option (List ℕ)) (octets buffer : List ℕ)
+    (printed : List ShowLine) (count : ℕ) (status : Status) → same ≡ style
     → Consumes before middle octets → Consumes middle after (take count buffer) → count ≡ 0
-    → IsAtEnd after → Appends start text printed
+    → IsAtEnd after → AppendsLines style at mid start text printed
     → ViewerPrints cutter blocks due octets new_cutter new_blocks new_due printed
     → status ≡ (if length new_cutter.unparsed == 0 && not (is_some new_blocks.gather.begun)
     then Good else Fault)
-    → Appends text ended
-    (end_lines (length new_cutter.unparsed) (is_some new_blocks.gather.begun))
-    → IfSome before (λ all. (lines : List ℕ) × ShowsAfter cutter blocks due all status lines
-    × Appends start ended lines)
-end_shows_all cutter new_cutter blocks new_blocks due new_due before middle after start text ended
-    octets buffer printed count status read last none at_end written prints known ending =
+    → Appends text ended (text_from same mid
+    (end_lines (length new_cutter.unparsed) (is_some new_blocks.gather.begun)))
+    → IfSome before (λ all. (lines : List ShowLine) × ShowsAfter cutter blocks due all status lines
+    × Appends start ended (text_from style at lines))
+end_shows_all cutter new_cutter blocks new_blocks due new_due style same at mid before middle after
+    start text ended octets buffer printed count status is read last none at_end written prints known ending =
     let nothing : Consumes middle after [] = subst
     (λ (some : ℕ). Consumes middle after (take some buffer)) none last in
     let all : Consumes before after octets = subst (λ (some : List ℕ). Consumes before after some)
     (append-nil octets) (Consumes-trans before middle after octets [] read nothing) in
-    Consumes-whole before after octets (λ all. (lines : List ℕ)
-    × ShowsAfter cutter blocks due all status lines × Appends start ended lines) all at_end (
+    Consumes-whole before after octets (λ all. (lines : List ShowLine)
+    × ShowsAfter cutter blocks due all status lines
+    × Appends start ended (text_from style at lines)) all at_end (
       printed ++ end_lines (length new_cutter.unparsed) (is_some new_blocks.gather.begun),
       end_shows_after _ _ _ _ _ _ _ _ status prints known,
-      Appends-trans start text ended printed _ written ending,
+      text_after style same at mid start text ended printed _ is written ending,
     )
 
 -- a fault in a piece
 pub error_shows_all : (cutter mid new_cutter : CutterState) (blocks mid_blocks : Blocks)
-    (due mid_due new_due : Bool) (before after start text middle ended : Option (List ℕ))
-    (octets piece one two : List ℕ) (error : ShowError) (status : Status)
-    → Consumes before after (octets ++ piece) → Appends start text one
+    (due mid_due new_due : Bool) (style same kept : Style) (at place next : ℕ)
+    (before after start text middle ended : Option (List ℕ)) (octets piece : List ℕ)
+    (one two : List ShowLine) (error : ShowError) (status : Status) → same ≡ style → kept ≡ same
+    → Consumes before after (octets ++ piece) → AppendsLines style at place start text one
     → ViewerPrints cutter blocks due octets mid mid_blocks mid_due one
-    → Appends text middle two
+    → AppendsLines same place next text middle two
     → ViewerFailsWith mid mid_blocks mid_due piece error new_cutter new_due two
-    → status ≡ Fault → Appends middle ended (error_lines error new_cutter.place new_due)
-    → IfSome before (λ all. (lines : List ℕ) × ShowsAfter cutter blocks due all status lines
-    × Appends start ended lines)
-error_shows_all cutter mid new_cutter blocks mid_blocks due mid_due new_due before after start text
-    middle ended octets piece one two error status read written prints more fails is last =
-    consumed_all before after (octets ++ piece) (λ all. (lines : List ℕ)
-    × ShowsAfter cutter blocks due all status lines × Appends start ended lines) read (λ left. (
+    → status ≡ Fault
+    → Appends middle ended (text_from kept next (error_lines error new_cutter.place new_due))
+    → IfSome before (λ all. (lines : List ShowLine) × ShowsAfter cutter blocks due all status lines
+    × Appends start ended (text_from style at lines))
+error_shows_all cutter mid new_cutter blocks mid_blocks due mid_due new_due style same kept at place
+    next before after start text middle ended octets piece one two error status alike unchanged read
+    written prints more fails is last =
+    consumed_all before after (octets ++ piece) (λ all. (lines : List ShowLine)
+    × ShowsAfter cutter blocks due all status lines
+    × Appends start ended (text_from style at lines)) read (λ left. (
       (one ++ two) ++ error_lines error new_cutter.place new_due,
       fails_after cutter mid new_cutter blocks mid_blocks due mid_due new_due octets piece left one
           two error status prints fails is,
-      Appends-trans _ _ _ _ _ (Appends-trans start text middle one two written more) last,
+      text_after style kept at next start middle ended _ _ (unchanged ∙ alike)
+          (lines_trans style at place next start text middle one two written
+          (lines_styled style same place next text middle two alike more)) last,
     ))
+
+-- lines that show the octets, in the style of the options from the first octet on
+all_shown : (options : ShowOptions) (style : Style) (at : ℕ) (start ended : Option (List ℕ))
+    (octets : List ℕ) (lines : List ShowLine) (status : Status) → style ≡ options.style → at ≡ 1
+    → Shows (begins_with_preface options.from) (limits_of options) octets status lines
+    → Appends start ended (text_from style at lines)
+    → (text : List ℕ) × ShowsOctets options octets status text × Appends start ended text
+all_shown options style at start ended octets lines status asked first shows appended = (
+  styled_text options.style lines,
+  (lines, shows, refl),
+  subst (λ (place : ℕ). Appends start ended (text_from options.style place lines)) first
+      (subst (λ (some : Style). Appends start ended (text_from some at lines)) asked appended),
+)
 
 -- a fault in octets that are shown all at once
 pub error_shown : (options : ShowOptions) (cutter new_cutter : CutterState) (blocks : Blocks)
-    (due new_due : Bool) (start text ended : Option (List ℕ)) (octets printed : List ℕ)
-    (error : ShowError) (status : Status)
+    (due new_due : Bool) (style same : Style) (at next : ℕ) (start text ended : Option (List ℕ))
+    (octets : List ℕ) (printed : List ShowLine) (error : ShowError) (status : Status)
+    → style ≡ options.style → at ≡ 1 → same ≡ style
     → ViewerShows cutter blocks due (begins_with_preface options.from) (limits_of options) [] []
-    → Appends start text printed
+    → AppendsLines style at next start text printed
     → ViewerFailsWith cutter blocks due octets error new_cutter new_due printed
-    → status ≡ Fault → Appends text ended (error_lines error new_cutter.place new_due)
+    → status ≡ Fault
+    → Appends text ended (text_from same next (error_lines error new_cutter.place new_due))
     → (lines : List ℕ) × ShowsOctets options octets status lines × Appends start ended lines
-error_shown options cutter new_cutter blocks due new_due start text ended octets printed error
-    status shows written fails is last = (
-      printed ++ error_lines error new_cutter.place new_due,
-      subst (λ (reported : Status). ShowsOctets options octets reported
-          (printed ++ error_lines error new_cutter.place new_due)) (sym is)
-          (subst (λ (all : List ℕ). ShowsOctets options all Fault
-          (printed ++ error_lines error new_cutter.place new_due)) (append-nil octets)
-          (fails (begins_with_preface options.from) (limits_of options) [] [] [] shows)),
-      Appends-trans start text ended printed _ written last,
-    )
+error_shown options cutter new_cutter blocks due new_due style same at next start text ended octets
+    printed error status asked first alike shows written fails is last =
+    let lines : List ShowLine = printed ++ error_lines error new_cutter.place new_due in
+    all_shown options style at start ended octets lines status asked first
+    (subst (λ (reported : Status). Shows (begins_with_preface options.from) (limits_of options)
+    octets reported lines) (sym is)
+    (subst (λ (all : List ℕ). Shows (begins_with_preface options.from) (limits_of options) all Fault
+    lines) (append-nil octets)
+    (fails (begins_with_preface options.from) (limits_of options) [] [] [] shows)))
+    (text_after style same at next start text ended printed _ alike written last)
 
 -- the end of octets that are shown all at once
 pub end_shown : (options : ShowOptions) (cutter new_cutter : CutterState)
-    (blocks new_blocks : Blocks) (due new_due : Bool) (start text ended : Option (List ℕ))
-    (octets printed : List ℕ) (status : Status)
+    (blocks new_blocks : Blocks) (due new_due : Bool) (style same : Style) (at next : ℕ)
+    (start text ended : Option (List ℕ)) (octets : List ℕ) (printed : List ShowLine)
+    (status : Status) → style ≡ options.style → at ≡ 1 → same ≡ style
     → ViewerShows cutter blocks due (begins_with_preface options.from) (limits_of options) [] []
-    → Appends start text printed
+    → AppendsLines style at next start text printed
     → ViewerPrints cutter blocks due octets new_cutter new_blocks new_due printed
     → status ≡ (if length new_cutter.unparsed == 0 && not (is_some new_blocks.gather.begun)
     then Good else Fault)
-    → Appends text ended
-    (end_lines (length new_cutter.unparsed) (is_some new_blocks.gather.begun))
+    → Appends text ended (text_from same next
+    (end_lines (length new_cutter.unparsed) (is_some new_blocks.gather.begun)))
     → (lines : List ℕ) × ShowsOctets options octets status lines × Appends start ended lines
-end_shown options cutter new_cutter blocks new_blocks due new_due start text ended octets printed
-    status shows written prints known last = (
-      printed ++ end_lines (length new_cutter.unparsed) (is_some new_blocks.gather.begun),
-      end_shows_after cutter new_cutter blocks new_blocks due new_due octets printed status prints
-          known (begins_with_preface options.from) (limits_of options) [] [] shows,
-      Appends-trans start text ended printed _ written last,
-    )
+end_shown options cutter new_cutter blocks new_blocks due new_due style same at next start text ended
+    octets printed status asked first alike shows written prints known last =
+    all_shown options style at start ended octets
+    (printed ++ end_lines (length new_cutter.unparsed) (is_some new_blocks.gather.begun)) status
+    asked first
+    (end_shows_after cutter new_cutter blocks new_blocks due new_due octets printed status prints
+    known (begins_with_preface options.from) (limits_of options) [] [] shows)
+    (text_after style same at next start text ended printed _ alike written last)
 
 -- after no octets the octets alone are shown
 pub octets_shown : {E : Type 0} (options : ShowOptions) (cutter : CutterState) (blocks : Blocks)
-    (due : Bool) (before start ended : Option (List ℕ)) (result : Result Shown E)
+    (due : Bool) (style : Style) (at : ℕ) (before start ended : Option (List ℕ))
+    (result : Result Shown E) → style ≡ options.style → at ≡ 1
     → ViewerShows cutter blocks due (begins_with_preface options.from) (limits_of options) [] []
-    → IfOk result (λ shown. IfSome before (λ octets. (lines : List ℕ)
-    × ShowsAfter cutter blocks due octets shown.status lines × Appends start ended lines))
+    → IfOk result (λ shown. IfSome before (λ octets. (lines : List ShowLine)
+    × ShowsAfter cutter blocks due octets shown.status lines
+    × Appends start ended (text_from style at lines)))
     → IfOk result (λ shown. IfSome before (λ octets. (lines : List ℕ)
     × ShowsOctets options octets shown.status lines × Appends start ended lines))
-octets_shown options cutter blocks due before start ended (Err error) shows shown = tt
-octets_shown options cutter blocks due None start ended (Ok some) shows shown = tt
-octets_shown options cutter blocks due (Some octets) start ended (Ok some) shows shown = (
-  shown.0,
-  shown.1 (begins_with_preface options.from) (limits_of options) [] [] shows,
-  shown.2,
-)
+octets_shown options cutter blocks due style at before start ended (Err error) asked first shows
+    shown = tt
+octets_shown options cutter blocks due style at None start ended (Ok some) asked first shows shown =
+    tt
+octets_shown options cutter blocks due style at (Some octets) start ended (Ok some) asked first
+    shows (lines, so, appended) =
+    all_shown options style at start ended octets lines some.status asked first
+    (so (begins_with_preface options.from) (limits_of options) [] [] shows) appended
 
 -- what the lines show of text, by the octets that it gives
 pub text_shown : (options : ShowOptions) (before start ended : Option (List ℕ)) (octets : List ℕ)

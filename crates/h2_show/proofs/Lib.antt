@@ -7,6 +7,8 @@ pub mod BlocksShown
 pub mod PrefaceLemmas
 pub mod PrintedLemmas
 pub mod FaultLemmas
+pub mod StyleLemmas
 pub mod PieceLemmas
 pub mod InputLemmas
+pub mod PrintedText
 pub mod examples

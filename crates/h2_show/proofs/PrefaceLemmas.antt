@@ -3,14 +3,15 @@ use Rattle.h2_show.proofs.Names.{◌≡◌, ℕ, ◌+◌, ◌<◌, Bool, true, f
 use Rattle.h2_show.proofs.Names.{◌++◌, length, take, drop, refl, sym, ◌∙◌, ap, arith, inl, inr}
 use Rattle.h2_show.proofs.Names.{append_assoc, length-append, length-take, nat_tests, cases_Bool}
 use Rattle.h2_show.proofs.Names.{take-append-drop, Frame, Limits, preface, expected_preface}
-use Rattle.h2_show.proofs.Names.{CutterState, CutterRepresents, preface_line, preface_lines}
+use Rattle.h2_show.proofs.Names.{CutterState, CutterRepresents, ShowLine, preface_shown}
+use Rattle.h2_show.proofs.Names.{preface_lines}
 use Rattle.std.proofs.Common.{◌⊎◌, nat_lt, bytes_eq}
 use lib.Pointwise.{bytes_decides}
 use Rattle.h2_wire.specs.Streams.{IsWrongPreface}
 
 -- the line of a preface that is complete, where one is expected
-abbrev pub whole_preface : Bool → List ℕ
-whole_preface expects = if expects then preface_line else []
+abbrev pub whole_preface : Bool → List ShowLine
+whole_preface expects = if expects then preface_shown ∷ [] else []
 
 -- a stream that begins with what is expected
 pub opened_lines : (expects : Bool) (body : List ℕ)
@@ -27,7 +28,7 @@ unequal_lines true stream differs =
     elim (cases_Bool (bytes_eq (take 24 stream) (expected_preface true))) [
       | inl same ↦ absurd (differs
           ((bytes_decides (take 24 stream) (expected_preface true)).0 same))
-      | inr other ↦ ap (λ (begins : Bool). if begins then preface_line else []) other
+      | inr other ↦ ap (λ (begins : Bool). if begins then preface_shown ∷ [] else []) other
     ]
 
 -- a stream that is shorter than what is expected

@@ -2,3 +2,4 @@
 -- have them. Each example computes: a definition that says otherwise is refused.
 pub mod FrameLines
 pub mod OtherLines
+pub mod Styles

@@ -1,5 +1,10 @@
 pub mod Blocks
+pub mod ShownLines
 pub mod Lines
+pub mod Named
+pub mod StyledLines
+pub mod JsonLines
+pub mod Styles
 pub mod Report
 pub mod Shown
 pub mod Viewer

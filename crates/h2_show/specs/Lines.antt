@@ -1,17 +1,17 @@
--- The lines of `h2 show`, as octets: what README's tour and `h2 show --help` say in words.
+-- The lines of `h2 show`, as octets, in the style that no words choose otherwise: what README's tour
+-- and `h2 show --help` say in words.
 use Rattle.std.specs.Prelude.{ℕ, ◌+◌, ◌*◌, ◌/◌, ◌%◌, ◌==◌, nat_lt, nat_le, not, ◌&&◌, Bool}
 use Rattle.std.specs.Prelude.{true, false, if◌then◌else◌, List, [], ◌∷◌, ◌++◌, length, codes}
 use Rattle.std.specs.Prelude.{decimal}
 use Rattle.std.specs.Prelude.{flat_map, Option, Some, None}
 use Rattle.std.specs.Option.{is_some}
 use Rattle.hpack.specs.declared.types.field.Field.{Field}
-use Rattle.hpack.specs.declared.types.field.Decoded.{Decoded}
-use Rattle.hpack.specs.declared.types.field.Decoded.TheVariants.{Whole, TooLarge}
-use Rattle.hpack.specs.Lists.{list_size}
 use Rattle.h2_frame.specs.declared.code.Code.{Code}
 use Rattle.h2_frame.specs.Codes.{name_of}
 use Rattle.h2_frame.specs.Frames.{Frame, Data, Headers, Priority, Reset, Settings, Ping, GoAway}
 use Rattle.h2_frame.specs.Frames.{WindowUpdate, Continuation, Unknown}
+use Rattle.h2_show.specs.ShownLines.{Listing, listed, too_large, ShowLine, preface_shown}
+use Rattle.h2_show.specs.ShownLines.{frame_shown, fault_shown, rest_shown, unfinished_shown}
 
 -- a number below 16 as a hexadecimal digit
 -- rule: show (own) The line of a field has its mark, its name and its value
@@ -45,23 +45,13 @@ field_line field =
     (if field.sensitive then codes "  !" else codes "  ") ++ shown_octets field.name
     ++ codes ": " ++ shown_octets field.value ++ codes "\n"
 
--- the greatest size of a list that is shown (own)
+-- the lines of the block that a frame ends, where it ends one: of its fields, or that there are too
+-- many
 -- rule: show (own) A list above 65,536 octets has one line, without fields
-abbrev pub show_list_limit : ℕ
-show_list_limit = 65536
-
--- the lines of a block's fields, or that there are too many
--- rule: show (own) A list above 65,536 octets has one line, without fields
-abbrev pub list_lines : List Field → List ℕ
-list_lines fields =
-    if nat_le (list_size fields) show_list_limit then flat_map field_line fields
-    else codes "  list too large\n"
-
--- the lines of a list that a decoder was given
--- rule: show (own) A list above 65,536 octets has one line, without fields
-abbrev pub decoded_lines : Decoded → List Field → List ℕ
-decoded_lines Whole fields = flat_map field_line fields
-decoded_lines TooLarge fields = codes "  list too large\n"
+abbrev pub listing_lines : Option Listing → List ℕ
+listing_lines None = []
+listing_lines (Some (listed fields)) = flat_map field_line fields
+listing_lines (Some too_large) = codes "  list too large\n"
 
 -- a space and the word of a flag, where the flag is set
 -- rule: show (own) The line of a frame has its type, stream, octets and more
@@ -147,3 +137,12 @@ rest_line count = codes "rest " ++ decimal count ++ codes "\n"
 -- rule: show (own) An input has one output: preface, frames, then how it ends
 abbrev pub unfinished_line : List ℕ
 unfinished_line = codes "unfinished block\n"
+
+-- a line as it is printed where no words choose otherwise
+-- rule: show (own) An input has one output: preface, frames, then how it ends
+abbrev pub plain_line : ShowLine → List ℕ
+plain_line preface_shown = preface_line
+plain_line (frame_shown frame listing) = frame_line frame ++ listing_lines listing
+plain_line (fault_shown code place) = fault_line code place
+plain_line (rest_shown count) = rest_line count
+plain_line unfinished_shown = unfinished_line

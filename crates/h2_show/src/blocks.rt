@@ -1,13 +1,13 @@
 //! The field blocks among frames, decoded.
 
-ghost use Rattle.std.specs.Prelude.{◌≡◌, ℕ, false, [], ◌∷◌, ◌++◌, List as Items, IfOk, IfErr, OnOk};
+ghost use Rattle.std.specs.Prelude.{◌≡◌, false, [], ◌∷◌, ◌++◌, List as Items, IfOk, IfErr, OnOk};
 ghost use Rattle.std.specs.Option.{is_some};
 ghost use Rattle.h2_frame.specs.Frames.{Frame, frame_of};
 ghost use Rattle.hpack.specs.Lists.{DecodesInto};
 ghost use Rattle.h2_show.specs.Blocks.{BlocksRepresent, BlockErrorReports, DecodingErrorReports};
 ghost use Rattle.h2_show.specs.Blocks.{error_of_grouping, error_of_decoding};
-ghost use Rattle.h2_show.specs.Lines.{frame_line};
-ghost use Rattle.h2_show.specs.Printed.{BlocksShow, block_lines};
+ghost use Rattle.h2_show.specs.ShownLines.{ShowLine, decoded_listing, frame_shown};
+ghost use Rattle.h2_show.specs.Printed.{BlocksShow};
 
 use h2_block::{BlockFault, Gather, Gathered};
 use h2_frame::limits::{FIRST_TABLE, MAX_LIST, MAX_TABLE_LIMIT};
@@ -90,10 +90,10 @@ impl Blocks {
         ensures err { IfErr result (λ error. (frames : Items Frame)
             → BlocksRepresent self.old frames
             → BlockErrorReports (frames ++ frame_of frame.entry ∷ []) error) }
-        ensures shown { IfOk result (λ decoded. (frames : Items Frame) (lines : Items ℕ)
+        ensures shown { IfOk result (λ decoded. (frames : Items Frame) (lines : Items ShowLine)
             → BlocksShow self.old frames lines
-            → BlocksShow self.new (frames ++ frame_of frame.entry ∷ [])
-            (lines ++ (frame_line (frame_of frame.entry) ++ block_lines decoded self.new.list))) }
+            → BlocksShow self.new (frames ++ frame_of frame.entry ∷ []) (lines
+            ++ frame_shown (frame_of frame.entry) (decoded_listing decoded self.new.list) ∷ [])) }
     {
         match self.gather.take(frame)? {
             Gathered::Pass(_) | Gathered::More => Ok(None),

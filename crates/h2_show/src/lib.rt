@@ -4,20 +4,25 @@
 //! [`show_input`] reads from any reader and prints to any writer, so tests run it in memory.
 //! A [`Viewer`] shows one stream, piece by piece.
 //! [`write_field`] prints a field for other commands too, and [`write_text`] a name or a value. What
-//! these share besides is in `h2_cli`.
+//! these share besides is in `h2_cli`. A [`Style`] says how the lines are printed.
 #![tactic(auto)]
 
 mod blocks;
 mod hint;
+mod json_lines;
 mod lines;
+mod naming;
 mod options;
+mod printer;
 mod show;
+mod styled_lines;
 mod viewer;
 
 pub use blocks::BlockError;
 pub use h2_cli::{Failure, Status};
 pub use hint::Hint;
 pub use lines::{write_field, write_text};
-pub use options::{ShowOptions, Side};
+pub use naming::{code_name, setting_name};
+pub use options::{ShowOptions, Side, Style, TextStyle};
 pub use show::{Lent, Shown, show_input};
 pub use viewer::{ShowError, Viewer};

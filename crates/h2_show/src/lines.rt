@@ -13,7 +13,8 @@ ghost use Rattle.h2_show.specs.Lines.{hex_octet};
 ghost use Rattle.h2_show.specs.Lines.{hex_digit, is_plain as plain, shown_octet, shown_octets};
 ghost use Rattle.h2_show.specs.Lines.{field_line};
 ghost use Rattle.hpack.specs.FieldLists.{field_lent};
-ghost use Rattle.h2_show.specs.Printed.{block_lines};
+ghost use Rattle.h2_show.specs.Lines.{listing_lines};
+ghost use Rattle.h2_show.specs.ShownLines.{decoded_listing};
 
 use h2_frame::limits::PAIR;
 use h2_frame::{FrameRef, Pairs};
@@ -39,7 +40,7 @@ pub(crate) fn write_frame<W: Write>(frame: FrameRef<'_>, out: &mut W) -> io::Res
 /// The line of a frame, without its end: the kind, the stream, the octets of the payload, and then
 /// what the kind adds. The words are divided by one space, and numbers are decimal.
 #[derive(Clone, Copy)]
-struct FrameLine<'a>(FrameRef<'a>);
+pub(crate) struct FrameLine<'a>(pub(crate) FrameRef<'a>);
 
 #[tactic(auto, unfolding(crate::specs::Lines::frame_words))]
 impl fmt::Display for FrameLine<'_> {
@@ -86,7 +87,7 @@ impl fmt::Display for FrameLine<'_> {
 
 /// A space and the word of a flag, where the flag is set.
 #[derive(Clone, Copy)]
-struct Word<'a>(bool, &'a str);
+pub(crate) struct Word<'a>(pub(crate) bool, pub(crate) &'a str);
 
 impl fmt::Display for Word<'_> {
     ghost output = { λ word. Some (flag_word word.0 word.1.now) };
@@ -164,14 +165,14 @@ fn data_length(octets: &[u8], pad: Option<u8>) -> usize
 }
 
 /// The length of a SETTINGS payload.
-fn settings_length(pairs: Pairs<'_>) -> usize
+pub(crate) fn settings_length(pairs: Pairs<'_>) -> usize
     ensures { result ≡ 6 * length (lent_pairs pairs.entry) }
 {
     pairs.len().saturating_mul(PAIR)
 }
 
 /// The length of a GOAWAY payload.
-fn goaway_length(debug: &[u8]) -> usize
+pub(crate) fn goaway_length(debug: &[u8]) -> usize
     ensures { result ≡ 8 + length debug.now }
 {
     debug.len().saturating_add(GOAWAY)
@@ -337,7 +338,7 @@ pub(crate) fn write_list<W: Write>(
     out: &mut W,
 ) -> io::Result<()>
     ensures { OnOk result (Appends (W.contents out.old) (W.contents out.new)
-        (block_lines decoded list.now)) }
+        (listing_lines (decoded_listing decoded list.now))) }
 {
     match decoded {
         Some(Decoded::Whole) => write_fields(list, out),

@@ -12,6 +12,30 @@ pub struct ShowOptions {
     pub from: Side,
     /// The most octets of a frame's payload (RFC 9113, section 4.2); a frame with more is a fault.
     pub max_frame: u32,
+    /// How the lines are printed.
+    pub style: Style,
+}
+
+/// How lines are printed.
+#[derive(Clone, Copy, Debug, PartialEq, Eq)]
+pub enum Style {
+    /// As text, without names, places and colors.
+    Plain,
+    /// As text, with more.
+    Text(TextStyle),
+    /// As JSON: an object a line, with names and places.
+    Json,
+}
+
+/// What text has more than the plain lines.
+#[derive(Clone, Copy, Debug, PartialEq, Eq)]
+pub struct TextStyle {
+    /// Settings and error codes by name (RFC 9113, sections 6.5.2 and 7).
+    pub names: bool,
+    /// The place of its first octet before each frame and the preface, from 1 on.
+    pub places: bool,
+    /// Colors, as a terminal takes them.
+    pub colors: bool,
 }
 
 /// An end of a connection.

@@ -8,6 +8,8 @@ ghost use Rattle.h2_cli.specs.Hexadecimal.{IsBadHex};
 ghost use Rattle.h2_show.specs.Printed.{ViewerPrints, ViewerFailsWith, ShowsAfter, ShowsText};
 ghost use Rattle.h2_show.specs.Report.{StatusReportsOctets, StatusReportsText, StatusReportsInput};
 ghost use Rattle.h2_show.specs.Shown.{ShowsOctets, ShowsInput};
+ghost use Rattle.h2_show.specs.ShownLines.{ShowLine};
+ghost use Rattle.h2_show.specs.Styles.{AppendsLines, text_from};
 ghost use Rattle.h2_show.specs.Viewer.{ViewerContinues, ViewerFails, StatusReportsAfter};
 ghost use Rattle.h2_show.specs.Viewer.{IsStreamFault};
 
@@ -58,6 +60,11 @@ impl<W: Write> Write for Lent<'_, W> {
 // contract: show (own) The words choose the limit of payloads
 // contract: show (own) An input has one output: preface, frames, then how it ends
 // rule: show (own) An input has one output: preface, frames, then how it ends
+// contract: show (own) Settings and error codes have their names where words ask for them
+// contract: show (own) A frame's place is the number of its first octet, in ten digits
+// contract: show (own) Colors begin and end within each line
+// contract: show (own) With --json each line is a JSON object
+// contract: show (own) With --json octets that are not UTF-8 are in hexadecimal under another key
 /// Shows the input: a line for each frame, the fields of a block under the frame that ends it, and
 /// then a line for the fault that ends the stream, or for what its end leaves unfinished.
 ///
@@ -170,7 +177,7 @@ fn show_octets<R: Read, W: Write + Drop>(
         printed)) }
 {
     let mut buffer = new_buffer(alloc)?;
-    let mut viewer = Viewer::new(alloc, options.from, options.max_frame)?;
+    let mut viewer = Viewer::new(alloc, options)?;
     show_pieces(&mut viewer, input, &mut buffer, lines)
 }
 
@@ -190,10 +197,10 @@ fn show_pieces<R: Read, W: Write + Drop>(
     ensures reports { IfOk result (λ shown. IfSome (R.remaining input.old)
         (λ octets. StatusReportsAfter viewer.old.cutter viewer.old.blocks octets shown.status)) }
     ensures shows { IfOk result (λ shown. IfSome (R.remaining input.old) (λ octets.
-        (printed : List ℕ) × ShowsAfter viewer.old.cutter viewer.old.blocks
-        viewer.old.preface.is_due octets shown.status printed
+        (printed : List ShowLine) × ShowsAfter viewer.old.cutter viewer.old.blocks
+        viewer.old.printer.is_due octets shown.status printed
         × Appends (writer_contents W.contents lines.old) (writer_contents W.contents lines.new)
-        printed)) }
+        (text_from viewer.old.printer.style viewer.old.printer.next printed))) }
 {
     for _ in 0..u64::MAX {
         let count = read_next(input, buffer, lines)?;
@@ -227,16 +234,17 @@ fn write_piece<W: Write + Drop>(
     ensures err { IfErr result (λ error. ViewerFails viewer.old.cutter viewer.old.blocks piece.now
         error viewer.new.cutter) }
     ensures written { OnOk result (writer_buffer lines.new ≡ []) }
-    ensures shown { OnOk result ((printed : List ℕ)
-        × Appends (writer_contents W.contents lines.old) (writer_contents W.contents lines.new)
-        printed
-        × ViewerPrints viewer.old.cutter viewer.old.blocks viewer.old.preface.is_due piece.now
-        viewer.new.cutter viewer.new.blocks viewer.new.preface.is_due printed) }
-    ensures fault { IfErr result (λ error. IsStreamFault error → (printed : List ℕ)
-        × Appends (writer_contents W.contents lines.old) (writer_contents W.contents lines.new)
-        printed
-        × ViewerFailsWith viewer.old.cutter viewer.old.blocks viewer.old.preface.is_due piece.now
-        error viewer.new.cutter viewer.new.preface.is_due printed) }
+    ensures shown { OnOk result ((printed : List ShowLine)
+        × AppendsLines viewer.old.printer.style viewer.old.printer.next viewer.new.printer.next
+        (writer_contents W.contents lines.old) (writer_contents W.contents lines.new) printed
+        × ViewerPrints viewer.old.cutter viewer.old.blocks viewer.old.printer.is_due piece.now
+        viewer.new.cutter viewer.new.blocks viewer.new.printer.is_due printed) }
+    ensures fault { IfErr result (λ error. IsStreamFault error → (printed : List ShowLine)
+        × AppendsLines viewer.old.printer.style viewer.old.printer.next viewer.new.printer.next
+        (writer_contents W.contents lines.old) (writer_contents W.contents lines.new) printed
+        × ViewerFailsWith viewer.old.cutter viewer.old.blocks viewer.old.printer.is_due piece.now
+        error viewer.new.cutter viewer.new.printer.is_due printed) }
+    ensures style { viewer.new.printer.style ≡ viewer.old.printer.style }
 {
     viewer.show_piece(piece, lines)?;
     Ok(lines.flush()?)
@@ -273,7 +281,7 @@ fn show_all<W: Write>(
         × ShowsOctets options octets.now shown.status printed
         × Appends (W.contents out.old) (W.contents out.new) printed) }
 {
-    let mut viewer = Viewer::new(alloc, options.from, options.max_frame)?;
+    let mut viewer = Viewer::new(alloc, options)?;
     match viewer.show_piece(octets, out) {
         Ok(()) => {
             let status = viewer.show_end(out)?;

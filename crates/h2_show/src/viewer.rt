@@ -1,21 +1,22 @@
 //! Shows a stream of frames that comes in pieces.
 
-ghost use Rattle.std.specs.Prelude.{◌≡◌, ◌==◌, not, ◌&&◌, length, if◌then◌else◌, ℕ, List, false};
-ghost use Rattle.std.specs.Prelude.{[], OnOk, IfOk, IfErr};
+ghost use Rattle.std.specs.Prelude.{◌≡◌, ◌==◌, not, ◌&&◌, length, if◌then◌else◌, List, [], ◌∷◌};
+ghost use Rattle.std.specs.Prelude.{OnOk, IfOk, IfErr};
 ghost use Rattle.std.specs.Io.KnownBytes.{Appends};
 ghost use Rattle.std.specs.Option.{is_some};
-ghost use Rattle.h2_show.specs.Lines.{fault_line};
-ghost use Rattle.h2_show.specs.Printed.{due_line, error_lines, end_lines, ViewerShows};
+ghost use Rattle.h2_show.specs.ShownLines.{ShowLine, fault_shown};
+ghost use Rattle.h2_show.specs.Styles.{AppendsLines, text_from};
+ghost use Rattle.h2_show.specs.Printed.{error_lines, end_lines, ViewerShows};
 ghost use Rattle.h2_show.specs.Printed.{ViewerPrints};
 ghost use Rattle.h2_show.specs.Printed.{ViewerFailsWith};
-ghost use Rattle.h2_show.specs.Report.{begins_with_preface};
+ghost use Rattle.h2_show.specs.Report.{begins_with_preface, limits_of};
 ghost use Rattle.h2_show.specs.Viewer.{ViewerRepresents, ViewerContinues, ViewerFails};
 ghost use Rattle.h2_show.specs.Viewer.{IsStreamFault};
 ghost use Rattle.h2_show.specs.declared.viewer.ShowError.TheVariants.{Wire, Block, Output};
 
 use crate::blocks::{BlockError, Blocks};
-use crate::lines::{write_frame, write_list};
-use crate::options::Side;
+use crate::options::ShowOptions;
+use crate::printer::Printer;
 use h2_cli::Status;
 use h2_frame::Code;
 use h2_wire::{Cutter, WireFault};
@@ -27,14 +28,7 @@ use std::io::{self, ErrorKind, Write};
 pub struct Viewer {
     cutter: Cutter,
     blocks: Blocks,
-    preface: PrefaceLine,
-}
-
-/// The line of the preface (RFC 9113, section 3.4).
-#[derive(Clone, Copy, Debug)]
-struct PrefaceLine {
-    // Whether it is still to be printed.
-    is_due: bool,
+    printer: Printer,
 }
 
 /// Why no more of a stream is shown.
@@ -72,42 +66,27 @@ impl From<io::Error> for ShowError {
     }
 }
 
-impl PrefaceLine {
-    // Prints the line where it is still to be printed and the preface is complete.
-    fn advance<W: Write>(&mut self, is_complete: bool, out: &mut W) -> io::Result<()>
-        ensures due { OnOk result (self.new.is_due ≡ (if is_complete then false
-            else self.old.is_due)) }
-        ensures line { OnOk result (Appends (W.contents out.old) (W.contents out.new)
-            (due_line (self.old.is_due && is_complete))) }
-    {
-        if self.is_due && is_complete {
-            self.is_due = false;
-            out.write_all(b"preface\n")?;
-        }
-        Ok(())
-    }
-}
-
 impl Viewer {
     // rule: show (own) The words choose the limit of payloads
-    /// Begins with the first octet that the end sent. Payloads may have at most `max_frame` octets.
+    /// Begins with the first octet that `from` of the options sent. Payloads may have at most
+    /// `max_frame` octets, and lines have the style that the options say.
     ///
     /// # Errors
     ///
     /// [`AllocError`] when out of memory.
-    pub fn new(alloc: Global, from: Side, max_frame: u32) -> Result<Viewer, AllocError>
+    pub fn new(alloc: Global, options: ShowOptions) -> Result<Viewer, AllocError>
         ensures represents { IfOk result (λ viewer. ViewerRepresents viewer.cutter viewer.blocks
-            (begins_with_preface from) (λ _. max_frame) []) }
+            (begins_with_preface options.from) (limits_of options) []) }
         ensures shows { IfOk result (λ viewer. ViewerShows viewer.cutter viewer.blocks
-            viewer.preface.is_due (begins_with_preface from) (λ _. max_frame) [] []) }
+            viewer.printer.is_due (begins_with_preface options.from) (limits_of options) [] []) }
+        ensures style { IfOk result (λ viewer. viewer.printer.style ≡ options.style) }
+        ensures first { IfOk result (λ viewer. viewer.printer.next ≡ 1) }
     {
-        let expect_preface = from.begins_with_preface();
+        let expect_preface = options.from.begins_with_preface();
         Ok(Viewer {
-            cutter: Cutter::new(alloc, max_frame, expect_preface),
+            cutter: Cutter::new(alloc, options.max_frame, expect_preface),
             blocks: Blocks::new(alloc)?,
-            preface: PrefaceLine {
-                is_due: expect_preface,
-            },
+            printer: Printer::new(alloc, options),
         })
     }
 
@@ -128,27 +107,29 @@ impl Viewer {
             self.new.cutter self.new.blocks) }
         ensures err { IfErr result (λ error. ViewerFails self.old.cutter self.old.blocks piece.now
             error self.new.cutter) }
-        ensures shown { OnOk result ((printed : List ℕ)
-            × Appends (W.contents out.old) (W.contents out.new) printed
-            × ViewerPrints self.old.cutter self.old.blocks self.old.preface.is_due piece.now
-            self.new.cutter self.new.blocks self.new.preface.is_due printed) }
-        ensures fault { IfErr result (λ error. IsStreamFault error → (printed : List ℕ)
-            × Appends (W.contents out.old) (W.contents out.new) printed
-            × ViewerFailsWith self.old.cutter self.old.blocks self.old.preface.is_due piece.now
-            error self.new.cutter self.new.preface.is_due printed) }
+        ensures shown { OnOk result ((printed : List ShowLine)
+            × AppendsLines self.old.printer.style self.old.printer.next self.new.printer.next
+            (W.contents out.old) (W.contents out.new) printed
+            × ViewerPrints self.old.cutter self.old.blocks self.old.printer.is_due piece.now
+            self.new.cutter self.new.blocks self.new.printer.is_due printed) }
+        ensures fault { IfErr result (λ error. IsStreamFault error → (printed : List ShowLine)
+            × AppendsLines self.old.printer.style self.old.printer.next self.new.printer.next
+            (W.contents out.old) (W.contents out.new) printed
+            × ViewerFailsWith self.old.cutter self.old.blocks self.old.printer.is_due piece.now
+            error self.new.cutter self.new.printer.is_due printed) }
+        ensures style { self.new.printer.style ≡ self.old.printer.style }
     {
         let mut done = 0;
         while done < piece.len() {
             let cut = self.cutter.cut(&piece[done..])?;
             done += cut.used;
             let Some(frame) = cut.frame else {
-                self.preface.advance(self.cutter.is_past_preface(), out)?;
+                self.printer.advance(self.cutter.is_past_preface(), out)?;
                 continue;
             };
             let decoded = self.blocks.take(frame)?;
-            self.preface.advance(true, out)?;
-            write_frame(frame, out)?;
-            write_list(decoded, self.blocks.list(), out)?;
+            self.printer.advance(true, out)?;
+            self.printer.frame(frame, decoded, self.blocks.list(), out)?;
         }
         Ok(())
     }
@@ -164,7 +145,8 @@ impl Viewer {
     pub fn show_error<W: Write>(&mut self, error: ShowError, out: &mut W) -> io::Result<Status>
         ensures status { IfOk result (λ status. (status ≡ Status.Fault) × IsStreamFault error) }
         ensures lines { OnOk result (Appends (W.contents out.old) (W.contents out.new)
-            (error_lines error self.old.cutter.place self.old.preface.is_due)) }
+            (text_from self.old.printer.style self.old.printer.next
+            (error_lines error self.old.cutter.place self.old.printer.is_due))) }
     {
         match error {
             ShowError::Output(error) => Err(error),
@@ -173,12 +155,12 @@ impl Viewer {
             }
             ShowError::Wire(WireFault::BadPreface) => self.show_fault(Code::ProtocolError, out),
             ShowError::Wire(WireFault::HeadFault(fault)) => {
-                self.preface.advance(true, out)?;
+                self.printer.advance(true, out)?;
                 self.show_fault(fault.code(), out)
             }
             ShowError::Wire(WireFault::PayloadFault(code))
             | ShowError::Block(BlockError::Fault(code)) => {
-                self.preface.advance(true, out)?;
+                self.printer.advance(true, out)?;
                 self.show_fault(code, out)
             }
         }
@@ -190,9 +172,10 @@ impl Viewer {
     fn show_fault<W: Write>(&self, code: Code, out: &mut W) -> io::Result<Status>
         ensures status { IfOk result (λ status. status ≡ Status.Fault) }
         ensures line { IfOk result (λ status. Appends (W.contents out.old) (W.contents out.new)
-            (fault_line code self.now.cutter.place)) }
+            (text_from self.now.printer.style self.now.printer.next
+            (fault_shown code self.now.cutter.place ∷ []))) }
     {
-        writeln!(out, "fault {code} at {}", self.cutter.place())?;
+        self.printer.fault(code, self.cutter.place(), out)?;
         Ok(Status::Fault)
     }
 
@@ -208,15 +191,17 @@ impl Viewer {
             (if length self.now.cutter.unparsed == 0 && not (is_some self.now.blocks.gather.begun)
             then Status.Good else Status.Fault)) }
         ensures lines { OnOk result (Appends (W.contents out.old) (W.contents out.new)
-            (end_lines (length self.now.cutter.unparsed) (is_some self.now.blocks.gather.begun))) }
+            (text_from self.now.printer.style self.now.printer.next
+            (end_lines (length self.now.cutter.unparsed)
+            (is_some self.now.blocks.gather.begun)))) }
     {
         let held = self.cutter.held();
         if held != 0 {
-            writeln!(out, "rest {held}")?;
+            self.printer.rest(held, out)?;
             return Ok(Status::Fault);
         }
         if self.blocks.is_inside() {
-            writeln!(out, "unfinished block")?;
+            self.printer.unfinished(out)?;
             return Ok(Status::Fault);
         }
         Ok(Status::Good)

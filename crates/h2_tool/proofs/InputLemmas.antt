@@ -18,7 +18,7 @@ use Rattle.h2_events.specs.Report.{ReplayReportsInput, ReplayReportsOctets, Repl
 use Rattle.h2_messages.specs.declared.messages.Replayed.{Replayed}
 use Rattle.h2_messages.specs.Messages.{MessagesOfInput, MessagesOfOctets, MessagesOfText}
 use Rattle.h2_conn.specs.declared.why.Why.{Why}
-use Rattle.h2_args.specs.Words.{ShowWordsGive, ReplayWordsGive}
+use Rattle.h2_args.specs.Words.{ShowAsked, ShowWordsAsk, ReplayWordsGive}
 use Rattle.h2_follow.specs.declared.follow.FollowOptions.{FollowOptions}
 use Rattle.h2_follow.specs.declared.follow.Followed.{Followed}
 use Rattle.h2_follow.specs.declared.follow.Unfollowed.{Unfollowed}
@@ -26,7 +26,7 @@ use Rattle.h2_follow.specs.Follows.{FollowsToBadLine, status_of_both}
 use Rattle.h2_args.specs.Words.{follow_options_of}
 use Rattle.h2_tool.specs.Commands.{EndsShowOne, EndsFollow, EndsReplayOne, EndsMessages, FollowsSo}
 use Rattle.h2_tool.specs.Commands.{MessagesSo, PrintsBoth, PrintsOfMessages, PrintsToBadLine}
-use Rattle.h2_tool.specs.Commands.{ReplaysSo, ShowsSo}
+use Rattle.h2_tool.specs.Commands.{ReplaysSo, ShowsFile, ShowsSo}
 
 -- No input has the status of wrong words.
 no_usage : (hex : Bool) (options : ShowOptions) (given : List ℕ)
@@ -53,17 +53,6 @@ shows_so options (Some given) before after Usage reports shows =
 shows_so options remaining before after Device reports shows = tt
 shows_so options remaining before after Memory reports shows = tt
 
-show_ends : (options : ShowOptions) (words : List (List ℕ)) (remaining left : Option (List ℕ))
-    (before after : Option (List ℕ)) (status : Status) → ShowWordsGive words options
-    → IfSome remaining (λ given. StatusReportsInput options given status)
-    → IfSome remaining (λ given. (lines : List ℕ) × ShowsInput options given status lines
-    × Appends before after lines) → EndsShowOne words remaining left before after status
-show_ends options words remaining left before after status asked reports shows = inl (record {
-  options = options;
-  asked = asked;
-  so = shows_so options remaining before after status reports shows;
-})
-
 -- It was not.
 bad_hex_shown : (options : ShowOptions) (remaining before after : Option (List ℕ))
     (failure : Failure)
@@ -74,34 +63,43 @@ bad_hex_shown options remaining before after failures.Memory bad = tt
 bad_hex_shown options None before after failures.BadHex bad = tt
 bad_hex_shown options (Some given) before after failures.BadHex bad = bad refl
 
-show_gives_up : (options : ShowOptions) (words : List (List ℕ))
-    (remaining left before after : Option (List ℕ)) (failure : Failure)
-    → ShowWordsGive words options
-    → (failure ≡ failures.BadHex → (options.hex ≡ true) × IfSome remaining IsBadHex)
-    → EndsShowOne words remaining left before after (failure_status failure)
-show_gives_up options words remaining left before after failure asked bad = inl (record {
-  options = options;
-  asked = asked;
-  so = bad_hex_shown options remaining before after failure bad;
-})
-
--- So `show` ends with what came of its input.
-pub show_ends_so : (options : ShowOptions) (words : List (List ℕ))
-    (remaining left before after : Option (List ℕ)) (shown : Result Shown Failure)
-    (status : Status) → ShowWordsGive words options
+-- So showing an input ends with what came of it.
+pub input_ends_so : (options : ShowOptions) (remaining before after : Option (List ℕ))
+    (shown : Result Shown Failure) (status : Status)
     → IfOk shown (λ one. IfSome remaining (λ given. StatusReportsInput options given one.status))
     → IfOk shown (λ one. IfSome remaining (λ given. (lines : List ℕ)
     × ShowsInput options given one.status lines × Appends before after lines))
     → (shown ≡ Err failures.BadHex → (options.hex ≡ true) × IfSome remaining IsBadHex)
     → MatchResult shown (λ one. status ≡ one.status) (λ failure. status ≡ failure_status failure)
+    → ShowsSo options remaining before after status
+input_ends_so options remaining before after (Ok one) status reports shows bad so =
+    subst (ShowsSo options remaining before after) (sym so)
+    (shows_so options remaining before after one.status reports shows)
+input_ends_so options remaining before after (Err failure) status reports shows bad so =
+    subst (ShowsSo options remaining before after) (sym so)
+    (bad_hex_shown options remaining before after failure (λ is. bad (ap Err is)))
+
+-- So `show` ends with standard input,
+pub show_ends_so : (asked : ShowAsked) (words : List (List ℕ))
+    (remaining left before after : Option (List ℕ)) (status : Status) → ShowWordsAsk words asked
+    → asked.file ≡ None → ShowsSo asked.options remaining before after status
     → EndsShowOne words remaining left before after status
-show_ends_so options words remaining left before after (Ok one) status asked reports shows bad so =
-    subst (EndsShowOne words remaining left before after) (sym so)
-    (show_ends options words remaining left before after one.status asked reports shows)
-show_ends_so options words remaining left before after (Err failure) status asked reports shows bad
-    so =
-    subst (EndsShowOne words remaining left before after) (sym so)
-    (show_gives_up options words remaining left before after failure asked (λ is. bad (ap Err is)))
+show_ends_so asked words remaining left before after status given none so = inl (record {
+  asked = asked;
+  given = given;
+  so = rw none so;
+})
+
+-- and with a file.
+pub show_ends_with_file : (asked : ShowAsked) (words : List (List ℕ)) (file : List ℕ)
+    (remaining left before after : Option (List ℕ)) (status : Status) → ShowWordsAsk words asked
+    → asked.file ≡ Some file → ShowsFile asked.options remaining left before after status
+    → EndsShowOne words remaining left before after status
+show_ends_with_file asked words file remaining left before after status given some so = inl (record {
+  asked = asked;
+  given = given;
+  so = rw some so;
+})
 
 -- The input was replayed.
 replays_so : (options : ReplayOptions) (remaining : Option (List ℕ)) (status : Status)

@@ -18,7 +18,7 @@ use Rattle.clap.specs.Walk.{long_or_other, nothing_held, plain, short_or_plain, 
 use Rattle.clap.specs.Walk.{subcommand_or_other, trailing, walk_from}
 use Rattle.clap.specs.declared.error.kind.ErrorKind.{ErrorKind}
 use Rattle.clap.proofs.OnLiterals.{clap_on_literals}
-use Rattle.h2_args.specs.Commands.{SideNames, program_app}
+use Rattle.h2_args.specs.Commands.{ShowNames, SideNames, program_app}
 use Rattle.h2_args.specs.Words.{ProgramWordsPass}
 use Rattle.h2_tool.specs.Commands.{NamesNoCommand}
 
@@ -31,10 +31,10 @@ first_there [] two there none = there refl
 first_there (kind ∷ kinds) two there none = some_kind none
 
 -- The program as it is built, whose own arguments ask for help and the version.
-abbrev program : SideNames → SideNames → App
+abbrev program : ShowNames → SideNames → App
 program shown replayed = built (program_app shown replayed)
 
-abbrev names : SideNames → SideNames → Names
+abbrev names : ShowNames → SideNames → Names
 names shown replayed = names_of (program shown replayed)
 
 abbrev help : Rule
@@ -91,7 +91,7 @@ no_name : (name word : Text) → word ≢ name → bytes_eq name word ≡ false
 no_name name word other = false_from_ne_true (bytes_eq name word)
     (λ same. other (sym ((bytes_eq-Decides name word).0 same)))
 
-module _ (shown replayed : SideNames) where
+module _ (shown : ShowNames) (replayed : SideNames) where
   abbrev top : Shape
   top = (program shown replayed).top
 

@@ -1,7 +1,7 @@
 -- What the commands of `h2` do, by the words that follow their names and the status with which they
 -- end.
 use Rattle.std.specs.Prelude.{◌≡◌, ◌≢◌, ◌⊎◌, ℕ, Bool, true, false, List, [], ◌∷◌, Option, Some}
-use Rattle.std.specs.Prelude.{Result, Ok, Err, IfSome, MatchBool, codes}
+use Rattle.std.specs.Prelude.{Result, Ok, Err, IfSome, MatchBool, MatchOption, codes}
 use Rattle.std.specs.Io.KnownBytes.{Appends}
 use Rattle.clap.specs.Words.{IsAmong, Kinds}
 use Rattle.clap.specs.declared.error.kind.ErrorKind.{ErrorKind}
@@ -18,8 +18,9 @@ use Rattle.h2_events.specs.declared.options.ReplayOptions.{ReplayOptions}
 use Rattle.h2_events.specs.Report.{ReplayReportsInput}
 use Rattle.h2_conn.specs.declared.why.Why.{Why}
 use Rattle.h2_messages.specs.Messages.{MessagesOfInput}
-use Rattle.h2_args.specs.Commands.{AreSides, SideNames}
-use Rattle.h2_args.specs.Words.{ShowWordsGive, show_faults, ReplayWordsGive, replay_faults}
+use Rattle.h2_args.specs.Commands.{AreSides, SideNames, AreShowNames, ShowNames}
+use Rattle.h2_args.specs.Words.{ShowAsked, ShowWordsAsk, show_faults, ReplayWordsGive}
+use Rattle.h2_args.specs.Words.{replay_faults}
 use Rattle.h2_args.specs.Words.{serve_options_of, serve_faults, GetWords, get_words_of, get_faults}
 use Rattle.h2_args.specs.Words.{octets_asked, asks_messages}
 use Rattle.h2_args.specs.Words.{asks_follow, follow_options_of, follow_faults}
@@ -86,7 +87,8 @@ EndsByWords faults before after Memory = after ≡ before
 
 -- These are the kinds of error that the words after `show` may have.
 abbrev pub ShowFaults : (words : List (List ℕ)) → Kinds → Type 0
-ShowFaults words faults = (names : SideNames) × AreSides names × (show_faults names words ≡ faults)
+ShowFaults words faults =
+    (names : ShowNames) × AreShowNames names × (show_faults names words ≡ faults)
 
 -- These are those of the words after `replay`.
 abbrev pub ReplayFaults : (words : List (List ℕ)) → Kinds → Type 0
@@ -95,7 +97,8 @@ ReplayFaults words faults =
 
 -- These are those of words that begin with no command's name.
 abbrev pub ProgramFaults : (words : List (List ℕ)) → Kinds → Type 0
-ProgramFaults words faults = (shown replayed : SideNames) × AreSides shown × AreSides replayed
+ProgramFaults words faults = (shown : ShowNames) × (replayed : SideNames) × AreShowNames shown
+    × AreSides replayed
     × (program_faults shown replayed words ≡ faults)
 
 -- What was appended to the output is the lines of an input under these options.
@@ -118,12 +121,30 @@ ShowsSo options remaining before after Usage =
 ShowsSo options remaining before after Device = Unit {0}
 ShowsSo options remaining before after Memory = Unit {0}
 
--- The words after `show` give options, and it ends so under these.
-pub record ShowsAsAsked (words : List (List ℕ)) (remaining before after : Option (List ℕ))
+-- How showing a file ends under these options. It can't be opened, and nothing is printed; or what
+-- it holds, of which nothing is said, is shown. Standard input is not read.
+-- rule: show (own) With --file the input is that of a file
+pub data ShowsFile (options : ShowOptions) (remaining left before after : Option (List ℕ))
     (status : Status) : Type 0 where
-  pub options : ShowOptions
-  pub asked : ShowWordsGive words options
-  pub so : ShowsSo options remaining before after status
+  is_unopened : status ≡ Device → after ≡ before → left ≡ remaining
+      → ShowsFile options remaining left before after status
+  is_shown : (held : Option (List ℕ)) → ShowsSo options held before after status
+      → left ≡ remaining → ShowsFile options remaining left before after status
+
+-- How showing what is asked for ends: standard input, or a file.
+-- rule: show (own) With --file the input is that of a file
+abbrev pub ShowsAsked : ShowAsked → (remaining left before after : Option (List ℕ)) → Status
+    → Type 0
+ShowsAsked asked remaining left before after status = MatchOption asked.file
+    (ShowsSo asked.options remaining before after status)
+    (λ file. ShowsFile asked.options remaining left before after status)
+
+-- The words after `show` ask for something, and it ends so.
+pub record ShowsAsAsked (words : List (List ℕ)) (remaining left before after : Option (List ℕ))
+    (status : Status) : Type 0 where
+  pub asked : ShowAsked
+  pub given : ShowWordsAsk words asked
+  pub so : ShowsAsked asked remaining left before after status
 
 -- How `h2 show` ends without `--follow`: of a reader whose octets are known, `remaining` of which
 -- `left` are not read, and a writer whose contents are, before and after. Words that give no options
@@ -132,7 +153,7 @@ pub record ShowsAsAsked (words : List (List ℕ)) (remaining before after : Opti
 abbrev pub EndsShowOne : (words : List (List ℕ)) → (remaining left : Option (List ℕ))
     → (before after : Option (List ℕ)) → Status → Type 0
 EndsShowOne words remaining left before after status =
-    ShowsAsAsked words remaining before after status
+    ShowsAsAsked words remaining left before after status
     ⊎ ((faults : Kinds) × ShowFaults words faults × (left ≡ remaining)
     × EndsByWords faults before after status)
 

@@ -16,6 +16,7 @@ use h2_args::no_command;
 use h2_cli::{Failure, Status, write_hint};
 use h2_show::{Hint, Shown};
 use std::alloc::Global;
+use std::fs::Files;
 use std::io::{self, Read, Write};
 use std::net::Net;
 
@@ -24,8 +25,8 @@ use std::net::Net;
 // contract: replay (own) The words of replay choose the end and hexadecimal
 /// Runs the program with the words after its name, and returns its exit status: that of the
 /// command, or for words without one [`Status::Good`] where they ask for help or the version and
-/// [`Status::Usage`] where they are wrong. Sockets are opened by the network alone.
-pub fn run<N: Net, R: Read, W: Write, E: Write>(
+/// [`Status::Usage`] where they are wrong. Sockets and files are opened by `net` alone.
+pub fn run<N: Net + Files, R: Read, W: Write, E: Write>(
     net: &N,
     alloc: Global,
     words: &[String],
@@ -53,7 +54,7 @@ pub fn run<N: Net, R: Read, W: Write, E: Write>(
 {
     if let Some((name, others)) = words.split_first() {
         match name.as_str() {
-            "show" => return cmd_show(alloc, others, input, out, err),
+            "show" => return cmd_show(net, alloc, others, input, out, err),
             "replay" => return cmd_replay(alloc, others, input, out, err),
             "serve" => return cmd_serve(net, alloc, others, out, err),
             "get" => return cmd_get(net, alloc, others, out, err),

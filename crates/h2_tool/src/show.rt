@@ -1,32 +1,38 @@
 //! The command `h2 show`.
 
-ghost use Rattle.std.specs.Prelude.{map, string_bytes};
-ghost use Rattle.h2_tool.specs.Commands.{EndsShow};
+ghost use Rattle.std.specs.Prelude.{◌≡◌, List, ℕ, Option, map, string_bytes};
+ghost use Rattle.h2_cli.specs.declared.status.Status.TheVariants.{Device};
+ghost use Rattle.h2_tool.specs.Commands.{EndsShow, ShowsFile};
 
 use crate::follow::cmd_follow;
 use crate::program::{answer, end_input};
 use h2_args::{asks_follow, show_args};
-use h2_cli::Status;
-use h2_show::show_input;
+use h2_cli::{Failure, Status};
+use h2_show::{ShowOptions, show_input};
 use std::alloc::Global;
-use std::io::{Read, Write};
+use std::fs::{File, Files, OpenFile};
+use std::io::{self, ErrorKind, Read, Write};
 
 // rule: show (own) The status is 0 only where the input is good to its end
 // contract: show (own) The words choose the end and hexadecimal
 // rule: show (own) The words choose the end and hexadecimal
+// contract: show (own) With --file the input is that of a file
 /// Runs `h2 show` with the words after `show`: prints the frames of the input, one line each, the
 /// header fields under each block, and then the fault that ends the stream or what its end leaves
 /// unfinished. Where the first octets aren't the preface, a line on standard error names the option
 /// that is likely missing.
 ///
 /// The words are checked before anything is read. Lines are written at the end of each piece that
-/// was read.
+/// was read. Files are opened by `files` alone.
 ///
 /// The status is that of [`show_input`] under the options that the words give, and what was printed
 /// are the lines of the input; for help it is [`Status::Good`] with nothing read, and for wrong
-/// words [`Status::Usage`]. With `--follow` the input is the text that tshark prints of both sides
-/// of a connection, and the status that of [`h2_follow::follow_input`].
-pub fn cmd_show<R: Read, W: Write, E: Write>(
+/// words [`Status::Usage`]. With `--file` the input is that of a file; one that can't be opened is
+/// [`Status::Device`], and a line on standard error says why. With `--follow` the input is the text
+/// that tshark prints of both sides of a connection, and the status that of
+/// [`h2_follow::follow_input`].
+pub fn cmd_show<F: Files, R: Read, W: Write, E: Write>(
+    files: &F,
     alloc: Global,
     words: &[String],
     input: &mut R,
@@ -39,10 +45,61 @@ pub fn cmd_show<R: Read, W: Write, E: Write>(
     if asks_follow(words) {
         return cmd_follow(alloc, words, input, out, err);
     }
-    let options = match show_args(alloc, words) {
-        Ok(options) => options,
+    let asked = match show_args(alloc, words) {
+        Ok(asked) => asked,
         Err(error) => return answer(&error, out, err),
     };
-    let shown = show_input(alloc, options, input, out);
+    if let Some(path) = asked.file {
+        return show_file(files, alloc, asked.options, path, out, err);
+    }
+    let shown = show_input(alloc, asked.options, input, out);
     end_input(shown, "--from server", err)
+}
+
+// rule: show (own) With --file the input is that of a file
+// Shows what a file holds.
+fn show_file<F: Files, W: Write, E: Write>(
+    files: &F,
+    alloc: Global,
+    options: ShowOptions,
+    path: &str,
+    out: &mut W,
+    err: &mut E,
+) -> Status
+    ensures { (known : Option (List ℕ))
+        → ShowsFile options known known (W.contents out.old) (W.contents out.new) result }
+{
+    match open(files, path) {
+        Ok(mut file) => {
+            let shown = show_input(alloc, options, &mut file, out);
+            end_input(shown, "--from server", err)
+        }
+        Err(error) => end_unopened(path, &error, err),
+    }
+}
+
+// Opens a file that isn't a folder.
+fn open<F: Files>(files: &F, path: &str) -> io::Result<F::File> {
+    let file = File::open(files, path)?;
+    if file.metadata()?.is_dir() {
+        return Err(io::Error::from(ErrorKind::IsADirectory));
+    }
+    Ok(file)
+}
+
+// rule (tested): show (own) A hint names a file that can't be opened, and why
+// Ends the command where a file can't be opened.
+fn end_unopened<E: Write>(path: &str, error: &io::Error, err: &mut E) -> Status
+    ensures { result ≡ Device }
+{
+    let why = match error.kind() {
+        ErrorKind::NotFound => "there is none",
+        ErrorKind::PermissionDenied => "permission denied",
+        ErrorKind::IsADirectory => "it is a folder",
+        _ => "it can't be opened",
+    };
+    // There is no place left to report that these writes fail.
+    let _ = writeln!(err, "{}", Failure::Device);
+    let _ = writeln!(err, "hint: file {path}: {why}");
+    Status::Device
 }

@@ -1,9 +1,11 @@
 -- Lines of fields, of the preface, of faults and of ends, written out.
 use Rattle.h2_show.proofs.Names.{◌≡◌, List, ℕ, [], ◌∷◌, ◌++◌, true, false, codes, refl, ap, nat_le}
 use Rattle.h2_show.proofs.Names.{if◌then◌else◌, flat_map, Field, list_size, expected_preface}
-use Rattle.h2_show.proofs.Names.{preface, field_line, list_lines, fault_line, rest_line}
-use Rattle.h2_show.proofs.Names.{unfinished_line, end_lines, preface_lines}
+use Rattle.h2_show.proofs.Names.{preface, field_line, listing_lines, fault_line, rest_line}
+use Rattle.h2_show.proofs.Names.{unfinished_line, end_lines, preface_lines, preface_shown, rest_shown, listing_of}
+use Rattle.h2_show.proofs.Names.{unfinished_shown, Some}
 use Rattle.std.specs.Fmt.{digits}
+use Rattle.h2_show.specs.ShownLines.{listed, too_large}
 use Rattle.h2_frame.specs.declared.code.Code.TheVariants.{FrameSizeError, EnhanceYourCalm}
 
 plain_field : field_line (record { name = codes ":path"; value = codes "/"; sensitive = false })
@@ -23,27 +25,27 @@ escaped_field : field_line (record {
 }) ≡ codes "  \\x00\\x5c\\x7f\\xff: \\x1f ~\\x80\n"
 escaped_field = refl
 
-two_fields : list_lines (record { name = codes "a"; value = codes "b"; sensitive = false }
-    ∷ record { name = codes "c"; value = codes "d"; sensitive = true } ∷ [])
+two_fields : listing_lines (Some (listing_of (record { name = codes "a"; value = codes "b"; sensitive = false }
+    ∷ record { name = codes "c"; value = codes "d"; sensitive = true } ∷ [])))
     ≡ codes "  a: b\n  !c: d\n"
 two_fields = refl
 
-no_fields : list_lines [] ≡ []
+no_fields : listing_lines (Some (listing_of [])) ≡ []
 no_fields = refl
 
 -- a list is shown to its limit, and not one above it
 at_the_limit : (fields : List Field) → list_size fields ≡ 65536
-    → list_lines fields ≡ flat_map field_line fields
+    → listing_lines (Some (listing_of fields)) ≡ flat_map field_line fields
 at_the_limit fields size =
-    ap (λ (count : ℕ). if nat_le count 65536 then flat_map field_line fields
-    else codes "  list too large\n") size
+    ap (λ (count : ℕ). listing_lines (Some (if nat_le count 65536 then listed fields
+    else too_large))) size
 
 -- rule: show (own) A list above 65,536 octets has one line, without fields
 above_the_limit : (fields : List Field) → list_size fields ≡ 65537
-    → list_lines fields ≡ codes "  list too large\n"
+    → listing_lines (Some (listing_of fields)) ≡ codes "  list too large\n"
 above_the_limit fields size =
-    ap (λ (count : ℕ). if nat_le count 65536 then flat_map field_line fields
-    else codes "  list too large\n") size
+    ap (λ (count : ℕ). listing_lines (Some (if nat_le count 65536 then listed fields
+    else too_large))) size
 
 fault : fault_line FrameSizeError 48 ≡ codes "fault FRAME_SIZE_ERROR at 48\n"
 unfolding digits
@@ -63,15 +65,14 @@ unfinished = refl
 ends : end_lines 0 false ≡ []
 ends = refl
 
-ends_in_a_frame_of_a_block : end_lines 3 true ≡ codes "rest 3\n"
-unfolding digits
+ends_in_a_frame_of_a_block : end_lines 3 true ≡ rest_shown 3 ∷ []
 ends_in_a_frame_of_a_block = refl
 
-ends_in_a_block : end_lines 0 true ≡ codes "unfinished block\n"
+ends_in_a_block : end_lines 0 true ≡ unfinished_shown ∷ []
 ends_in_a_block = refl
 
 whole_preface : preface_lines true (codes "PRI * HTTP/2.0\r\n\r\nSM\r\n\r\n" ++ 0 ∷ [])
-    ≡ codes "preface\n"
+    ≡ preface_shown ∷ []
 unfolding expected_preface preface
 whole_preface = refl
 

@@ -2,7 +2,7 @@
 
 use super::devices::{Full, Halves};
 use h2_cli::{Failure, Status};
-use h2_show::{ShowOptions, Side, show_input};
+use h2_show::{ShowOptions, Side, Style, show_input};
 use std::alloc::{AllocError, Global};
 use std::io::Write;
 
@@ -33,6 +33,7 @@ fn show<W: Write>(
         hex: false,
         from: Side::Server,
         max_frame: 16_384,
+        style: Style::Plain,
     };
     let shown = show_input(alloc, options, &mut Halves::new(stream, place), out)?;
     Ok(shown.status)

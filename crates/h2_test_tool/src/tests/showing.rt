@@ -2,7 +2,7 @@
 
 use super::devices::{Faulty, Full, Pieces};
 use h2_cli::{Failure, Status, from_hex};
-use h2_show::{ShowOptions, Side, show_input};
+use h2_show::{ShowOptions, Side, Style, show_input};
 use std::alloc::Global;
 use std::io::{ErrorKind, Read, Write};
 
@@ -46,6 +46,7 @@ fn show<R: Read, W: Write>(
         hex,
         from: Side::Client,
         max_frame: 16_384,
+        style: Style::Plain,
     };
     let shown = show_input(alloc, options, input, out)?;
     Ok(shown.status)

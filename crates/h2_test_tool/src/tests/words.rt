@@ -4,6 +4,7 @@ use super::devices::Failing;
 use h2_cli::Status;
 use h2_tool::{cmd_show, no_words, run};
 use std::alloc::Global;
+use std::fs::Files;
 use std::io::{self, ErrorKind};
 use std::net::Net;
 use std::test::Fail;
@@ -20,7 +21,7 @@ pub(super) fn words_of(alloc: Global, line: &str) -> Result<Vec<String>, Fail> {
 }
 
 /// How the program ends that can neither read nor write.
-fn end_of<R: Net>(rt: &R, alloc: Global, line: &str) -> Result<Status, Fail> {
+fn end_of<R: Net + Files>(rt: &R, alloc: Global, line: &str) -> Result<Status, Fail> {
     let words = words_of(alloc, line)?;
     let status = run(rt, alloc, &words, &mut Failing, &mut Failing, &mut Failing);
     Ok(status)
@@ -62,10 +63,15 @@ fn words_that_cannot_be_had(rt: HostRuntime) {
 }
 
 /// The output and the status of a text; standard error can't be written.
-fn shown(alloc: Global, line: &str, text: &str) -> Result<(Vec<u8>, Status), Fail> {
+fn shown<F: Files>(
+    files: &F,
+    alloc: Global,
+    line: &str,
+    text: &str,
+) -> Result<(Vec<u8>, Status), Fail> {
     let words = words_of(alloc, line)?;
     let mut out = Vec::new(alloc);
-    let status = cmd_show(alloc, &words, &mut text.as_bytes(), &mut out, &mut Failing);
+    let status = cmd_show(files, alloc, &words, &mut text.as_bytes(), &mut out, &mut Failing);
     Ok((out, status))
 }
 
@@ -84,7 +90,7 @@ fn hints_that_cannot_be_written(rt: HostRuntime) -> Result<(), Fail> {
         ("--hex", "0g", "", Status::Usage),
     ];
     for (line, text, lines, status) in rows {
-        let (out, ended) = shown(rt.alloc(), line, text)?;
+        let (out, ended) = shown(&rt, rt.alloc(), line, text)?;
         assert!(rt;
             out.as_slice() == lines.as_bytes() && ended == status,
             "{line}"

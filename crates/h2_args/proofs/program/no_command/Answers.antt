@@ -1,5 +1,6 @@
 use Rattle.h2_args.proofs.Names.{◌∙◌, ap, sym, IfErr, map, string_bytes, refl, rules, IfErr-weaker}
-use Rattle.h2_args.proofs.Names.{App, HasKind, fault_of, is_simple_and_free, sides, program_faults}
+use Rattle.h2_args.proofs.Names.{App, HasKind, fault_of, is_simple_and_free, show_names, sides}
+use Rattle.h2_args.proofs.Names.{program_faults}
 use Rattle.h2_args.proofs.Names.{subst}
 use Rattle.std.proofs.lemmas.Result.{err_from_is_err_and}
 use Rattle.h2_args.proofs.program.no_command.Goals as goal
@@ -19,9 +20,9 @@ returns-clause-ok c =
 pub returns-in_err-command-clause-err : goal.returns-in_err-command-clause-err
 returns-in_err-command-clause-err c =
     let words = map string_bytes c.args.words.now in
-    let fails : IfErr c.from_residual.result (HasKind (program_faults sides sides words)) =
+    let fails : IfErr c.from_residual.result (HasKind (program_faults show_names sides words)) =
     search rules in
-    IfErr-weaker c.from_residual.result _ _ (λ e h. (sides, sides, refl, refl, h)) fails
+    IfErr-weaker c.from_residual.result _ _ (λ e h. (show_names, sides, (refl, refl), refl, h)) fails
 
 pub returns-in_err-try_get_matches_from-clause-err
     : goal.returns-in_err-try_get_matches_from-clause-err

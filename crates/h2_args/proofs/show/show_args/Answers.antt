@@ -1,9 +1,9 @@
 use Rattle.h2_args.proofs.Names.{◌≡◌, ◌∙◌, ℕ, IfErr, map, string_bytes, refl, ap, sym, rules, Some}
 use Rattle.h2_args.proofs.Names.{arith, codes, IfErr-weaker, ExplainsUnsignedError}
 use Rattle.h2_args.proofs.Names.{HasUnsignedDigitsIfOk, ParsesUnsigned, HasKind, found_of, rows_of}
-use Rattle.h2_args.proofs.Names.{show_app, sides, show_faults}
+use Rattle.h2_args.proofs.Names.{show_app, show_names, show_faults, Option, Text}
 use Rattle.h2_show.specs.declared.options.ShowOptions.{ShowOptions}
-use Rattle.h2_args.specs.Words.{show_options_in}
+use Rattle.h2_args.specs.Words.{ShowAsked, show_asked_in, show_options_in}
 use Rattle.h2_args.proofs.CommandLemmas.{show_is_alone, show_names_limit}
 use Rattle.h2_args.proofs.GivenLemmas.{given_by-Ok}
 use Rattle.h2_args.proofs.NumberOptionLemmas.{GivesNumberOr, option_number}
@@ -23,41 +23,48 @@ limit c =
     32 c.get_one.result c.get_one.ensures.none c.get_one.ensures.value (λ u x gives. gives.0)
     (omega arith) (omega arith) (omega arith)
 
+-- what is asked for in equal words is equal
+same_asked : {options options_now : ShowOptions} {file file_now : Option Text}
+    → options ≡ options_now → file ≡ file_now
+    → ◌≡◌ {A = ShowAsked} (record { options = options; file = file; })
+    (record { options = options_now; file = file_now; })
+same_asked a b = λ i. record { options = a i; file = b i; }
+
 pub returns-clause-ok : goal.returns-clause-ok
 returns-clause-ok c =
     let is = c.in_ok-command.ensures in
     let rows = rows_of (found_of c.in_ok-matches.matches) in
     let given = limit (goal.at.returns-clause-ok c).After-get_one in
-    let read : show_options_in rows ≡ c.options_of.result =
-    sym (c.options_of.ensures
+    let read : show_options_in rows ≡ c.options_of-options.result =
+    sym (c.options_of-options.ensures
     ∙ ap (λ (n : ℕ). record (show_options_in rows) { max_frame = n })
     (c.unwrap_or-max_frame.ensures ∙ given.read)) in (
       is.0,
       is.1,
-      given_by-Ok (show_app is.0) show_options_in _ c.in_ok-command.command
+      given_by-Ok (show_app is.0) show_asked_in _ c.in_ok-command.command
           c.in_ok-matches.matches is.2 refl refl c.in_ok-matches.ensures.matches
-          c.in_ok-matches.ensures.kinds ∙ ap Some read,
+          c.in_ok-matches.ensures.kinds ∙ ap Some (same_asked read (sym c.file_of-file.ensures)),
     )
 
 pub returns-clause-least : goal.returns-clause-least
 returns-clause-least c =
     let given = limit (goal.at.returns-clause-least c).After-get_one in
-    let same : c.options_of.result.max_frame ≡ c.unwrap_or-max_frame.result =
-    ap (λ (options : ShowOptions). options.max_frame) c.options_of.ensures in
+    let same : c.options_of-options.result.max_frame ≡ c.unwrap_or-max_frame.result =
+    ap (λ (options : ShowOptions). options.max_frame) c.options_of-options.ensures in
     omega (arith, same, c.unwrap_or-max_frame.ensures, given.low)
 
 pub returns-clause-most : goal.returns-clause-most
 returns-clause-most c =
     let given = limit (goal.at.returns-clause-most c).After-get_one in
-    let same : c.options_of.result.max_frame ≡ c.unwrap_or-max_frame.result =
-    ap (λ (options : ShowOptions). options.max_frame) c.options_of.ensures in
+    let same : c.options_of-options.result.max_frame ≡ c.unwrap_or-max_frame.result =
+    ap (λ (options : ShowOptions). options.max_frame) c.options_of-options.ensures in
     omega (arith, same, c.unwrap_or-max_frame.ensures, given.high)
 
 pub returns-in_err-command-clause-err : goal.returns-in_err-command-clause-err
 returns-in_err-command-clause-err c =
     let words = map string_bytes c.args.words.now in
-    let fails : IfErr c.from_residual.result (HasKind (show_faults sides words)) = search rules in
-    IfErr-weaker c.from_residual.result _ _ (λ e h. (sides, refl, h)) fails
+    let fails : IfErr c.from_residual.result (HasKind (show_faults show_names words)) = search rules in
+    IfErr-weaker c.from_residual.result _ _ (λ e h. (show_names, (refl, refl), h)) fails
 
 pub returns-in_err-matches-clause-err : goal.returns-in_err-matches-clause-err
 returns-in_err-matches-clause-err c =

@@ -15,7 +15,8 @@ pub returns-in-Ok-clause-shows : goal.returns-in-Ok-clause-shows
 returns-in-Ok-clause-shows g c =
     let (printed, written, prints) = c.in-Ok.ensures.shown in
     end_shown c.args.options _ c.show_piece.new.self.cutter _ c.show_piece.new.self.blocks _ _ _ _ _
-    c.args.octets.now printed c.in_ok-status-in-Ok.status c.in_ok-viewer.ensures.shows written
+    _ _ _ _ c.args.octets.now printed c.in_ok-status-in-Ok.status c.in_ok-viewer.ensures.style
+    c.in_ok-viewer.ensures.first c.show_piece.ensures.style c.in_ok-viewer.ensures.shows written
     prints c.in_ok-status-in-Ok.ensures.status c.in_ok-status-in-Ok.ensures.lines
 
 pub returns-clause-reports : goal.returns-clause-reports
@@ -29,6 +30,7 @@ pub returns-clause-shows : goal.returns-clause-shows
 returns-clause-shows g c =
     let known = c.in_ok-status-in-Err.ensures.status in
     let (printed, written, fails) = c.in-Err.ensures.fault known.1 in
-    error_shown c.args.options _ c.show_piece.new.self.cutter _ _ _ _ _ _ c.args.octets.now printed
-    c.in-Err.error c.in_ok-status-in-Err.status c.in_ok-viewer.ensures.shows written fails known.0
+    error_shown c.args.options _ c.show_piece.new.self.cutter _ _ _ _ _ _ _ _ _ _ c.args.octets.now
+    printed c.in-Err.error c.in_ok-status-in-Err.status c.in_ok-viewer.ensures.style
+    c.in_ok-viewer.ensures.first c.show_piece.ensures.style c.in_ok-viewer.ensures.shows written fails known.0
     c.in_ok-status-in-Err.ensures.lines

@@ -11,4 +11,4 @@ returns-clause-reports g c =
 pub returns-clause-shows : goal.returns-clause-shows
 returns-clause-shows g c =
     octets_shown c.args.options c.in_ok-viewer.viewer.cutter c.in_ok-viewer.viewer.blocks _ _ _ _ _
-    c.in_ok-viewer.ensures.shows c.show_pieces.ensures.shows
+    _ _ c.in_ok-viewer.ensures.style c.in_ok-viewer.ensures.first c.in_ok-viewer.ensures.shows c.show_pieces.ensures.shows

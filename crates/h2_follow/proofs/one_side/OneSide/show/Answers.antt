@@ -10,15 +10,17 @@ returns-then-self c =
 pub returns-in-Ok : goal.returns-in-Ok
 returns-in-Ok c =
     let (printed, written, prints) = c.in-Ok.ensures.shown in (
-      printed,
-      written,
+      _,
+      written.0,
       prints_advances c.args.self.now (record c.args.self.now {
         viewer = c.show_piece.new.self;
-      }) c.args.octets.now printed c.if-self.false c.if-self.false prints,
+      }) c.args.octets.now printed c.if-self.false c.if-self.false c.show_piece.ensures.style
+          written.1 prints,
     )
 
 pub returns-in-Err : goal.returns-in-Err
 returns-in-Err c =
     fault_told c.end_with.result c.args.self.now c.end_with.new.self _ c.in-Err.error
-    c.show_piece.new.self _ _ _ c.if-self.false c.end_with.ensures.over c.end_with.ensures.fault
+    c.show_piece.new.self _ _ _ c.if-self.false c.end_with.ensures.over c.show_piece.ensures.style
+    c.end_with.ensures.fault
     c.in-Err.ensures.fault c.end_with.ensures.lines

@@ -14,12 +14,12 @@ returns-clause-represents c =
 pub returns-clause-shows : goal.returns-clause-shows
 returns-clause-shows c =
     let cut = rw c.begins_with_preface-expect_preface.ensures at c.new.ensures.represents in
-    let nothing = nothing_represented (begins_with_preface c.args.from) _ _ cut in
+    let nothing = nothing_represented (begins_with_preface c.args.options.from) _ _ cut in
     record {
       frames = [];
       lines = [];
       cut = cut;
       blocks_show = c.in_ok-new.ensures.shows;
-      is_due = c.begins_with_preface-expect_preface.ensures ∙ sym nothing.0;
+      is_due = c.new-3.ensures.due ∙ sym nothing.0;
       all = sym nothing.1;
     }

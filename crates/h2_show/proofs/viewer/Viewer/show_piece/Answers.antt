@@ -1,10 +1,11 @@
 -- Each call of the cutter, and of the blocks where it returns a frame, shows more of the piece, or
 -- fails.
-use Rattle.h2_show.proofs.Names.{err_from_is_err_and, rules, [], Appends-nil, Appends-trans}
+use Rattle.h2_show.proofs.Names.{err_from_is_err_and, rules, [], refl}
 use Rattle.h2_show.proofs.ViewerLemmas.{continues_nothing, used_within, continues_without_frame}
 use Rattle.h2_show.proofs.ViewerLemmas.{continues_with_frame, fails_at_cut, fails_at_frame}
 use Rattle.h2_show.proofs.PieceLemmas.{prints_none, prints_without_frame, prints_frame}
-use Rattle.h2_show.proofs.PieceLemmas.{frame_written, fails_with_wire, fails_with_block}
+use Rattle.h2_show.proofs.PieceLemmas.{fails_with_wire, fails_with_block}
+use Rattle.h2_show.proofs.StyleLemmas.{lines_none, lines_trans, lines_styled, frame_written}
 use Rattle.h2_show.proofs.viewer.Viewer.show_piece.Goals as goal
 
 pub loop-done-init : goal.loop-done-init
@@ -12,7 +13,8 @@ loop-done-init g c =
     record {
       within = search rules;
       shown = continues_nothing _ _;
-      printed = ([], Appends-nil _, prints_none _ _ _);
+      style = refl;
+      printed = ([], lines_none _ _ _, prints_none _ _ _);
     }
 
 pub returns-in_err-cut-clause-fault : goal.returns-in_err-cut-clause-fault
@@ -23,7 +25,7 @@ returns-in_err-cut-clause-fault g c =
       printed,
       written,
       fails_with_wire c.in_err-cut.field-0.0 _ c.loop-done.self.cutter _ _ c.loop-done.self.blocks
-          _ c.loop-done.self.preface.is_due c.args.piece.now c.loop-done.done printed prints
+          _ c.loop-done.self.printer.is_due c.args.piece.now c.loop-done.done printed prints
           (rw c.in_err-cut.was at c.cut.follows.holds-at-none) is,
     ))
 
@@ -36,7 +38,7 @@ returns-in_err-decoded-clause-fault g c =
       printed,
       written,
       fails_with_block c.in_err-decoded.field-0.0 _ c.loop-done.self.cutter _ _
-          c.loop-done.self.blocks _ c.loop-done.self.preface.is_due c.args.piece.now
+          c.loop-done.self.blocks _ c.loop-done.self.printer.is_due c.args.piece.now
           c.loop-done.done c.in_ok-cut.cut c.in-Some.frame printed prints c.in-Some.is
           (rw c.in_ok-cut.was at c.cut.follows.holds-at-none) c.in_err-decoded.ensures.err is,
     ))
@@ -60,9 +62,10 @@ loop-done-preserved-in_default g c =
           c.in_default.is (rw c.in_ok-cut.was at c.cut.follows.holds-at-none);
       printed = let (printed, written, prints) = c.loop-done.invariant.printed in (
         _,
-        Appends-trans _ _ _ printed _ written c.in_ok-advance.ensures.line,
+        lines_trans _ _ _ _ _ _ _ printed _ written (lines_styled _ _ _ _ _ _ _
+            c.loop-done.invariant.style c.in_ok-advance.ensures.line),
         prints_without_frame _ c.loop-done.self.cutter _ _ c.loop-done.self.blocks _
-            c.loop-done.self.preface.is_due _ c.is_past_preface.result c.args.piece.now
+            c.loop-done.self.printer.is_due _ c.is_past_preface.result c.args.piece.now
             c.loop-done.done c.in_ok-cut.cut printed prints c.in_default.is
             (rw c.in_ok-cut.was at c.cut.follows.holds-at-none) c.is_past_preface.ensures
             c.in_ok-advance.ensures.due,
@@ -92,11 +95,11 @@ loop-done-preserved g c =
           (rw c.in_ok-cut.was at c.cut.follows.holds-at-none) c.in_ok-decoded.ensures.ok;
       printed = let (printed, written, prints) = c.loop-done.invariant.printed in (
         _,
-        frame_written _ _ _ _ _ c.loop-done.self.preface.is_due printed _ _ written
-            c.in_ok-advance-2.ensures.line c.in_ok-write_frame.ensures
-            (rw c.list.ensures at c.in_ok-write_list.ensures),
+        frame_written _ _ _ _ _ _ _ _ _ _ _ c.loop-done.self.printer.is_due printed _
+            c.loop-done.invariant.style c.advance-2.ensures.same written
+            c.in_ok-advance-2.ensures.line (rw c.list.ensures at c.in_ok-frame.ensures.line),
         prints_frame _ c.loop-done.self.cutter _ _ c.loop-done.self.blocks _ _
-            c.loop-done.self.preface.is_due _ c.args.piece.now c.loop-done.done
+            c.loop-done.self.printer.is_due _ c.args.piece.now c.loop-done.done
             c.in_ok-cut.cut c.in-Some.frame printed _ prints c.in-Some.is
             (rw c.in_ok-cut.was at c.cut.follows.holds-at-none)
             c.in_ok-advance-2.ensures.due c.in_ok-decoded.ensures.shown,
