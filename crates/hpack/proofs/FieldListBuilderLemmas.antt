@@ -10,7 +10,7 @@ use Rattle.hpack.specs.FieldListBuilder.{Adds, AddsRead, ReadsInto, RepresentsLi
 use Rattle.hpack.proofs.FieldListLemmas.{are_between, fields_of-more, within-append, within-more}
 
 -- the size of a list with one field more
-list_size-more : (fields : List Field) (field : Field)
+pub list_size-more : (fields : List Field) (field : Field)
     → list_size (fields ++ field ∷ [])
     ≡ list_size fields + (length field.name + length field.value + 32)
 list_size-more fields field =
@@ -19,7 +19,7 @@ list_size-more fields field =
     omega (arith, more)
 
 -- A value that is there isn't missing.
-none_is_some : (x : Option ℕ) (n : ℕ) → x ≡ None → x ≡ Some n → ⊥
+pub none_is_some : (x : Option ℕ) (n : ℕ) → x ≡ None → x ≡ Some n → ⊥
 none_is_some None n e f = cc
 none_is_some (Some m) n e f = cc
 

@@ -4,6 +4,7 @@ mod Names
 pub mod PendingTableLemmas
 pub mod FieldLemmas
 pub mod FieldListBuilderLemmas
+mod RepeatedLemmas
 pub mod FieldListLemmas
 pub mod OwnedListLemmas
 pub mod PrefixLemmas

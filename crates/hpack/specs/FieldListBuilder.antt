@@ -44,3 +44,10 @@ abbrev pub AddsRead : FieldListBuilder → ℕ → ReadField → FieldListBuilde
 AddsRead builder start read new =
     (old : FieldListBuilder) (field : Field) → ReadsInto old field read builder
     → start ≡ length old.octets.items → Adds old field new
+
+-- Where the builder represented fields, for whatever limit, it represents those and the last of
+-- them once more.
+abbrev pub AddsAgain : FieldListBuilder → FieldListBuilder → Type 0
+AddsAgain old new = (list_limit : ℕ) (before : List Field) (field : Field)
+    → RepresentsList list_limit (before ++ field ∷ []) old
+    → RepresentsList list_limit ((before ++ field ∷ []) ++ field ∷ []) new

@@ -6,6 +6,7 @@ pub mod Tables
 pub mod Blocks
 pub mod Lists
 pub mod FieldListBuilder
+pub mod Repeated
 pub mod FieldLists
 pub mod OwnedLists
 pub mod TableInvariant

@@ -2,7 +2,7 @@
 
 ghost use Rattle.std.specs.Prelude.{◌≡◌, ◌↔◌, ◌+◌, ◌≤◌, [], OnOk, IfErr, IsTrue, None, vec_len};
 
-use crate::table::eviction::size_of_octets;
+use crate::table::eviction::{OVERHEAD, size_of_octets};
 use crate::types::fault::Fault;
 use crate::types::field::Decoded;
 use crate::types::field_list::FieldList;
@@ -25,7 +25,7 @@ impl FieldListBuilder {
     ghost use Rattle.hpack.specs.declared.types.field.Field.{Field};
     ghost use Rattle.hpack.specs.Lists.{HoldsList};
     ghost use Rattle.hpack.specs.FieldLists.{AreWithin};
-    ghost use Rattle.hpack.specs.FieldListBuilder.{Builds, RepresentsList, AddsRead};
+    ghost use Rattle.hpack.specs.FieldListBuilder.{Builds, RepresentsList, AddsRead, AddsAgain};
 
     // rule: HPACK 3.2 (own) A list that the caller keeps is emptied, then has the block's fields
     /// An empty list in the room of another one, for a limit in octets.
@@ -74,6 +74,36 @@ impl FieldListBuilder {
             sensitive: read.sensitive,
         })?;
         self.remaining = Some(remaining - size as u32);
+        Ok(())
+    }
+
+    // rule: HPACK 3.2 (own) A list that the caller keeps is emptied, then has the block's fields
+    /// Adds the last field once more, at the same place of the octets, where the size stays within
+    /// the limit; otherwise the list is too large, and nothing of it is kept.
+    #[inline(always)]
+    pub(crate) fn add_again(&mut self) -> Result<(), Fault>
+        ensures ok { OnOk result (AddsAgain self.old self.new) }
+        ensures err { IfErr result (λ fault. fault ≡ Fault.Memory) }
+    {
+        let Some(left) = self.remaining else {
+            return Ok(());
+        };
+        let Some(place) = self.places.last() else {
+            return Ok(());
+        };
+        let again = *place;
+        let size = again
+            .value_end
+            .saturating_sub(again.start)
+            .saturating_add(OVERHEAD);
+        if size <= left as usize {
+            self.places.push(again)?;
+            self.remaining = Some(left - size as u32);
+            return Ok(());
+        }
+        self.octets.clear();
+        self.places.clear();
+        self.remaining = None;
         Ok(())
     }
 

@@ -1,9 +1,10 @@
 //! The fields of a block, up to its end.
 
-ghost use Rattle.std.specs.Prelude.{◌≤◌, length, take, IfOk, OnOk, IfErr, List as Items};
+ghost use Rattle.std.specs.Prelude.{◌<◌, ◌≤◌, length, take, IfOk, OnOk, IfErr, List as Items};
 ghost use Rattle.hpack.specs.declared.types.field.Field.{Field as OneField};
 ghost use Rattle.hpack.specs.Blocks.{Step, Fields};
 ghost use Rattle.hpack.specs.FieldListBuilder.{Adds, Builds};
+ghost use Rattle.hpack.specs.Repeated.{IsRepeatable, ReadsNext};
 ghost use Rattle.hpack.specs.Prefixes.{FieldsFault, PrefixFault, IsStep};
 
 use crate::decode::field::{field_at, skip_at};
@@ -11,6 +12,9 @@ use crate::decode::field_list_builder::FieldListBuilder;
 use crate::table::dynamic_table::Table;
 use crate::types::fault::Fault;
 use std::alloc::Global;
+
+/// No octet.
+const NO_INDEX: u16 = 0x100;
 
 // rule: HPACK 4.2 Size updates stand at the beginning of a block
 /// Reads all of `octets` as fields, into an empty list.
@@ -26,11 +30,45 @@ pub(crate) fn read_fields(
     ensures fault { IfErr result (FieldsFault table.old octets.now) }
 {
     let mut unparsed = octets;
+    let mut repeatable = NO_INDEX;
     while !unparsed.is_empty() {
-        let count = read_one(alloc, table, unparsed, builder)?;
+        let (count, next) = read_next(alloc, table, unparsed, repeatable, builder)?;
+        repeatable = next;
         unparsed = &unparsed[count..];
     }
     Ok(())
+}
+
+/// Reads the field at the start of `octets` into the list, and answers how many octets encode it.
+/// The field that was read last may have been an index in one octet, `repeatable`: the same octet
+/// then is the same field, of which no other copy is made. Answered too is that octet for the next
+/// field, or `NO_INDEX`.
+#[inline(always)]
+fn read_next(
+    alloc: Global,
+    table: &mut Table,
+    octets: &[u8],
+    repeatable: u16,
+    builder: &mut FieldListBuilder,
+) -> Result<(usize, u16), Fault>
+    requires { 0 < length octets.now }
+    ensures ok { IfOk result (λ read. (read.0 ≤ length octets.now)
+        × ((done : Items OneField) → IsRepeatable repeatable table.old done
+        → ReadsNext table.old (take read.0 octets.now) builder.old done read.1 table.new
+        builder.new)) }
+    ensures long { IfOk result (λ read. 0 < read.0) }
+    ensures fault { IfErr result (PrefixFault (IsStep table.old) octets.now) }
+{
+    let first = u16::from(octets[0]);
+    if first == repeatable {
+        builder.add_again()?;
+        return Ok((1, repeatable));
+    }
+    let count = read_one(alloc, table, octets, builder)?;
+    if count == 1 && first >= 0x80 {
+        return Ok((count, first));
+    }
+    Ok((count, NO_INDEX))
 }
 
 /// Reads the field at the start of `octets` into the list, and answers how many octets encode it.

@@ -10,7 +10,7 @@ ghost use Rattle.hpack.specs.Prefixes.{EncodesIndex, prefix_bits_of};
 use crate::decode::texts::{int_at, text_at};
 use crate::table::dynamic_table::Table;
 use crate::table::eviction::size_of_octets;
-use crate::table::lookup::entry_at;
+use crate::table::lookup::{STATIC_COUNT, entry_at};
 use crate::types::entry::Entry;
 use crate::types::fault::Fault;
 use crate::types::literal::Literal;
@@ -55,10 +55,20 @@ pub(crate) fn indexed_at(
         × EncodesIndex table.now.entries (take read.1 octets.now) name value) }
     ensures fault { IfErr result (PrefixFault (IsIndex table.now.entries) octets.now) }
 {
-    let (name, value, count) = indexed(table, octets)?;
-    out.extend_from_slice(name)?;
-    out.extend_from_slice(value)?;
-    Ok((name.len(), count))
+    let (index, count) = int_at(INDEX_PREFIX, octets)?;
+    if index <= STATIC_COUNT {
+        let Some((name, value)) = entry_at(table, index) else {
+            return Err(Fault::Compression);
+        };
+        out.extend_from_slice(name)?;
+        out.extend_from_slice(value)?;
+        return Ok((name.len(), count));
+    }
+    let Some((joined, name_len)) = table.joined((index - STATIC_COUNT) as usize) else {
+        return Err(Fault::Compression);
+    };
+    out.extend_from_slice(joined)?;
+    Ok((name_len, count))
 }
 
 // rule: HPACK 4.4 A name by index is looked up before entries leave
@@ -67,6 +77,7 @@ pub(crate) fn indexed_at(
 // rule: HPACK 6.2.3 A literal never indexed is not added, and is sensitive
 /// Appends the name and the value of the literal at the start of `octets`, and answers what was
 /// read. What is to be added to the table is added.
+#[inline(always)]
 pub(crate) fn literal_at(
     alloc: Global,
     table: &mut Table,
@@ -118,6 +129,7 @@ fn add_literal(
 // rule: HPACK 4.4 An entry larger than the maximum empties the table
 /// Adds a copy of the name and the value to the table. No copy is made of what is larger than the
 /// table's maximum, which empties it.
+#[inline(always)]
 fn add_copy(alloc: Global, table: &mut Table, name: &[u8], value: &[u8]) -> Result<(), AllocError>
     ensures { OnOk result (table.new ≡ added_to table.old
         (record { name = name.now; value = value.now })) }
@@ -143,6 +155,7 @@ fn index_prefix_bits(kind: Literal) -> u8
 // rule: HPACK 6.2 A literal has its name from an index or a string
 /// Appends the name and the value of a literal, and answers how long the name is and how many
 /// octets encode the literal.
+#[inline(always)]
 fn parts_at(
     table: &Table,
     prefix_bits: u8,
@@ -171,6 +184,7 @@ fn parts_at(
 // rule: HPACK 6.2 A literal has its name from an index or a string
 /// Appends the name of a literal, after its index, and answers how many octets encode it: none
 /// where the index is that of an entry.
+#[inline(always)]
 fn name_at(table: &Table, index: u64, octets: &[u8], out: &mut Vec<u8>) -> Result<usize, Fault>
     ensures ok { IfOk result (λ count. (name : Items ℕ) × (out.new.items ≡ out.old.items ++ name)
         × (count ≤ length octets.now)

@@ -17,6 +17,7 @@ const MAXIMUM_PREFIX: u8 = 5;
 // rule: HPACK 4.2 Size updates stand at the beginning of a block
 /// Applies the size updates at the beginning of `octets`, and answers the octets after them. The
 /// table is changed once, after the last update.
+#[inline(always)]
 pub(crate) fn apply_updates<'a>(
     table: &mut Table,
     limit: u32,

@@ -56,6 +56,7 @@ impl Chains {
     }
 
     /// A new entry, in the bucket of its hash. It takes no memory.
+    #[inline(always)]
     pub(crate) fn push(&mut self, hash: u64)
         ensures chains { (bucket : Entry → ℕ) (entries : List Entry) (one : Entry)
             → AreChains bucket entries self.old

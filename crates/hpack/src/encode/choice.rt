@@ -63,6 +63,7 @@ pub(crate) fn choose(pending: &PendingTable, table: &Table, field: &Field) -> (C
 
 // rule: HPACK 6.2 (own) A literal is encoded with the least index of its name
 /// The least index of the entries with the field's name, those of the static table first, or 0.
+#[inline(always)]
 fn name_index(pending: &PendingTable, table: &Table, name_hash: u64, field: &Field) -> u64
     requires pending { IsPendingTable pending.now table.now }
     requires hash { name_hash ≡ hash_of_octets 0 field.now.name }

@@ -93,6 +93,7 @@ fn append_one(
 }
 
 /// Adds a copy of the field to the pending table.
+#[inline(always)]
 fn add_copy(
     alloc: Global,
     pending: &mut PendingTable,
@@ -116,6 +117,7 @@ fn add_copy(
 }
 
 /// A copy of the field's name and value.
+#[inline(always)]
 fn copy_of(alloc: Global, field: &Field) -> Result<Entry, AllocError>
     ensures { IfOk result (λ entry. entry ≡ record {
       name = field.now.name;

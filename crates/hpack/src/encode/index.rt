@@ -49,6 +49,7 @@ impl Index {
     }
 
     /// A new entry. It takes no memory.
+    #[inline(always)]
     pub(crate) fn push(&mut self, hashes: Hashes)
         ensures entries { (entries : List Entry) (one : Entry) → IsIndexOf self.old entries
             → AreHashes hashes one.name one.value

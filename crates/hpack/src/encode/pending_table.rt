@@ -178,6 +178,7 @@ impl PendingTable {
 
     /// How many of the entries, from the newest on, have a size that is at most the bound, and that
     /// size.
+    #[inline(always)]
     fn fitting(&self, table: &Table, bound: usize) -> (usize, usize)
         requires live { self.now.live ≤ length (newest_first self.now table.now) }
         requires counted { self.now.size ≡ table_size
@@ -198,6 +199,7 @@ impl PendingTable {
     }
 
     /// Whether the entry at a place, from the newest on, is what is looked for.
+    #[inline(always)]
     fn is_match_at(&self, table: &Table, place: usize, sought: Sought, field: &Field) -> bool
         ensures { (other : Entry) → place < length (newest_first self.now table.now)
             → result ≡ is_sought sought field.now
@@ -210,6 +212,7 @@ impl PendingTable {
     }
 
     /// The size of an entry, by its place from the newest on.
+    #[inline(always)]
     fn size_at(&self, table: &Table, place: usize) -> usize
         ensures { (other : Entry) → place < length (newest_first self.now table.now)
             → result
@@ -223,6 +226,7 @@ impl PendingTable {
     }
 
     /// The name and the value of an entry, by its place from the newest on.
+    #[inline(always)]
     fn get<'a>(&'a self, table: &'a Table, place: usize) -> Option<(&'a [u8], &'a [u8])>
         ensures { MatchOption result (length (newest_first self.now table.now) ≤ place)
             (λ found. slice_get (newest_first self.now table.now) place

@@ -2,6 +2,7 @@
 
 ghost use Rattle.std.specs.Prelude.{◌≡◌, ◌⊎◌, ◌+◌, ◌-◌, ◌*◌, ◌/◌, ◌<◌, ◌≤◌, ◌==◌, [], length, max};
 ghost use Rattle.std.specs.Prelude.{slice_get, Some, IfOk, IsOk, OnOk, OnErr, MatchOption};
+ghost use Rattle.std.specs.Prelude.{take, drop};
 ghost use Rattle.circular_buffer.specs.Buffer.{buffer};
 ghost use Rattle.hpack.specs.Sizes.{table_size, add};
 ghost use Rattle.hpack.specs.Tables.{resized};
@@ -105,6 +106,25 @@ impl Table {
     }
 
     // rule: HPACK 2.3.2 The dynamic table has its newest entry first
+    /// The name and then the value of an entry, by its place as [`Table::get`] has it, and how long
+    /// the name is.
+    #[inline(always)]
+    pub(crate) fn joined(&self, place: usize) -> Option<(&[u8], usize)>
+        ensures { MatchOption result ((place ≡ 0) ⊎ (length self.now.entries < place))
+            (λ found. (0 < place) × (found.1 ≤ length found.0.now)
+            × (slice_get self.now.entries (place - 1) ≡ Some (record {
+              name = take found.1 found.0.now;
+              value = drop found.1 found.0.now;
+            }))) }
+    {
+        if place == 0 {
+            return None;
+        }
+        let found = self.ring.get(place - 1)?;
+        Some(found.joined())
+    }
+
+    // rule: HPACK 2.3.2 The dynamic table has its newest entry first
     /// The ring of the entries, the newest at the front. Its capacity is the maximum divided by 32,
     /// but at least 1. It takes no memory.
     pub fn ring(&self) -> &HeapCircularBuffer<Entry>
@@ -183,6 +203,7 @@ impl Table {
     // rule: HPACK 4.4 An entry larger than the maximum empties the table
     /// Adds the entry as the newest; the oldest leave until the size is at most the maximum, and
     /// the table is empty where the entry alone is larger (section 4.4). It takes no memory.
+    #[inline(always)]
     pub(crate) fn add(&mut self, entry: Entry)
         ensures { self.new ≡ record {
           entries = add self.old.entries entry self.old.maximum;

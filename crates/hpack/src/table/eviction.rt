@@ -9,10 +9,11 @@ use crate::types::entry::Entry;
 use circular_buffer::HeapCircularBuffer;
 
 /// What an entry takes beside its name and value.
-const OVERHEAD: usize = 32;
+pub(crate) const OVERHEAD: usize = 32;
 
 // rule: HPACK 4.1 The size of an entry is that of name and value, and 32
 /// The size of an entry, or the greatest number where that is less.
+#[inline(always)]
 pub(crate) fn size_of(entry: &Entry) -> usize
     ensures { result ≡ min (entry_size entry.now) (2 ^ 64 - 1) }
 {
@@ -38,6 +39,7 @@ pub(crate) fn size_of_octets(name: &[u8], value: &[u8]) -> usize
 // rule: HPACK 4.4 The oldest entries leave until the size is at most the maximum
 /// Removes the oldest entries until the size of the others is at most the bound, and answers that
 /// size.
+#[inline(always)]
 pub(crate) fn evict(ring: &mut HeapCircularBuffer<Entry>, size: usize, bound: usize) -> usize
     requires { size ≡ table_size ring.old.items }
     ensures fitting { ring.new.items ≡ fit ring.old.items bound }

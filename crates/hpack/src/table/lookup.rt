@@ -7,7 +7,7 @@ use crate::table::dynamic_table::Table;
 use crate::table::static_table::static_entry;
 
 /// How many entries the static table has.
-const STATIC_COUNT: u64 = 61;
+pub(crate) const STATIC_COUNT: u64 = 61;
 
 // contract: HPACK A The static table has 61 entries
 // contract: HPACK 2.3.3 Indices 1 to 61 name the static table, those from 62 the dynamic

@@ -1,6 +1,6 @@
 //! Entries of a table.
 
-ghost use Rattle.std.specs.Prelude.{◌≡◌, IfOk};
+ghost use Rattle.std.specs.Prelude.{◌≡◌, ◌≤◌, length, take, drop, IfOk};
 
 use crate::types::shown::Shown;
 use std::alloc::{AllocError, Global};
@@ -37,6 +37,7 @@ impl Entry {
     /// # Errors
     ///
     /// [`AllocError`] where the allocation was refused.
+    #[inline(always)]
     pub(crate) fn copy_of(alloc: Global, name: &[u8], value: &[u8]) -> Result<Entry, AllocError>
         ensures { IfOk result (λ entry. entry ≡ record { name = name.now; value = value.now }) }
     {
@@ -47,6 +48,18 @@ impl Entry {
             octets,
             name_len: name.len(),
         })
+    }
+
+    /// The name and then the value, and how long the name is.
+    #[inline(always)]
+    pub(crate) fn joined(&self) -> (&[u8], usize)
+        ensures within { result.1 ≤ length result.0.now }
+        ensures parts { self.now ≡ record {
+          name = take result.1 result.0.now;
+          value = drop result.1 result.0.now;
+        } }
+    {
+        (&self.octets, self.name_len)
     }
 
     /// The name.

@@ -15,14 +15,14 @@ pub loop-unparsed-preserved : goal.loop-unparsed-preserved
 loop-unparsed-preserved c =
     let unparsed = c.loop-unparsed.unparsed.now in
     let done = c.loop-unparsed.invariant.0 in
-    let count = c.in_ok-count.count in (
-      done ++ c.in_ok-count.ensures.ok.0 ∷ [],
-      reads_more c.args.table.now c.loop-unparsed.table c.read_one.new.table c.args.octets.now
-          unparsed (take count unparsed) (octets_after unparsed count) done
-          c.in_ok-count.ensures.ok.0 (split_at_count unparsed count) c.in_ok-count.ensures.ok.2
-          c.loop-unparsed.invariant.1,
-      λ list_limit empty. c.in_ok-count.ensures.ok.3 list_limit done
-          (c.loop-unparsed.invariant.2 list_limit empty),
+    let count = c.in_ok-count.count in
+    let next = c.in_ok-count.ensures.ok.1 done c.loop-unparsed.invariant.3 in (
+      done ++ next.field ∷ [],
+      reads_more c.args.table.now c.loop-unparsed.table c.read_next.new.table c.args.octets.now
+          unparsed (take count unparsed) (octets_after unparsed count) done next.field
+          (split_at_count unparsed count) next.step c.loop-unparsed.invariant.1,
+      λ list_limit empty. next.added list_limit (c.loop-unparsed.invariant.2 list_limit empty),
+      next.repeatable,
     )
 
 pub returns-clause-ok : goal.returns-clause-ok
