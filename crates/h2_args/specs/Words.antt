@@ -1,6 +1,6 @@
 -- What the words after a command's name give.
-use Rattle.std.specs.Prelude.{◌≡◌, ℕ, Bool, true, false, List, Option, Some, None, []}
-use Rattle.std.specs.Prelude.{if◌then◌else◌, codes, map, option_map, unwrap_or}
+use Rattle.std.specs.Prelude.{◌≡◌, ℕ, Bool, false, List, Option, Some, None, []}
+use Rattle.std.specs.Prelude.{◌||◌, if◌then◌else◌, codes, map, option_map, unwrap_or}
 use Rattle.std.specs.List.{list_any}
 use Rattle.std.specs.Str.{bytes_eq}
 use Rattle.std.specs.Str.Parse.{digits_value, without_leading_plus}
@@ -46,13 +46,11 @@ number_or default None = default
 -- no colors, whatever else is asked for.
 -- rule: show (own) The words choose names, places, colors and JSON
 abbrev pub style_of : (json names places colors : Bool) → Style
-style_of true names places colors = Json
-style_of false true places colors =
-    Marked (record { names = true; places = places; colors = colors })
-style_of false false true colors =
-    Marked (record { names = false; places = true; colors = colors })
-style_of false false false true = Marked (record { names = false; places = false; colors = true })
-style_of false false false false = Plain
+style_of json names places colors =
+    if json then Json
+    else if names || places || colors then
+    Marked (record { names = names; places = places; colors = colors })
+    else Plain
 
 abbrev pub style_in : List Row → Style
 style_in rows = style_of (is_set (one_of (codes "json") rows)) (is_set (one_of (codes "names") rows))

@@ -1,7 +1,7 @@
 //! The options of `show`.
 
 ghost use Rattle.std.specs.Prelude.{◌≡◌, ◌≤◌, IfErr, IfOk, codes, false, map, pos, string_bytes};
-ghost use Rattle.std.specs.Prelude.{option_map};
+ghost use Rattle.std.specs.Prelude.{Some, option_map};
 ghost use Rattle.clap.specs.Words.{app_of, first_of, found_of, rows_of, rule_of};
 ghost use Rattle.h2_args.specs.Commands.{IsColorRule, IsShowCommand, IsShownInputCommand, file_rule};
 ghost use Rattle.h2_args.specs.Commands.{number_option_rule};
@@ -89,14 +89,16 @@ fn style_in(matches: &ArgMatches<'_>) -> Style
 fn style_of(json: bool, names: bool, places: bool, colors: bool) -> Style
     ensures { result ≡ style_of json names places colors }
 {
-    match (json, names, places, colors) {
-        (true, _, _, _) => Style::Json,
-        (false, false, false, false) => Style::Plain,
-        _ => Style::Text(TextStyle {
+    if json {
+        Style::Json
+    } else if names || places || colors {
+        Style::Text(TextStyle {
             names,
             places,
             colors,
-        }),
+        })
+    } else {
+        Style::Plain
     }
 }
 
@@ -107,9 +109,16 @@ fn file_of<'a>(matches: &ArgMatches<'a>) -> Option<&'a str>
         ≡ file_of (first_of (codes "file") (rows_of (found_of matches.now))) }
 {
     match matches.get_str(FILE) {
-        Some("-") | None => None,
-        Some(file) => Some(file),
+        Some(file) => named_file(file),
+        None => None,
     }
+}
+
+// The file that this value names.
+fn named_file(file: &str) -> Option<&str>
+    ensures { option_map (λ file. file.now) result ≡ file_of (Some file.entry.now) }
+{
+    if file == "-" { None } else { Some(file) }
 }
 
 const FILE: &str = "file";

@@ -3,6 +3,8 @@ mod Names
 pub mod ViewerLemmas
 pub mod ReportLemmas
 pub mod LinesLemmas
+pub mod NamedLemmas
+pub mod JsonLemmas
 pub mod BlocksShown
 pub mod PrefaceLemmas
 pub mod PrintedLemmas

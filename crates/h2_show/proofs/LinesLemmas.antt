@@ -6,7 +6,7 @@ use Rattle.h2_show.proofs.Names.{append-nil, codes, Appends-trans, drop-cons, no
 use Rattle.h2_show.proofs.Names.{nat_tests, common_steps, flat_map-append, take_rest}
 use Rattle.h2_show.proofs.Names.{take-append-drop, Appends, Reset, Settings, Ping, GoAway}
 use Rattle.h2_show.proofs.Names.{WindowUpdate, shown_octets, flag_word, pair_words, frame_words}
-use Rattle.h2_show.proofs.Names.{rules, Field, field_line}
+use Rattle.h2_show.proofs.Names.{rules, Field}
 use Rattle.std.proofs.Common.{◌/◌, ◌%◌, get_or, position, suc, decimal, ◌*◌}
 use Rattle.std.proofs.lemmas.List.{drop_all, take_more, get_or-take}
 use Rattle.std.proofs.lemmas.List.Quantifiers.{position-Some}
@@ -202,7 +202,7 @@ goaway_words last code debug =
     (codes " last=") (decimal last) (codes " code=") (decimal code) (codes " debug=")
     (decimal (length debug)))
 
-one_word : (name space stream count first pairs : List ℕ)
+pub one_word : (name space stream count first pairs : List ℕ)
     → (name ++ space ++ stream ++ space ++ count) ++ first ++ pairs
     ≡ (name ++ (space ++ (stream ++ (space ++ (count ++ first))))) ++ pairs
 one_word name space stream count first pairs = simp append_assoc
@@ -223,17 +223,16 @@ pub pairs_fit : (octets : List ℕ) → 6 * length (pairs_of octets) ≤ length 
 pairs_fit octets = rw (length-pairs_in (length octets / 6) octets) (omega arith)
 
 -- the lines of fields and of the next one, which is written
-pub next_field : (list : List Field) (place : ℕ) (next : Field)
+pub next_field : (line : Field → List ℕ) (list : List Field) (place : ℕ) (next : Field)
     (start before after : Option (List ℕ)) → slice_get list place ≡ Some next
-    → Appends start before (flat_map field_line (take place list))
-    → Appends before after (field_line next)
-    → Appends start after (flat_map field_line (take (place + 1) list))
-next_field list place next start before after there written last =
+    → Appends start before (flat_map line (take place list)) → Appends before after (line next)
+    → Appends start after (flat_map line (take (place + 1) list))
+next_field line list place next start before after there written last =
     let within = slice_get_within list place next there in
     subst (λ (text : List ℕ). Appends start after text)
-    (sym (ap (flat_map field_line) (take_more list place next within)
-    ∙ flat_map-append field_line (take place list) (get_or list place next ∷ [])
-    ∙ ap (λ (text : List ℕ). flat_map field_line (take place list) ++ text)
-    (append-nil (field_line (get_or list place next))
-    ∙ ap field_line (get_or_from_slice_get list place next next there))))
+    (sym (ap (flat_map line) (take_more list place next within)
+    ∙ flat_map-append line (take place list) (get_or list place next ∷ [])
+    ∙ ap (λ (text : List ℕ). flat_map line (take place list) ++ text)
+    (append-nil (line (get_or list place next))
+    ∙ ap line (get_or_from_slice_get list place next next there))))
     (Appends-trans start before after _ _ written last)

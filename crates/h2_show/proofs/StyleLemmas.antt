@@ -3,6 +3,8 @@ use Rattle.h2_show.proofs.Names.{◌≡◌, ℕ, ◌&&◌, Bool, true, List, [],
 use Rattle.h2_show.proofs.Names.{ap, subst, append_assoc, append-nil, Appends, Appends-trans}
 use Rattle.h2_show.proofs.Names.{Appends-nil, Style, ShowLine, text_from, places_past}
 use Rattle.h2_show.proofs.Names.{AppendsLines, due_line, rules}
+use Rattle.h2_show.proofs.Names.{◌-◌, codes, drop, length, take, take_rest}
+use Rattle.h2_show.specs.StyledLines.{first_in_bold, first_length, look_if}
 use Rattle.h2_show.specs.Styles.{line_text, place_past}
 
 -- the text of lines and of others after them
@@ -61,11 +63,11 @@ pub frame_written : (style same kept : Style) (at next mid after : ℕ)
     → AppendsLines style at after start two (printed ++ (due_line due ++ line ∷ []))
 frame_written style same kept at next mid after start before one two due printed line is alike first
     second third =
-    lines_trans style at next after start before two printed _ first
-    (lines_trans style next mid after before one two _ _
+    lines_trans style at next after start before two printed (due_line due ++ line ∷ []) first
+    (lines_trans style next mid after before one two (due_line due) (line ∷ [])
     (subst (λ (some : Bool). AppendsLines style next mid before one (due_line some)) (and_true due)
     (lines_styled style same next mid before one _ is second))
-    (lines_styled style kept mid after one two _ (alike ∙ is) third))
+    (lines_styled style kept mid after one two (line ∷ []) (alike ∙ is) third))
 
 -- text that is appended after lines that were printed
 pub text_after : (style same : Style) (at mid : ℕ) (start text ended : Option (List ℕ))
@@ -77,3 +79,33 @@ text_after style same at mid start text ended first second is one two =
     (Appends-trans start text ended _ _ one.0
     (subst (λ (place : ℕ). Appends text ended (text_from style place second)) one.1
     (subst (λ (some : Style). Appends text ended (text_from some mid second)) is two)))
+
+-- four texts one after another, the first three of which belong together
+pub four_written : (start one two three ended : Option (List ℕ)) (first second third fourth : List ℕ)
+    → Appends start one first → Appends one two second → Appends two three third
+    → Appends three ended fourth → Appends start ended ((first ++ second ++ third) ++ fourth)
+four_written start one two three ended first second third fourth a b c d =
+    Appends-trans start three ended _ fourth (Appends-trans start two three _ third
+    (Appends-trans start one two first second a b) c) d
+
+-- a line alone
+pub line_alone : (style : Style) (at : ℕ) (line : ShowLine) (start ended : Option (List ℕ))
+    → Appends start ended (line_text style at line)
+    → Appends start ended (text_from style at (line ∷ []))
+line_alone style at line start ended written =
+    subst (λ (text : List ℕ). Appends start ended text) (sym (append-nil (line_text style at line)))
+    written
+
+-- words of which the first is bold
+pub bold_written : (colors : Bool) (words : List ℕ) (end : ℕ)
+    (start one two three ended : Option (List ℕ)) → end ≡ first_length words
+    → Appends start one (look_if colors (codes "1")) → Appends one two (take end words)
+    → Appends two three (look_if colors (codes "0"))
+    → Appends three ended (take (length words - end) (drop end words))
+    → Appends start ended (first_in_bold colors words)
+bold_written colors words end start one two three ended is a b c d =
+    subst (λ (count : ℕ). Appends start ended
+    ((look_if colors (codes "1") ++ take count words ++ look_if colors (codes "0"))
+    ++ drop count words)) is
+    (four_written start one two three ended _ (take end words) _ (drop end words) a b c
+    (subst (λ (text : List ℕ). Appends three ended text) (take_rest words end) d))

@@ -3,6 +3,7 @@ use Rattle.std.specs.Prelude.{◌≡◌, ℕ, Result, OnOk, Bool, if◌then◌el
 use Rattle.std.specs.Prelude.{codes, decimal, flat_map, Option, Some, None}
 use Rattle.std.specs.Option.{is_some}
 use Rattle.std.specs.Str.{is_utf8}
+use Rattle.hex.specs.Hex.{encode_lower}
 use Rattle.json.specs.Json as json
 use Rattle.json.specs.Print.{print}
 use Rattle.json.specs.Token.{Token}
@@ -17,7 +18,6 @@ use Rattle.h2_frame.specs.declared.kind.Kind.{Kind}
 use Rattle.h2_frame.specs.declared.kind.Kind.TheVariants as kinds
 use Rattle.h2_show.specs.ShownLines.{Listing, listed, too_large, ShowLine, preface_shown}
 use Rattle.h2_show.specs.ShownLines.{frame_shown, fault_shown, rest_shown, unfinished_shown}
-use Rattle.h2_show.specs.Lines.{hex_octet}
 use Rattle.h2_show.specs.Named.{setting_name, code_name}
 
 -- a member of an object: its key and its value
@@ -99,7 +99,7 @@ more_members (Settings ack pairs) =
     (codes "ack", json.boolean ack) ∷ (codes "settings", array_of (map pair_json pairs)) ∷ []
 more_members (Ping ack octets) =
     (codes "ack", json.boolean ack)
-    ∷ (codes "octets", json.string (flat_map hex_octet octets)) ∷ []
+    ∷ (codes "octets", json.string (encode_lower octets)) ∷ []
 more_members (GoAway last code debug) =
     ((codes "last", number_of_json last) ∷ code_members code)
     ++ (codes "debug", number_of_json (length debug)) ∷ []
@@ -113,7 +113,7 @@ more_members (Unknown kind flags stream payload) =
 abbrev pub octets_member : (key octets : List ℕ) → JsonMember
 octets_member key octets =
     if is_utf8 octets then (key, json.string octets)
-    else (key ++ codes "_hex", json.string (flat_map hex_octet octets))
+    else (key ++ codes "_hex", json.string (encode_lower octets))
 
 -- a field
 -- rule: show (own) With --json octets that are not UTF-8 are in hexadecimal under another key

@@ -18,11 +18,16 @@ abbrev pub name_word : Option (List ℕ) → List ℕ
 name_word None = []
 name_word (Some name) = codes " " ++ name
 
--- the pairs of SETTINGS, in order, each with the name of its setting, or its number where it has none
+-- the name of a setting, or its number where it has none
+-- rule: show (own) Settings and error codes have their names where words ask for them
+abbrev pub setting_word : (id : ℕ) → List ℕ
+setting_word id = unwrap_or (setting_name id) (decimal id)
+
+-- the pairs of SETTINGS, in order, with the names of the settings
 -- rule: show (own) Settings and error codes have their names where words ask for them
 abbrev pub named_pairs : List (ℕ × ℕ) → List ℕ
-named_pairs pairs = flat_map (λ pair. codes " " ++ unwrap_or (setting_name pair.0) (decimal pair.0)
-    ++ codes "=" ++ decimal pair.1) pairs
+named_pairs pairs =
+    flat_map (λ pair. codes " " ++ setting_word pair.0 ++ codes "=" ++ decimal pair.1) pairs
 
 -- the words of a frame with names: an error code is followed by its name
 -- rule: show (own) Settings and error codes have their names where words ask for them

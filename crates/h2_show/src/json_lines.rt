@@ -1,8 +1,8 @@
 //! Lines as JSON objects.
 
-ghost use Rattle.std.specs.Prelude.{◌≡◌, ℕ, ◌++◌, [], ◌∷◌, codes, decimal, flat_map, map};
+ghost use Rattle.std.specs.Prelude.{◌≡◌, ℕ, ◌++◌, [], ◌∷◌, codes, decimal, map};
 ghost use Rattle.std.specs.Prelude.{OnOk, option_map};
-ghost use Rattle.h2_show.specs.Lines.{hex_octet};
+ghost use Rattle.hex.specs.Hex.{encode_lower};
 ghost use Rattle.std.specs.Io.KnownBytes.{Appends};
 ghost use Rattle.json.specs.Json as json;
 ghost use Rattle.json.specs.Print.{print};
@@ -17,7 +17,8 @@ ghost use Rattle.h2_show.specs.ShownLines.{decoded_listing, fault_shown, frame_s
 ghost use Rattle.h2_show.specs.ShownLines.{rest_shown};
 ghost use Rattle.h2_show.specs.JsonLines.{array_of, code_members, field_json, first_members};
 ghost use Rattle.h2_show.specs.JsonLines.{frame_json, json_line, json_text, listing_members};
-ghost use Rattle.h2_show.specs.JsonLines.{members_written, more_members, name_members};
+ghost use Rattle.h2_show.specs.JsonLines.{member_tokens, members_written, more_members};
+ghost use Rattle.h2_show.specs.JsonLines.{name_members};
 ghost use Rattle.h2_show.specs.JsonLines.{number_of_json, object_of, octets_member, pad_members};
 ghost use Rattle.h2_show.specs.JsonLines.{pair_json, too_large_text, type_name, WritesTokens};
 
@@ -79,8 +80,8 @@ pub(crate) fn write_json_fault<W: Write>(
     place: u64,
     out: &mut W,
 ) -> io::Result<()>
-    ensures { OnOk result ((at : ℕ) → Appends (W.contents out.old) (W.contents out.new)
-        (json_line at (fault_shown code place))) }
+    ensures { OnOk result (Appends (W.contents out.old) (W.contents out.new)
+        (json_line 1 (fault_shown code place))) }
 {
     let mut writer = Writer::new(Vec::new(alloc));
     begin_line(&mut writer, place, "fault")?;
@@ -256,7 +257,7 @@ fn headers_members(
 fn ping_members(alloc: Global, writer: &mut Writer, ack: bool, octets: [u8; 8]) -> Result<(), AllocError>
     ensures { WritesTokens result writer.old writer.new
         (members_written ((codes "ack", json.boolean ack)
-        ∷ (codes "octets", json.string (flat_map hex_octet octets)) ∷ [])) }
+        ∷ (codes "octets", json.string (encode_lower octets)) ∷ [])) }
 {
     flag_member(writer, "ack", ack)?;
     hex_member(alloc, writer, "octets", &octets)
@@ -265,7 +266,7 @@ fn ping_members(alloc: Global, writer: &mut Writer, ack: bool, octets: [u8; 8]) 
 // Octets in hexadecimal.
 fn hex_member(alloc: Global, writer: &mut Writer, name: &str, octets: &[u8]) -> Result<(), AllocError>
     ensures { WritesTokens result writer.old writer.new
-        (key name.now ∷ string (flat_map hex_octet octets.now) ∷ []) }
+        (key name.now ∷ string (encode_lower octets.now) ∷ []) }
 {
     let digits = hex::encode(alloc, octets)?;
     text_member(writer, name, digits.as_str())
@@ -351,7 +352,7 @@ fn octets_member(
 ) -> Result<(), AllocError>
     requires { hex_name.now ≡ name.now ++ codes "_hex" }
     ensures { WritesTokens result writer.old writer.new
-        (members_written (octets_member name.now octets.now ∷ [])) }
+        (member_tokens (octets_member name.now octets.now)) }
 {
     match str::from_utf8(octets) {
         Ok(text) => text_member(writer, name, text),

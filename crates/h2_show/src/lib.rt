@@ -2,9 +2,9 @@
 //! fault that ends a stream.
 //!
 //! [`show_input`] reads from any reader and prints to any writer, so tests run it in memory.
-//! A [`Viewer`] shows one stream, piece by piece.
-//! [`write_field`] prints a field for other commands too, and [`write_text`] a name or a value. What
-//! these share besides is in `h2_cli`. A [`Style`] says how the lines are printed.
+//! A [`Viewer`] shows one stream, piece by piece. A [`Style`] says how the lines are printed.
+//! [`write_field`] prints a field for other commands too, and [`write_text`] a name or a value.
+//! What these share besides is in `h2_cli`.
 #![tactic(auto)]
 
 mod blocks;

@@ -1,7 +1,7 @@
 //! Lines with names, places and colors.
 
-ghost use Rattle.std.specs.Prelude.{◌≡◌, ℕ, ◌≤◌, ◌++◌, [], flat_map, length, if◌then◌else◌};
-ghost use Rattle.std.specs.Prelude.{OnOk, Some};
+ghost use Rattle.std.specs.Prelude.{◌≡◌, ◌≤◌, ◌==◌, ◌++◌, [], flat_map, length, position};
+ghost use Rattle.std.specs.Prelude.{OnOk, Some, if◌then◌else◌};
 ghost use Rattle.std.specs.Fmt.{WritesOnOk};
 ghost use Rattle.std.specs.Io.KnownBytes.{Appends};
 ghost use Rattle.h2_frame.specs.Frames.{frame_of, GoAway, Reset, Settings};
@@ -11,7 +11,8 @@ ghost use Rattle.h2_show.specs.ShownLines.{decoded_listing, fault_shown, frame_s
 ghost use Rattle.h2_show.specs.ShownLines.{preface_shown, rest_shown, unfinished_shown};
 ghost use Rattle.h2_show.specs.StyledLines.{field_words, first_in_bold, first_length};
 ghost use Rattle.h2_show.specs.StyledLines.{name_word, named_words, place_word, styled_field};
-ghost use Rattle.h2_show.specs.StyledLines.{styled_line, styled_listing, styled_words};
+ghost use Rattle.h2_show.specs.StyledLines.{setting_word, styled_line, styled_listing};
+ghost use Rattle.h2_show.specs.StyledLines.{styled_words};
 
 use crate::lines::{FrameLine, Word, goaway_length, settings_length, write_text};
 use crate::naming::{code_name, setting_name};
@@ -75,8 +76,8 @@ pub(crate) fn write_styled_fault<W: Write>(
     place: u64,
     out: &mut W,
 ) -> io::Result<()>
-    ensures { OnOk result ((at : ℕ) → Appends (W.contents out.old) (W.contents out.new)
-        (styled_line style at (fault_shown code place))) }
+    ensures { OnOk result (Appends (W.contents out.old) (W.contents out.new)
+        (styled_line style 1 (fault_shown code place))) }
 {
     write_if(style.colors, RED, out)?;
     write!(out, "fault {code} at {place}")?;
@@ -90,8 +91,8 @@ pub(crate) fn write_styled_rest<W: Write>(
     count: usize,
     out: &mut W,
 ) -> io::Result<()>
-    ensures { OnOk result ((at : ℕ) → Appends (W.contents out.old) (W.contents out.new)
-        (styled_line style at (rest_shown count))) }
+    ensures { OnOk result (Appends (W.contents out.old) (W.contents out.new)
+        (styled_line style 1 (rest_shown count))) }
 {
     write_if(style.colors, RED, out)?;
     write!(out, "rest {count}")?;
@@ -101,8 +102,8 @@ pub(crate) fn write_styled_rest<W: Write>(
 
 /// Prints the line of a block that isn't complete.
 pub(crate) fn write_styled_unfinished<W: Write>(style: TextStyle, out: &mut W) -> io::Result<()>
-    ensures { OnOk result ((at : ℕ) → Appends (W.contents out.old) (W.contents out.new)
-        (styled_line style at unfinished_shown)) }
+    ensures { OnOk result (Appends (W.contents out.old) (W.contents out.new)
+        (styled_line style 1 unfinished_shown)) }
 {
     write_if(style.colors, RED, out)?;
     out.write_all(b"unfinished block")?;
@@ -151,10 +152,17 @@ fn first_length(words: &[u8]) -> usize
     ensures value { result ≡ first_length words.now }
     ensures within { result ≤ length words.now }
 {
-    match words.iter().position(|octet| *octet == b' ') {
+    match first_space(words) {
         Some(end) => end,
         None => words.len(),
     }
+}
+
+// The place of the first space of some words, if there is one.
+fn first_space(words: &[u8]) -> Option<usize>
+    ensures { result ≡ position (λ octet. octet == 32) words.now }
+{
+    words.iter().position(|octet| *octet == b' ')
 }
 
 // Prints the words of a frame, with names or without.
@@ -206,6 +214,21 @@ impl fmt::Display for Name {
     }
 }
 
+/// The name of a setting, or its number where it has none.
+#[derive(Clone, Copy)]
+struct Setting(u16);
+
+impl fmt::Display for Setting {
+    ghost output = { λ setting. Some (setting_word setting.0) };
+
+    fn fmt<W: fmt::Write>(&self, f: &mut fmt::Formatter<W>) -> fmt::Result {
+        match setting_name(self.0) {
+            Some(name) => write!(f, "{name}"),
+            None => write!(f, "{}", self.0),
+        }
+    }
+}
+
 // rule: show (own) Settings and error codes have their names where words ask for them
 #[tactic(auto, unfolding(crate::specs::StyledLines::named_words))]
 fn write_named_goaway<W: fmt::Write>(
@@ -236,10 +259,7 @@ fn write_named_settings<W: fmt::Write>(
     let length = settings_length(pairs);
     write!(f, "SETTINGS 0 {length}{}", Word(ack, "ack"))?;
     for (id, value) in pairs.iter() {
-        match setting_name(id) {
-            Some(name) => write!(f, " {name}={value}")?,
-            None => write!(f, " {id}={value}")?,
-        }
+        write!(f, " {}={value}", Setting(id))?;
     }
     Ok(())
 }

@@ -24,7 +24,7 @@ named_reset : named_words (Reset 1 8) ≡ codes "RST_STREAM 1 4 code=8 CANCEL"
 unfolding named_words frame_words digits
 named_reset = refl
 
--- rule (best): show (own) Settings and error codes have their names where words ask for them
+-- rule: show (own) Settings and error codes have their names where words ask for them
 unnamed_reset : named_words (Reset 1 14) ≡ codes "RST_STREAM 1 4 code=14"
 unfolding named_words frame_words digits
 unnamed_reset = refl

@@ -2,13 +2,14 @@
 
 use super::devices::{Faulty, Full, Pieces};
 use h2_cli::{Failure, Status, from_hex};
-use h2_show::{ShowOptions, Side, Style, show_input};
+use h2_show::{ShowOptions, Side, Style, TextStyle, show_input};
 use std::alloc::Global;
 use std::io::{ErrorKind, Read, Write};
 
-/// Octets of a client in hexadecimal, the lines that are shown of them, and how they end.
+/// Octets of a client in hexadecimal, the lines that are shown of them in a style, and how they end.
 struct Stream {
     text: &'static str,
+    style: Style,
     lines: &'static str,
     status: Status,
 }
@@ -17,6 +18,7 @@ struct Stream {
 const OPENING: &Stream = &Stream {
     text: "505249202a20485454502f322e300d0a0d0a534d0d0a0d0a\
         00000c040000000000 000300000064 00f000000007 000004080000000000 3fff0001",
+    style: Style::Plain,
     lines: "preface\nSETTINGS 0 12 3=100 240=7\nWINDOW_UPDATE 0 4 add=1073676289\n",
     status: Status::Good,
 };
@@ -24,6 +26,7 @@ const OPENING: &Stream = &Stream {
 /// A fault after the preface.
 const FAULT: &Stream = &Stream {
     text: "505249202a20485454502f322e300d0a0d0a534d0d0a0d0a 004001000000000001",
+    style: Style::Plain,
     lines: "preface\nfault FRAME_SIZE_ERROR at 33\n",
     status: Status::Fault,
 };
@@ -31,13 +34,37 @@ const FAULT: &Stream = &Stream {
 /// The end inside a frame.
 const INSIDE: &Stream = &Stream {
     text: "505249202a20485454502f322e300d0a0d0a534d0d0a0d0a 000018",
+    style: Style::Plain,
     lines: "preface\nrest 3\n",
+    status: Status::Fault,
+};
+
+/// The first of them by name, with places and colors.
+const STYLED: &Stream = &Stream {
+    text: OPENING.text,
+    style: Style::Text(TextStyle {
+        names: true,
+        places: true,
+        colors: true,
+    }),
+    lines: "0000000001 \x1b[1mpreface\x1b[0m\n\
+        0000000025 \x1b[1mSETTINGS\x1b[0m 0 12 MAX_CONCURRENT_STREAMS=100 240=7\n\
+        0000000046 \x1b[1mWINDOW_UPDATE\x1b[0m 0 4 add=1073676289\n",
+    status: Status::Good,
+};
+
+/// The last of them as JSON.
+const JSON: &Stream = &Stream {
+    text: INSIDE.text,
+    style: Style::Json,
+    lines: "{\"at\":1,\"type\":\"preface\"}\n{\"at\":25,\"type\":\"rest\",\"octets\":3}\n",
     status: Status::Fault,
 };
 
 /// How an input of a client ends.
 fn show<R: Read, W: Write>(
     alloc: Global,
+    style: Style,
     hex: bool,
     input: &mut R,
     out: &mut W,
@@ -46,7 +73,7 @@ fn show<R: Read, W: Write>(
         hex,
         from: Side::Client,
         max_frame: 16_384,
-        style: Style::Plain,
+        style,
     };
     let shown = show_input(alloc, options, input, out)?;
     Ok(shown.status)
@@ -74,7 +101,7 @@ fn shows(alloc: Global, stream: &Stream, reads: usize, writes: usize, is_complet
     };
     let mut input = Faulty::new(Pieces::new(&octets, 1), reads, ErrorKind::Other);
     let mut out = Faulty::new(Vec::new(alloc), writes, ErrorKind::Other);
-    let ended = show(alloc, false, &mut input, &mut out);
+    let ended = show(alloc, stream.style, false, &mut input, &mut out);
     is_printed(stream, &out.inner, ended, is_complete)
 }
 
@@ -92,7 +119,7 @@ fn failing_reads(rt: HostRuntime) {
 // Each line is written for itself.
 #[test]
 fn failing_writes(rt: HostRuntime) {
-    for (stream, lines) in [(OPENING, 3), (FAULT, 2), (INSIDE, 2)] {
+    for (stream, lines) in [(OPENING, 3), (FAULT, 2), (INSIDE, 2), (STYLED, 3), (JSON, 2)] {
         for writes in 0..=lines {
             let is_shown = shows(rt.alloc(), stream, usize::MAX, writes, writes == lines);
             assert!(rt; is_shown, "{writes} writes of {lines}");
@@ -105,7 +132,7 @@ fn shows_at_once(alloc: Global, stream: &Stream, fails: bool) -> bool {
     let writes = if fails { 0 } else { 1 };
     let mut input = Pieces::new(stream.text.as_bytes(), 7);
     let mut out = Faulty::new(Vec::new(alloc), writes, ErrorKind::Other);
-    let ended = show(alloc, true, &mut input, &mut out);
+    let ended = show(alloc, stream.style, true, &mut input, &mut out);
     if fails {
         return out.inner.is_empty() && ended == Err(Failure::Device);
     }
@@ -114,7 +141,7 @@ fn shows_at_once(alloc: Global, stream: &Stream, fails: bool) -> bool {
 
 #[test]
 fn failing_writes_in_hexadecimal(rt: HostRuntime) {
-    for stream in [OPENING, FAULT, INSIDE] {
+    for stream in [OPENING, FAULT, INSIDE, STYLED, JSON] {
         for fails in [true, false] {
             assert!(rt; shows_at_once(rt.alloc(), stream, fails));
         }
@@ -133,14 +160,14 @@ fn fills(alloc: Global, stream: &Stream, hex: bool, room: usize) -> bool {
         octets.as_slice()
     };
     let mut out = Full::new(alloc, room);
-    let ended = show(alloc, hex, &mut Pieces::new(given, 5), &mut out);
+    let ended = show(alloc, stream.style, hex, &mut Pieces::new(given, 5), &mut out);
     let is_full = out.octets.len() == room;
     is_full && is_printed(stream, &out.octets, ended, room == stream.lines.len())
 }
 
 #[test]
 fn full_writers(rt: HostRuntime) {
-    for stream in [OPENING, FAULT, INSIDE] {
+    for stream in [OPENING, FAULT, INSIDE, STYLED, JSON] {
         for room in 0..=stream.lines.len() {
             let is_full = fills(rt.alloc(), stream, false, room);
             assert!(rt; is_full && fills(rt.alloc(), stream, true, room), "{room}");
@@ -155,7 +182,7 @@ fn shows_interrupted(alloc: Global, stream: &Stream, reads: usize) -> bool {
     };
     let mut input = Faulty::new(Pieces::new(&octets, 20), reads, ErrorKind::Interrupted);
     let mut out = Vec::new(alloc);
-    let ended = show(alloc, false, &mut input, &mut out);
+    let ended = show(alloc, stream.style, false, &mut input, &mut out);
     is_printed(stream, &out, ended, true)
 }
 

@@ -12,7 +12,7 @@ loop-init g c = (
   [],
   search rules,
   continues_nothing _ _,
-  ([], lines_none _ _ _, prints_none _ _ _),
+  ([], lines_none c.args.viewer.now.printer.style _ _, prints_none _ _ _),
   c.requires.written,
   refl,
 )

@@ -1,10 +1,11 @@
 -- Each call of the cutter, and of the blocks where it returns a frame, shows more of the piece, or
 -- fails.
-use Rattle.h2_show.proofs.Names.{err_from_is_err_and, rules, [], refl}
+use Rattle.h2_show.proofs.Names.{err_from_is_err_and, rules, [], refl, ap, ◌∙◌}
 use Rattle.h2_show.proofs.ViewerLemmas.{continues_nothing, used_within, continues_without_frame}
 use Rattle.h2_show.proofs.ViewerLemmas.{continues_with_frame, fails_at_cut, fails_at_frame}
 use Rattle.h2_show.proofs.PieceLemmas.{prints_none, prints_without_frame, prints_frame}
 use Rattle.h2_show.proofs.PieceLemmas.{fails_with_wire, fails_with_block}
+use Rattle.h2_show.specs.declared.printer.Printer.{Printer}
 use Rattle.h2_show.proofs.StyleLemmas.{lines_none, lines_trans, lines_styled, frame_written}
 use Rattle.h2_show.proofs.viewer.Viewer.show_piece.Goals as goal
 
@@ -14,7 +15,7 @@ loop-done-init g c =
       within = search rules;
       shown = continues_nothing _ _;
       style = refl;
-      printed = ([], lines_none _ _ _, prints_none _ _ _);
+      printed = ([], lines_none c.args.self.now.printer.style _ _, prints_none _ _ _);
     }
 
 pub returns-in_err-cut-clause-fault : goal.returns-in_err-cut-clause-fault
@@ -60,6 +61,7 @@ loop-done-preserved-in_default g c =
       shown = continues_without_frame _ c.loop-done.self.cutter _ _ c.loop-done.self.blocks
           c.args.piece.now c.loop-done.done c.in_ok-cut.cut c.loop-done.invariant.shown
           c.in_default.is (rw c.in_ok-cut.was at c.cut.follows.holds-at-none);
+      style = c.advance.ensures.same ∙ c.loop-done.invariant.style;
       printed = let (printed, written, prints) = c.loop-done.invariant.printed in (
         _,
         lines_trans _ _ _ _ _ _ _ printed _ written (lines_styled _ _ _ _ _ _ _
@@ -93,6 +95,8 @@ loop-done-preserved g c =
           c.args.piece.now c.loop-done.done c.in_ok-cut.cut c.in-Some.frame
           c.loop-done.invariant.shown c.in-Some.is
           (rw c.in_ok-cut.was at c.cut.follows.holds-at-none) c.in_ok-decoded.ensures.ok;
+      style = ap (λ (printer : Printer). printer.style) c.frame.ensures.same
+          ∙ c.advance-2.ensures.same ∙ c.loop-done.invariant.style;
       printed = let (printed, written, prints) = c.loop-done.invariant.printed in (
         _,
         frame_written _ _ _ _ _ _ _ _ _ _ _ c.loop-done.self.printer.is_due printed _
@@ -102,6 +106,7 @@ loop-done-preserved g c =
             c.loop-done.self.printer.is_due _ c.args.piece.now c.loop-done.done
             c.in_ok-cut.cut c.in-Some.frame printed _ prints c.in-Some.is
             (rw c.in_ok-cut.was at c.cut.follows.holds-at-none)
-            c.in_ok-advance-2.ensures.due c.in_ok-decoded.ensures.shown,
+            (ap (λ (printer : Printer). printer.is_due) c.frame.ensures.same
+            ∙ c.in_ok-advance-2.ensures.due) c.in_ok-decoded.ensures.shown,
       );
     }

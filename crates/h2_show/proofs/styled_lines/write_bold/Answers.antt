@@ -1,0 +1,10 @@
+-- The first word stands between the sequences of its look.
+use Rattle.h2_show.proofs.Names.{on_ok_weaker}
+use Rattle.h2_show.proofs.StyleLemmas.{bold_written}
+use Rattle.h2_show.proofs.styled_lines.write_bold.Goals as goal
+
+pub returns : goal.returns
+returns g c =
+    on_ok_weaker c.write_all-2.result (λ last. bold_written c.args.colors c.args.words.now
+    c.first_length-end.result _ _ _ _ _ c.first_length-end.ensures.value c.in_ok-write_if.ensures
+    c.in_ok-write_all.ensures.bytes c.in_ok-write_if-2.ensures last) c.write_all-2.ensures.bytes
