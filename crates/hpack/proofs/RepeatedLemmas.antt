@@ -2,7 +2,7 @@
 use Rattle.hpack.proofs.Names.{◌≡◌, ℕ, suc, ◌+◌, ◌-◌, ◌^◌, ◌<◌, ◌≤◌, inl, inr, min, List, []}
 use Rattle.hpack.proofs.Names.{◌∷◌, ◌++◌, length, take, drop, get_or, Option, Some, None, refl, sym}
 use Rattle.hpack.proofs.Names.{ap, ◌∙◌, subst, arith, length-append, length-take-le, length-drop}
-use Rattle.hpack.proofs.Names.{slice_get, slice_get-get_or, Entries, Field, FieldPlace, Step}
+use Rattle.hpack.proofs.Names.{slice_get, Entries, Field, FieldPlace, Step}
 use Rattle.hpack.proofs.Names.{by_index, by_literal, FirstOctet, LiteralHead, AreWithin, IsWithin}
 use Rattle.hpack.proofs.Names.{field_of, fields_of, octets_between}
 use Rattle.hpack.proofs.Names.{WithIndexing, WithoutIndexing, NeverIndexed, Literal}
@@ -10,7 +10,7 @@ use Rattle.std.specs.Option.{unwrap_or}
 use Rattle.std.proofs.lemmas.List.{map-append}
 use Rattle.hpack.specs.declared.decode.field_list_builder.FieldListBuilder.{FieldListBuilder}
 use Rattle.hpack.specs.FieldListBuilder.{Adds, AddsAgain, RepresentsList}
-use Rattle.hpack.specs.Repeated.{IsRepeatable, ReadsNext}
+use Rattle.hpack.specs.Repeated.{IsRepeatable, AddsNext}
 use Rattle.hpack.proofs.StepLemmas.{step_long}
 use Rattle.hpack.proofs.FieldListLemmas.{within-append}
 use Rattle.hpack.proofs.FieldListBuilderLemmas.{list_size-more, none_is_some, represents_too_large}
@@ -45,7 +45,7 @@ index_keeps_table table after octet field high
 -- The field of an octet that can be repeated is there once more.
 pub repeats_next : (table : Entries) (octets : List ℕ) (octet : ℕ) (old new : FieldListBuilder)
     (done : List Field) → octets ≡ octet ∷ [] → octet < 0x100 → AddsAgain old new
-    → IsRepeatable octet table done → ReadsNext table octets old done octet table new
+    → IsRepeatable octet table done → AddsNext table octets old done octet table new
 repeats_next table octets octet old new done first low adds (inl high) =
     absurd (omega (arith, low, high))
 repeats_next table octets octet old new done first low adds (inr (before, field, same, step)) =
@@ -62,7 +62,7 @@ repeats_next table octets octet old new done first low adds (inr (before, field,
 pub reads_index : (table after : Entries) (octets : List ℕ) (octet : ℕ) (old new : FieldListBuilder)
     (done : List Field) (field : Field) → octets ≡ octet ∷ [] → 0x80 ≤ octet
     → Step table octets field after → Adds old field new
-    → ReadsNext table octets old done octet after new
+    → AddsNext table octets old done octet after new
 reads_index table after octets octet old new done field first high step adds =
     let alone = subst (λ xs. Step table xs field after) first step in
     let same = index_keeps_table table after octet field high alone in
@@ -77,7 +77,7 @@ reads_index table after octets octet old new done field first high step adds =
 -- After any other field none can be repeated.
 pub reads_other : (table after : Entries) (octets : List ℕ) (old new : FieldListBuilder)
     (done : List Field) (field : Field) → Step table octets field after → Adds old field new
-    → ReadsNext table octets old done 0x100 after new
+    → AddsNext table octets old done 0x100 after new
 reads_other table after octets old new done field step adds = record {
   field = field;
   step = step;
@@ -147,28 +147,6 @@ last_place octets (p ∷ (q ∷ places)) (b ∷ before) field place found all sa
     last_place octets (q ∷ places) before field place
     (sym (ap (λ (n : ℕ). slice_get (p ∷ (q ∷ places)) n) next) ∙ found) all.1
     (ap (λ (xs : List Field). drop 1 xs) same)
-
--- A place that is there isn't missing.
-no_place : (place : FieldPlace) → ◌≡◌ {A = Option FieldPlace} None (Some place) → ⊥
-no_place place e = cc
-
--- A list with a field has a last place.
-none_at : (octets : List ℕ) (places : List FieldPlace) (before : List Field) (field : Field)
-    → slice_get places (length places - 1) ≡ None → fields_of octets places ≡ before ++ field ∷ []
-    → ⊥
-none_at octets [] before field none same =
-    omega (arith, ap (λ (xs : List Field). length xs) same, length-append before (field ∷ []))
-none_at octets (p ∷ places) before field none same =
-    let found = slice_get-get_or (p ∷ places) (length (p ∷ places) - 1) p (omega arith) in
-    no_place _ (sym none ∙ found)
-
--- A list that represents a field has a last place.
-pub no_last : (builder : FieldListBuilder) (list_limit remaining : ℕ) (before : List Field)
-    (field : Field) → builder.remaining ≡ Some remaining
-    → slice_get builder.places.items (length builder.places.items - 1) ≡ None
-    → RepresentsList list_limit (before ++ field ∷ []) builder → ⊥
-no_last builder list_limit remaining before field left none has =
-    none_at builder.octets.items builder.places.items before field none (has.whole remaining left).0
 
 module _ (builder new : FieldListBuilder) (place : FieldPlace) (remaining size : ℕ)
     (left : builder.remaining ≡ Some remaining)

@@ -15,7 +15,7 @@ IsRepeatable octet table done = (0x100 ≤ octet)
 
 -- The octets encode one field more, which was added to the fields that the builder represented,
 -- and with which an octet can be repeated.
-pub record ReadsNext (table : Entries) (octets : List ℕ) (old : FieldListBuilder)
+pub record AddsNext (table : Entries) (octets : List ℕ) (old : FieldListBuilder)
     (done : List Field) (octet : ℕ) (after : Entries) (new : FieldListBuilder) : Type 0 where
   pub field : Field
   pub step : Step table octets field after

@@ -4,7 +4,7 @@ ghost use Rattle.std.specs.Prelude.{◌<◌, ◌≤◌, length, take, IfOk, OnOk
 ghost use Rattle.hpack.specs.declared.types.field.Field.{Field as OneField};
 ghost use Rattle.hpack.specs.Blocks.{Step, Fields};
 ghost use Rattle.hpack.specs.FieldListBuilder.{Adds, Builds};
-ghost use Rattle.hpack.specs.Repeated.{IsRepeatable, ReadsNext};
+ghost use Rattle.hpack.specs.Repeated.{IsRepeatable, AddsNext};
 ghost use Rattle.hpack.specs.Prefixes.{FieldsFault, PrefixFault, IsStep};
 
 use crate::decode::field::{field_at, skip_at};
@@ -54,7 +54,7 @@ fn read_next(
     requires { 0 < length octets.now }
     ensures ok { IfOk result (λ read. (read.0 ≤ length octets.now)
         × ((done : Items OneField) → IsRepeatable repeatable table.old done
-        → ReadsNext table.old (take read.0 octets.now) builder.old done read.1 table.new
+        → AddsNext table.old (take read.0 octets.now) builder.old done read.1 table.new
         builder.new)) }
     ensures long { IfOk result (λ read. 0 < read.0) }
     ensures fault { IfErr result (PrefixFault (IsStep table.old) octets.now) }

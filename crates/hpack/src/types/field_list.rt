@@ -15,7 +15,8 @@ use std::marker::Model;
 /// shows `[sensitive]` in place of a sensitive field's value.
 #[derive(Drop)]
 pub struct FieldList {
-    /// The names and values, one after another.
+    /// The names and values, one after another; those of a field that repeats the one before it
+    /// once for both.
     octets: Vec<u8>,
     /// Where each field is.
     places: Vec<FieldPlace>,
