@@ -49,6 +49,7 @@ pub fn read_int(prefix: u8, octets: &[u8]) -> Result<(u64, usize), TextFault>
 ///
 /// [`TextFault::Memory`], and `out` is unchanged. It doesn't come where `out` has room for the
 /// encoding.
+#[inline(always)]
 pub fn write_int(prefix: u8, first_bits: u8, value: u64, out: &mut Vec<u8>) -> Result<(), TextFault>
     requires at_least { 1 ≤ prefix }
     requires at_most { prefix ≤ 8 }
@@ -112,6 +113,7 @@ fn read_continuation(octets: &[u8]) -> Result<(u64, usize), TextFault>
 }
 
 /// Appends the encoding of an integer. On `Err` its first octets, or none, were appended.
+#[inline(always)]
 fn append_integer(
     prefix: u8,
     first_bits: u8,
