@@ -134,6 +134,7 @@ impl Buffer {
     // rule: 3.4 The first octet that differs from the preface is PROTOCOL_ERROR, there
     // rule: 3.4 (own) No octet of the preface is stored, so memory is not refused in it
     // Takes octets inside the preface, of which so many were matched.
+    #[inline(always)]
     fn take_preface(&mut self, matched: usize, piece: &[u8]) -> Result<Advance, WireFault>
         requires phase { self.old.phase ≡ Phase.Preface matched }
         requires invariant { BufferInvariant self.old }
@@ -275,6 +276,7 @@ impl Buffer {
     }
 
     // Appends these octets, or changes nothing.
+    #[inline(always)]
     fn append(&mut self, octets: &[u8]) -> Result<(), WireFault>
         ensures ok { OnOk result (self.new.octets.items ≡ self.old.octets.items ++ octets.now) }
         ensures err { IfErr result (λ fault. (fault ≡ WireFault.Memory)
@@ -288,6 +290,7 @@ impl Buffer {
 
     // rule: 5.4.1 The place of a fault counts the octets up to it, with the preface
     // So many octets were used, and then this is expected.
+    #[inline(always)]
     fn pass(&mut self, phase: Phase, used: usize)
         ensures { self.new ≡ record self.old {
           phase = phase;

@@ -154,6 +154,7 @@ impl Cutter {
     /// # Errors
     ///
     /// Those of [`Cutter::advance`].
+    #[inline(always)]
     pub fn cut<'a>(&'a mut self, piece: &'a [u8]) -> Result<Cut<'a>, WireFault>
         ensures used { IfOk result (λ cut. cut.used ≤ length piece.now) }
         ensures all { IfOk result (λ cut. cut.frame ≡ None → cut.used ≡ length piece.now) }
