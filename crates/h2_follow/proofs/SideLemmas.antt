@@ -1,64 +1,245 @@
--- What one side has printed, after a piece and at its end.
-use Rattle.h2_follow.proofs.Names.{◌≡◌, ◌∙◌, ◌++◌, ◌&&◌, ◌==◌, ℕ, [], List, sym, ap, subst}
-use Rattle.h2_follow.proofs.Names.{append_assoc, append-nil, true, false, not, length}
-use Rattle.h2_follow.proofs.Names.{if◌then◌else◌, is_some, Status, Good, Fault, ShowOptions}
-use Rattle.h2_follow.proofs.Names.{ShowError, Viewer, ViewerShows, ViewerPrints, ViewerFailsWith}
-use Rattle.h2_follow.proofs.Names.{error_lines, end_lines, begins_with_preface, limits_of}
-use Rattle.h2_follow.proofs.Names.{ShowsOctets, OneSide, SideAdvances, EndsSide, SideShows}
-use Rattle.h2_follow.proofs.Names.{Result, Ok, Err, IfOk, OnOk, IsStreamFault}
-use Rattle.h2_show.proofs.FaultLemmas.{end_shows_after}
+-- What one side has printed, after a part and at its end.
+use Rattle.h2_follow.proofs.Names.{◌≡◌, ◌≢◌, ◌∙◌, ◌++◌, ◌∷◌, ◌&&◌, ◌==◌, ℕ, [], List, refl, sym, ap}
+use Rattle.h2_follow.proofs.Names.{subst, append_assoc, append-nil, Bool, true, false, not, length}
+use Rattle.h2_follow.proofs.Names.{if◌then◌else◌, is_some, Status, Good, Fault, MatchBool}
+use Rattle.h2_follow.proofs.Names.{ViewerShows, error_lines, end_lines, begins_with_preface}
+use Rattle.h2_follow.proofs.Names.{OneSide, EndsSide, SideShows, Result, Ok, Err, IfOk, OnOk, None}
+use Rattle.h2_follow.proofs.Names.{Side, Frame, Log, Part, Bound, inl, inr, ◌⊎◌}
+use Rattle.h2_follow.proofs.Names.{take, arith, common_steps, ViewerPrints}
+use Rattle.std.proofs.Common.{min, MatchOption, Option, ◌≤◌, ◌<◌}
+use Rattle.std.proofs.lemmas.Bool.{false≢true}
+use Rattle.h2_frame.specs.declared.code.Code.TheVariants.{CompressionError}
+use Rattle.h2_wire.specs.declared.fault.WireFault.{WireFault}
+use Rattle.h2_wire.specs.declared.fault.WireFault.TheVariants as faults
+use Rattle.h2_wire.specs.Cutter.{CutterContinues, CutterFails, CutterFaults, CutterLimited}
+use Rattle.h2_wire.specs.Cutter.{CutterRepresents, CutterState}
+use Rattle.h2_wire.specs.Streams.{WireFaultAt}
+use Rattle.h2_show.specs.Lines.{fault_line}
+use Rattle.h2_show.specs.Limited.{ViewerLimited}
+use Rattle.h2_show.specs.Shown.{Shows}
+use Rattle.h2_show.proofs.BlocksShown.{show_represents}
+use Rattle.h2_show.proofs.FaultLemmas.{end_shows_after, frames_shown}
 use Rattle.h2_show.proofs.PieceLemmas.{prints_none}
+use Rattle.h2_follow.specs.Follower.{PartFails, PartFailsByTable, PartGoesOn, ShowsPart, SideReads}
+use Rattle.h2_follow.specs.Follower.{SideGoesOn, part_of}
+use Rattle.h2_follow.specs.Follows.{SideEnds, as_shown, at_table}
+use Rattle.h2_follow.specs.InForce.{frame_limit, table_limit}
+use Rattle.h2_follow.specs.Log.{IsOver, IsRead, IsSoFar, KeepsTable, by_show, by_table, is_at_fault}
+use Rattle.h2_follow.specs.Log.{is_sound, frames_in, last_ends, limits_in, lines_in, octets_in}
 
--- the viewer of a side that no fault has ended has shown its octets
-going : (one : OneSide) (options : ShowOptions) (octets lines : List ℕ) → one.is_over ≡ false
-    → SideShows one options octets lines
-    → ViewerShows one.viewer.cutter one.viewer.blocks one.viewer.preface.is_due
-    (begins_with_preface options.from) (limits_of options) octets lines
-going one options octets lines is shows = rw is at shows
+-- what a side has printed is what is shown of its octets so far
+pub side_so_far : (one : OneSide) (from : Side) (own : Log) → SideShows one from own
+    → IsSoFar from own
+side_so_far one from own = by one.is_over
+  where
+    by : (over : Bool)
+        → MatchBool over (IsOver from own × IsRead from own) (SideGoesOn one from own)
+        → IsSoFar from own
+    by true (over, read) = (read, inr over)
+    by false goes = (
+      is_sound one.scanner.unparsed goes.scanner.split,
+      inl (record {
+        frames = goes.viewer.frames;
+        unparsed = one.viewer.cutter.unparsed;
+        begun = one.viewer.blocks.gather.begun;
+        shown = goes.viewer.lines;
+        table = one.viewer.blocks.decoder.table;
+        cut = goes.viewer.cut.split;
+        shows = frames_shown one.viewer.blocks goes.viewer.frames goes.viewer.lines
+            goes.viewer.blocks_show;
+        all = goes.viewer.all;
+        decoded = (show_represents one.viewer.blocks goes.viewer.frames goes.viewer.lines
+            goes.viewer.blocks_show).decoded;
+        keeps = goes.keeps;
+      }),
+    )
 
--- a piece that has no fault
-pub prints_advances : (old new : OneSide) (octets printed : List ℕ) → old.is_over ≡ false
-    → new.is_over ≡ false
-    → ViewerPrints old.viewer.cutter old.viewer.blocks old.viewer.preface.is_due octets
-    new.viewer.cutter new.viewer.blocks new.viewer.preface.is_due printed
-    → SideAdvances old new octets printed
-prints_advances old new octets printed is now prints options so_far lines shows =
-    rw now (prints (begins_with_preface options.from) (limits_of options) so_far lines
-    (going old options so_far lines is shows))
+-- a side that no fault has ended
+going : (one : OneSide) (from : Side) (own : Log) → one.is_over ≡ false → SideShows one from own
+    → SideGoesOn one from own
+going one from own is shows = subst (λ (over : Bool).
+    MatchBool over (IsOver from own × IsRead from own) (SideGoesOn one from own)) is shows
 
--- a side that a fault has ended prints no more
-pub over_advances : (one : OneSide) (octets : List ℕ) → one.is_over ≡ true
-    → SideAdvances one one octets []
-over_advances one octets is options so_far lines shows =
-    let ended : (more : List ℕ) → ShowsOctets options (so_far ++ more) Fault lines =
-    rw is at shows in
-    rw is (λ more.
-    subst (λ (text : List ℕ). ShowsOctets options ((so_far ++ octets) ++ more) Fault text)
-    (sym (append-nil lines))
-    (subst (λ (all : List ℕ). ShowsOctets options all Fault lines)
-    (sym (append_assoc so_far octets more)) (ended (octets ++ more))))
+-- and one that a fault has ended
+pub known_over : (one : OneSide) (from : Side) (own : Log) → one.is_over ≡ true
+    → SideShows one from own → IsOver from own × IsRead from own
+known_over one from own is shows = subst (λ (over : Bool).
+    MatchBool over (IsOver from own × IsRead from own) (SideGoesOn one from own)) is shows
 
--- a piece with a fault, with the line of that
-pub fails_advances : (old new : OneSide) (octets printed : List ℕ) (error : ShowError)
-    (after : Viewer) → old.is_over ≡ false → new.is_over ≡ true
-    → ViewerFailsWith old.viewer.cutter old.viewer.blocks old.viewer.preface.is_due octets error
-    after.cutter after.preface.is_due printed
-    → SideAdvances old new octets (printed ++ error_lines error after.cutter.place after.preface.is_due)
-fails_advances old new octets printed error after is now fails options so_far lines shows =
-    let last : List ℕ = error_lines error after.cutter.place after.preface.is_due in
-    rw now (λ more.
-    subst (λ (text : List ℕ). ShowsOctets options ((so_far ++ octets) ++ more) Fault text)
-    (append_assoc lines printed last)
-    (fails (begins_with_preface options.from) (limits_of options) so_far lines more
-    (going old options so_far lines is shows)))
+-- The octets of a part are at fault, as `show` finds, where the viewer had shown those before it.
+show_over : (mid : OneSide) (from : Side) (own : Log) (part : Part) (printed : List ℕ)
+    → part.lines ≡ printed
+    → ViewerShows mid.viewer.cutter mid.viewer.blocks mid.viewer.preface.is_due
+    (begins_with_preface from) (limits_in (part ∷ own)) (octets_in own) (lines_in own)
+    → PartFails mid part.octets printed → IsOver from (part ∷ own)
+show_over mid from own part printed is shows fails = by_show (λ more.
+    subst (λ (text : List ℕ). Shows (begins_with_preface from) (limits_in (part ∷ own))
+    ((octets_in own ++ part.octets) ++ more) Fault text)
+    (append_assoc (lines_in own) fails.lines
+    (error_lines fails.error fails.after.cutter.place fails.after.preface.is_due)
+    ∙ ap (λ (text : List ℕ). lines_in own ++ text) (sym fails.all)
+    ∙ ap (λ (text : List ℕ). lines_in own ++ text) (sym is))
+    (fails.fails (begins_with_preface from) (limits_in (part ∷ own)) (octets_in own)
+    (lines_in own) more shows))
+
+-- the octets of a part end a block, after which the table is above the limit
+table_over : (mid : OneSide) (from : Side) (own : Log) (part : Part) (ends : Bool)
+    (printed : List ℕ) → part.lines ≡ printed → ends ≡ last_ends part.frames
+    → ViewerShows mid.viewer.cutter mid.viewer.blocks mid.viewer.preface.is_due
+    (begins_with_preface from) (limits_in (part ∷ own)) (octets_in own) (lines_in own)
+    → PartFailsByTable mid part.octets ends part.table printed → IsOver from (part ∷ own)
+table_over mid from own part ends printed is last shows fails =
+    let after = fails.prints (begins_with_preface from) (limits_in (part ∷ own)) (octets_in own)
+    (lines_in own) shows in
+    by_table (record {
+      last = part;
+      before = own;
+      begun = fails.after.blocks.gather.begun;
+      frames = after.frames;
+      unparsed = fails.after.cutter.unparsed;
+      table = fails.after.blocks.decoder.table;
+      joined = refl;
+      ends = sym last ∙ fails.block;
+      cut = after.cut.split;
+      decoded = (show_represents fails.after.blocks after.frames after.lines
+          after.blocks_show).decoded;
+      above = fails.above;
+      line = is ∙ fails.line ∙ ap (fault_line CompressionError) after.cut.place;
+    })
+
+-- A part without a fault of an octet was read: with it the side shows its octets so far.
+pub reads_part : (old mid new : OneSide) (limited : CutterState) (least : ℕ) (bound : Bound)
+    (octets : List ℕ) (frames : List Frame) (ends : Bool) (printed : List ℕ)
+    → old.is_over ≡ false
+    → CutterLimited old.scanner (min (frame_limit least bound) 1048576) limited
+    → CutterContinues limited octets frames mid.scanner → new.scanner ≡ mid.scanner
+    → ViewerLimited old.viewer.cutter old.viewer.blocks old.viewer.preface.is_due
+    (min (frame_limit least bound) 1048576) mid.viewer.cutter mid.viewer.blocks
+    mid.viewer.preface.is_due
+    → ends ≡ last_ends frames → ShowsPart mid new octets ends (table_limit bound) printed
+    → SideReads old new least bound octets frames printed
+reads_part old mid new limited least bound octets frames ends printed is limit continues same
+    viewer_limit last shows from own before =
+    let goes : SideGoesOn old from own = going old from own is before in
+    let shown = viewer_limit (begins_with_preface from) (limits_in own) (octets_in own)
+    (lines_in own) goes.viewer in
+    let cut = continues.represents (begins_with_preface from)
+    (limits_in (part_of from least bound octets frames printed ∷ own)) (octets_in own)
+    (frames_in own) (limit.represents (begins_with_preface from) (limits_in own) (octets_in own)
+    (frames_in own) goes.scanner) in
+    by new.is_over shown cut shows
+  where
+    by : (over : Bool)
+        → ViewerShows mid.viewer.cutter mid.viewer.blocks mid.viewer.preface.is_due
+        (begins_with_preface from)
+        (limits_in (part_of from least bound octets frames printed ∷ own)) (octets_in own)
+        (lines_in own)
+        → CutterRepresents mid.scanner (begins_with_preface from)
+        (limits_in (part_of from least bound octets frames printed ∷ own)) (octets_in own ++ octets)
+        (frames_in own ++ frames)
+        → MatchBool over
+        (PartFails mid octets printed ⊎ PartFailsByTable mid octets ends (table_limit bound) printed)
+        (PartGoesOn mid new octets ends (table_limit bound) printed)
+        → MatchBool over
+        (IsOver from (part_of from least bound octets frames printed ∷ own)
+        × IsRead from (part_of from least bound octets frames printed ∷ own))
+        (SideGoesOn new from (part_of from least bound octets frames printed ∷ own))
+    by true shown cut (inl fails) = (
+      show_over mid from own (part_of from least bound octets frames printed) printed refl shown
+          fails,
+      is_sound mid.scanner.unparsed cut.split,
+    )
+    by true shown cut (inr fails) = (
+      table_over mid from own (part_of from least bound octets frames printed) ends printed refl
+          last shown fails,
+      is_sound mid.scanner.unparsed cut.split,
+    )
+    by false shown cut goes = record {
+      viewer = goes.prints (begins_with_preface from)
+          (limits_in (part_of from least bound octets frames printed ∷ own)) (octets_in own)
+          (lines_in own) shown;
+      scanner = subst (λ (state : CutterState). CutterRepresents state (begins_with_preface from)
+          (limits_in (part_of from least bound octets frames printed ∷ own))
+          (octets_in own ++ octets) (frames_in own ++ frames)) (sym same) cut;
+      keeps = λ ended. goes.keeps (last ∙ ended);
+    }
+
+-- a cutter had no fault before this one
+found_first : (fault : WireFault) (old new : CutterState) (piece : List ℕ)
+    → MatchOption old.fault (CutterFaults old piece fault new) (λ known. new ≡ old)
+    → old.fault ≡ None → CutterFaults old piece fault new
+found_first fault old new piece fails none = subst (λ (known : Option WireFault).
+    MatchOption known (CutterFaults old piece fault new) (λ known. new ≡ old)) none fails
+
+-- a cutter without a fault that fails, but by lack of memory, has found this one
+found : (fault : WireFault) (old new : CutterState) (piece : List ℕ) → fault ≢ faults.Memory
+    → CutterFails old piece fault new → old.fault ≡ None → CutterFaults old piece fault new
+found faults.Memory old new piece other fails none = absurd (other refl)
+found faults.BadPreface old new piece other fails none =
+    found_first faults.BadPreface old new piece fails none
+found (faults.HeadFault fault) old new piece other fails none =
+    found_first (faults.HeadFault fault) old new piece fails none
+found (faults.PayloadFault code) old new piece other fails none =
+    found_first (faults.PayloadFault code) old new piece fails none
+
+-- Octets were read one of which is at fault, which ends the side.
+pub reads_fault : (old mid new : OneSide) (limited failed : CutterState) (least : ℕ) (bound : Bound)
+    (octets : List ℕ) (fault : WireFault) (printed : List ℕ) → old.is_over ≡ false
+    → CutterLimited old.scanner (min (frame_limit least bound) 1048576) limited
+    → fault ≢ faults.Memory → CutterFails limited octets fault failed
+    → ViewerLimited old.viewer.cutter old.viewer.blocks old.viewer.preface.is_due
+    (min (frame_limit least bound) 1048576) mid.viewer.cutter mid.viewer.blocks
+    mid.viewer.preface.is_due
+    → new.is_over ≡ true → ShowsPart mid new octets false 0 printed
+    → SideReads old new least bound octets [] printed
+reads_fault old mid new limited failed least bound octets fault printed is limit other fails
+    viewer_limit over shows from own before =
+    let goes : SideGoesOn old from own = going old from own is before in
+    let shown = viewer_limit (begins_with_preface from) (limits_in own) (octets_in own)
+    (lines_in own) goes.viewer in
+    let cut = limit.represents (begins_with_preface from) (limits_in own) (octets_in own)
+    (frames_in own) goes.scanner in
+    let at = (found fault limited failed octets other fails cut.sound).at
+    (begins_with_preface from) (limits_in (part_of from least bound octets [] printed ∷ own))
+    (octets_in own) (frames_in own) cut in
+    over_now (by (fails_now shows) shown, is_at_fault at.0 fault (subst (λ (frames : List Frame).
+    WireFaultAt (begins_with_preface from)
+    (limits_in (part_of from least bound octets [] printed ∷ own)) (octets_in own ++ octets) frames
+    at.0 fault) (sym (append-nil (frames_in own))) at.1))
+  where
+    over_now : IsOver from (part_of from least bound octets [] printed ∷ own)
+        × IsRead from (part_of from least bound octets [] printed ∷ own)
+        → SideShows new from (part_of from least bound octets [] printed ∷ own)
+    over_now both = subst (λ (one : Bool). MatchBool one
+        (IsOver from (part_of from least bound octets [] printed ∷ own)
+        × IsRead from (part_of from least bound octets [] printed ∷ own))
+        (SideGoesOn new from (part_of from least bound octets [] printed ∷ own))) (sym over) both
+    fails_now : ShowsPart mid new octets false 0 printed
+        → PartFails mid octets printed ⊎ PartFailsByTable mid octets false 0 printed
+    fails_now some = subst (λ (one : Bool). MatchBool one
+        (PartFails mid octets printed ⊎ PartFailsByTable mid octets false 0 printed)
+        (PartGoesOn mid new octets false 0 printed)) over some
+    by : PartFails mid octets printed ⊎ PartFailsByTable mid octets false 0 printed
+        → ViewerShows mid.viewer.cutter mid.viewer.blocks mid.viewer.preface.is_due
+        (begins_with_preface from) (limits_in (part_of from least bound octets [] printed ∷ own))
+        (octets_in own) (lines_in own)
+        → IsOver from (part_of from least bound octets [] printed ∷ own)
+    by (inl failed_so) shown =
+        show_over mid from own (part_of from least bound octets [] printed) printed refl shown
+        failed_so
+    by (inr by_table_so) shown = absurd (false≢true by_table_so.block)
 
 -- the end of a side that a fault has ended
 pub over_ends : (one : OneSide) → one.is_over ≡ true → EndsSide one Fault []
-over_ends one is options octets lines shows =
-    let ended : (more : List ℕ) → ShowsOctets options (octets ++ more) Fault lines =
-    rw is at shows in
-    subst (λ (text : List ℕ). ShowsOctets options octets Fault text) (sym (append-nil lines))
-    (subst (λ (all : List ℕ). ShowsOctets options all Fault lines) (append-nil octets) (ended []))
+over_ends one is from own shows = by (known_over one from own is shows).0
+  where
+    by : IsOver from own → SideEnds from own Fault []
+    by (by_show ended) = as_shown
+        (subst (λ (text : List ℕ). Shows (begins_with_preface from) (limits_in own) (octets_in own)
+        Fault text) (sym (append-nil (lines_in own)))
+        (subst (λ (all : List ℕ). Shows (begins_with_preface from) (limits_in own) all Fault
+        (lines_in own)) (append-nil (octets_in own)) (ended [])))
+    by (by_table fault) = at_table fault refl refl
 
 -- the end of one that none has
 pub good_ends : (one : OneSide) (status : Status) → one.is_over ≡ false
@@ -66,15 +247,15 @@ pub good_ends : (one : OneSide) (status : Status) → one.is_over ≡ false
     && not (is_some one.viewer.blocks.gather.begun) then Good else Fault)
     → EndsSide one status
     (end_lines (length one.viewer.cutter.unparsed) (is_some one.viewer.blocks.gather.begun))
-good_ends one status is known options octets lines shows =
-    subst (λ (all : List ℕ). ShowsOctets options all status (lines ++ end_lines
-    (length one.viewer.cutter.unparsed) (is_some one.viewer.blocks.gather.begun)))
-    (append-nil octets)
+good_ends one status is known from own shows = as_shown
+    (subst (λ (all : List ℕ). Shows (begins_with_preface from) (limits_in own) all status
+    (lines_in own ++ end_lines (length one.viewer.cutter.unparsed)
+    (is_some one.viewer.blocks.gather.begun))) (append-nil (octets_in own))
     (end_shows_after one.viewer.cutter one.viewer.cutter one.viewer.blocks one.viewer.blocks
     one.viewer.preface.is_due one.viewer.preface.is_due [] [] status
     (prints_none one.viewer.cutter one.viewer.blocks one.viewer.preface.is_due) known
-    (begins_with_preface options.from) (limits_of options) octets lines
-    (going one options octets lines is shows))
+    (begins_with_preface from) (limits_in own) (octets_in own) (lines_in own)
+    (going one from own is shows).viewer))
 
 pub end_told : {E : Type 0} (one : OneSide) (before after : List ℕ) (result : Result Status E)
     → one.is_over ≡ false
@@ -87,21 +268,28 @@ pub end_told : {E : Type 0} (one : OneSide) (before after : List ℕ) (result : 
 end_told one before after (Err error) is known last = tt
 end_told one before after (Ok status) is known last = (_, last, good_ends one status is known)
 
-pub fault_told : {E : Type 0} (result : Result (Unit {0}) E) (old new : OneSide) (octets : List ℕ)
-    (error : ShowError) (after : Viewer) (before middle ended : List ℕ) → old.is_over ≡ false
-    → new.is_over ≡ true → OnOk result (IsStreamFault error)
-    → (IsStreamFault error → (printed : List ℕ) × (middle ≡ before ++ printed)
-    × ViewerFailsWith old.viewer.cutter old.viewer.blocks old.viewer.preface.is_due octets error
-    after.cutter after.preface.is_due printed)
-    → OnOk result (ended ≡ middle ++ error_lines error after.cutter.place after.preface.is_due)
-    → OnOk result ((printed : List ℕ) × (ended ≡ before ++ printed)
-    × SideAdvances old new octets printed)
-fault_told (Err failure) old new octets error after before middle ended is now of_stream fails
-    last = tt
-fault_told (Ok none) old new octets error after before middle ended is now of_stream fails last =
-    let (printed, written, so) = fails of_stream in
-    let lines : List ℕ = error_lines error after.cutter.place after.preface.is_due in (
-      printed ++ lines,
-      last ∙ ap (λ (text : List ℕ). text ++ lines) written ∙ append_assoc before printed lines,
-      fails_advances old new octets printed error after is now so,
-    )
+-- a part that no fault ends
+pub goes_part : (old new : OneSide) (octets : List ℕ) (ends : Bool) (table : ℕ)
+    (printed : List ℕ) → new.is_over ≡ false
+    → ViewerPrints old.viewer.cutter old.viewer.blocks old.viewer.preface.is_due octets
+    new.viewer.cutter new.viewer.blocks new.viewer.preface.is_due printed
+    → (ends ≡ true → new.viewer.blocks.decoder.table.maximum ≤ table)
+    → ShowsPart old new octets ends table printed
+goes_part old new octets ends table printed is prints keeps = subst (λ (over : Bool).
+    MatchBool over (PartFails old octets printed ⊎ PartFailsByTable old octets ends table printed)
+    (PartGoesOn old new octets ends table printed)) (sym is)
+    (record { prints = prints; keeps = keeps; })
+
+-- what follows a text is dropped
+pub take_kept : (count : ℕ) (text more : List ℕ) → count ≡ length text
+    → take count (text ++ more) ≡ text
+take_kept count text more is = grind (arith, common_steps)
+
+-- all octets are within them, and some where there are some
+pub all_used : (octets : List ℕ)
+    → (length octets ≤ length octets) × (octets ≢ [] → 0 < length octets)
+all_used [] = (grind (arith, common_steps), λ some. absurd (some refl))
+all_used (octet ∷ octets) = (grind (arith, common_steps), λ some. grind (arith, common_steps))
+
+pub take_whole : (octets : List ℕ) → take (length octets) octets ≡ octets
+take_whole octets = grind (arith, common_steps)
