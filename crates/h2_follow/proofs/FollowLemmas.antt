@@ -1,6 +1,8 @@
 -- What is shown of a text, by what was read of it.
-use Rattle.h2_follow.proofs.Names.{◌≡◌, ◌∙◌, ◌++◌, ◌∷◌, ◌+◌, ◌==◌, ℕ, [], List, refl, sym, ap, subst}
-use Rattle.h2_follow.proofs.Names.{Log, output_of, length, if◌then◌else◌, Option, Some, None, Result, Ok}
+use Rattle.h2_follow.proofs.Names.{◌≡◌, ◌∙◌, ◌++◌, ◌∷◌, ◌+◌, ◌==◌, ℕ, [], List, refl, sym, ap}
+use Rattle.h2_follow.proofs.Names.{subst}
+use Rattle.h2_follow.proofs.Names.{Stretches, output_of, length, if◌then◌else◌, Option, Some, None}
+use Rattle.h2_follow.proofs.Names.{Result, Ok}
 use Rattle.h2_follow.proofs.Names.{Err, IfOk, IfErr, IfSome, Appends, Line, Piece, Follower}
 use Rattle.h2_follow.proofs.Names.{EndsSide, FollowerShows, marked_of, Status, Client, Server}
 use Rattle.std.proofs.KnownBytes.{Appends-trans}
@@ -15,14 +17,14 @@ use Rattle.std.specs.Io.KnownBytes.{IsAtEnd}
 use Rattle.h2_follow.specs.declared.text.Part.{Part}
 use Rattle.h2_follow.specs.FollowText.{IsRefusedLine, LinesSoFar}
 use Rattle.h2_follow.specs.Follower.{ReadsLines}
-use Rattle.h2_follow.specs.Log.{IsLog}
+use Rattle.h2_follow.specs.Stretches.{AreFollowed}
 use Rattle.h2_follow.specs.Follows.{FollowsText, FollowsToBadLine, hint_of_line, status_of_both}
 use Rattle.h2_follow.proofs.FollowerLemmas.{followed}
 use Rattle.h2_follow.proofs.LinesLemmas.{text_read}
 
 -- the end of a text
 pub ended_told : (before middle start written ended : Option (List ℕ)) (first follower : Follower)
-    (lines : List Line) (pieces : List Piece) (log : Log) (part : Part) (status : Status)
+    (lines : List Line) (pieces : List Piece) (log : Stretches) (part : Part) (status : Status)
     → ReadsLines before middle lines → LinesSoFar part lines pieces
     → Appends start written (output_of log)
     → ((least : ℕ) → FollowerShows first least [] []
@@ -50,7 +52,7 @@ ended_told (Some text) middle start written ended first follower lines pieces lo
 
 -- a line that can't follow was read
 pub refused_told : (before middle start written : Option (List ℕ)) (first follower : Follower)
-    (lines : List Line) (line : Line) (pieces : List Piece) (log : Log) (part : Part)
+    (lines : List Line) (line : Line) (pieces : List Piece) (log : Stretches) (part : Part)
     (number : ℕ) (hint : Option FollowHint) → ReadsLines before middle (lines ++ line ∷ [])
     → LinesSoFar part lines pieces → Appends start written (output_of log)
     → ((least : ℕ) → FollowerShows first least [] []
@@ -80,7 +82,7 @@ refused_told (Some text) (Some rest) start written first follower lines line pie
         };
         log = log;
         parts = (shows least none).parts;
-        is_log = subst (λ (some : ℕ). IsLog some log) (shows least none).same
+        is_log = subst (λ (some : ℕ). AreFollowed some log) (shows least none).same
             (shows least none).reads.is_log;
         all = refl;
         reports = reports;

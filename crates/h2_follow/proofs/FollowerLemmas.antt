@@ -1,18 +1,21 @@
 -- Both sides, as octets come.
-use Rattle.h2_follow.proofs.Names.{◌≡◌, ◌≢◌, ◌∙◌, ◌++◌, ◌∷◌, ◌⊎◌, ℕ, [], List, refl, sym, ap, subst}
+use Rattle.h2_follow.proofs.Names.{◌≡◌, ◌≢◌, ◌∙◌, ◌++◌, ◌∷◌, ◌⊎◌, ℕ, [], List, refl, sym, ap}
+use Rattle.h2_follow.proofs.Names.{subst}
 use Rattle.h2_follow.proofs.Names.{append-nil, inl, inr, true, MatchBool, Option, Some, None, Side}
 use Rattle.h2_follow.proofs.Names.{Client, Server, OneSide, SideShows, OfSide, Piece, Result, Ok}
-use Rattle.h2_follow.proofs.Names.{Err, OnOk, Appends, Node, marked_of, output_of, Follower, EndsSide}
-use Rattle.h2_follow.proofs.Names.{Status, Log, FollowerReads, FollowerShows, FollowerTakes}
+use Rattle.h2_follow.proofs.Names.{Err, OnOk, Appends, Node, marked_of, output_of, Follower}
+use Rattle.h2_follow.proofs.Names.{EndsSide}
+use Rattle.h2_follow.proofs.Names.{Status, Stretches, FollowerReads, FollowerShows, FollowerTakes}
 use Rattle.h2_follow.proofs.Names.{KnowsClient, client_of, sided, side_of_node, ChoosesClient}
 use Rattle.std.proofs.lemmas.List.{map-append}
-use Rattle.std.proofs.KnownBytes.{Appends-nil}
+use Rattle.std.proofs.KnownBytes.{Appends-kept, Appends-nil}
 use Rattle.std.specs.Io.KnownBytes.{Keeps}
 use Rattle.h2_follow.specs.Follower.{FollowerAdvances, one_of}
 use Rattle.h2_follow.proofs.SideLemmas.{known_over}
 use Rattle.h2_follow.specs.Follows.{FollowsPieces, status_of_both}
 use Rattle.h2_follow.specs.InForce.{bound_of, first_bound}
-use Rattle.h2_follow.specs.Log.{AreParts, IsLog, IsOver, no_pieces, own_of, with_piece}
+use Rattle.h2_follow.specs.Stretches.{ArePieces, AreFollowed, SideIsOver, no_pieces, own_of}
+use Rattle.h2_follow.specs.Stretches.{with_piece}
 
 -- it is the client of the pieces with this one
 client_next : (known : Option Node) (pieces : List Piece) (piece : Piece) (client : Node)
@@ -45,14 +48,14 @@ written_text side before after cleared text printed none is written =
     (is ∙ ap (λ (some : List ℕ). some ++ printed) none) written
 
 -- a side that a fault has ended is over by what it has read
-over_by : (one : OneSide) (side : Side) (own : Log) → one.is_over ≡ true → SideShows one side own
-    → IsOver side own
+over_by : (one : OneSide) (side : Side) (own : Stretches) → one.is_over ≡ true → SideShows one side own
+    → SideIsOver side own
 over_by one side own is shows = (known_over one side own is shows).0
 
 -- where all of a piece was read, or its side is over
-piece_ended : (side : Side) (follower : Follower) (after : List ℕ) (log : Log)
+piece_ended : (side : Side) (follower : Follower) (after : List ℕ) (log : Stretches)
     → (after ≡ []) ⊎ ((one_of side follower).is_over ≡ true) → FollowerReads follower log
-    → (after ≡ []) ⊎ IsOver side (own_of side log)
+    → (after ≡ []) ⊎ SideIsOver side (own_of side log)
 piece_ended side follower after log (inl all) reads = inl all
 piece_ended Client follower after log (inr over) reads =
     inr (over_by follower.client_side Client (own_of Client log) over reads.client)
@@ -62,7 +65,7 @@ piece_ended Server follower after log (inr over) reads =
 -- a piece is taken
 takes : (old mid new : Follower) (client : Node) (piece : Piece) (lines : List ℕ)
     → ChoosesClient old.client piece client → new.client ≡ Some client
-    → ((log : Log) → FollowerReads old log → FollowerReads mid log) → new.least ≡ old.least
+    → ((log : Stretches) → FollowerReads old log → FollowerReads mid log) → new.least ≡ old.least
     → (advances : FollowerAdvances mid new (side_of_node client piece.0) piece.1 [] lines)
     → FollowerTakes old new (piece ∷ []) advances.newer
 takes old mid new client piece lines chooses is same kept advances least pieces log shows =
@@ -77,7 +80,7 @@ takes old mid new client piece lines chooses is same kept advances least pieces 
           advances.newer log
           (ap (λ (one : Node). sided one (pieces ++ piece ∷ [])) (sym now)
           ∙ map-append (λ (one : Piece). (side_of_node client one.0, one.1)) pieces (piece ∷ []))
-          refl (subst (λ (all : List OfSide). AreParts all log) before shows.parts)
+          refl (subst (λ (all : List OfSide). ArePieces all log) before shows.parts)
           (record {
             of = advances.of;
             after = advances.after;
@@ -94,11 +97,11 @@ pub take_told : {E : Type 0} (result : Result (Unit {0}) E) (old mid new : Follo
     (client : Node) (piece : Piece) (side : Side) (octets : List ℕ)
     (before after : Option (List ℕ))
     → ChoosesClient old.client piece client
-    → ((log : Log) → FollowerReads old log → FollowerReads mid log) → mid.client ≡ Some client
+    → ((log : Stretches) → FollowerReads old log → FollowerReads mid log) → mid.client ≡ Some client
     → mid.least ≡ old.least → side ≡ side_of_node client piece.0 → octets ≡ piece.1
     → OnOk result ((lines : List ℕ) × Appends before after lines
     × FollowerAdvances mid new side octets [] lines)
-    → OnOk result ((newer : Log) × Appends before after (output_of newer)
+    → OnOk result ((newer : Stretches) × Appends before after (output_of newer)
     × FollowerTakes old new (piece ∷ []) newer)
 take_told (Err error) old mid new client piece side octets before after chooses same is kept side_is
     octets_are told = tt
@@ -134,7 +137,7 @@ none_taken follower least none_yet one two client server same = record {
 
 -- what is shown of a line: nothing where it gives no octets
 pub none_shown : (follower : Follower) (known : Option (List ℕ))
-    → (newer : Log) × Appends known known (output_of newer)
+    → (newer : Stretches) × Appends known known (output_of newer)
     × FollowerTakes follower follower [] newer
 none_shown follower known = (
   [],
@@ -144,7 +147,7 @@ none_shown follower known = (
 )
 
 -- the whole output, at the end of both sides' octets
-pub followed : (follower : Follower) (least : ℕ) (pieces : List Piece) (log : Log)
+pub followed : (follower : Follower) (least : ℕ) (pieces : List Piece) (log : Stretches)
     (client server status : Status) (one two : List ℕ)
     → FollowerShows follower least pieces log → status ≡ status_of_both client server
     → EndsSide follower.client_side client one → EndsSide follower.server_side server two
@@ -154,7 +157,7 @@ followed follower least pieces log client server status one two shows is client_
     server_ends = record {
       log = log;
       parts = shows.parts;
-      is_log = subst (λ (some : ℕ). IsLog some log) shows.same shows.reads.is_log;
+      is_log = subst (λ (some : ℕ). AreFollowed some log) shows.same shows.reads.is_log;
       client_last = one;
       server_last = two;
       client_status = client;
@@ -168,7 +171,7 @@ followed follower least pieces log client server status one two shows is client_
 -- the lines of a piece are written, which were none before it
 pub show_told : {E : Type 0} (result : Result (Unit {0}) E) (old mid new : Follower) (side : Side)
     (octets : List ℕ) (before written after : Option (List ℕ))
-    → ((log : Log) → FollowerReads old log → FollowerReads mid log) → mid.lines.items ≡ []
+    → ((log : Stretches) → FollowerReads old log → FollowerReads mid log) → mid.lines.items ≡ []
     → mid.client ≡ old.client → mid.least ≡ old.least
     → OnOk result (FollowerAdvances mid new side octets mid.lines.items new.lines.items)
     → Appends before written new.lines.items → Keeps written after
@@ -179,7 +182,7 @@ show_told (Err error) old mid new side octets before written after same cleared 
 show_told (Ok ok) old mid new side octets before written after same cleared client least told
     appends keeps = (
       new.lines.items,
-      appends_kept before written after new.lines.items appends keeps,
+      Appends-kept before written after new.lines.items appends keeps,
       record {
         newer = told.newer;
         after = told.after;
@@ -192,10 +195,3 @@ show_told (Ok ok) old mid new side octets before written after same cleared clie
         least = told.least ∙ least;
       },
     )
-  where
-    appends_kept : (before written after : Option (List ℕ)) (lines : List ℕ)
-        → Appends before written lines → Keeps written after → Appends before after lines
-    appends_kept None written after lines one two = tt
-    appends_kept (Some text) None after lines one two = absurd one
-    appends_kept (Some text) (Some more) None lines one two = absurd two
-    appends_kept (Some text) (Some more) (Some all) lines one two = two ∙ one

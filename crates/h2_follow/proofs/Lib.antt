@@ -1,7 +1,7 @@
 mod FollowLemmas
 pub mod FollowerLemmas
 mod LinesLemmas
-pub mod LogLemmas
+pub mod StretchLemmas
 mod Names
 pub mod SideLemmas
 mod TextLemmas

@@ -1,5 +1,6 @@
 -- The names of std, of the crates below and of definitions that several proofs cite, in one place.
-pub use Rattle.std.proofs.Common.{◌≡◌, ◌≢◌, ◌∙◌, ◌++◌, ◌∷◌, ◌&&◌, ◌||◌, ◌==◌, ◌+◌, ℕ, [], List, refl, sym, ap}
+pub use Rattle.std.proofs.Common.{◌≡◌, ◌≢◌, ◌∙◌, ◌++◌, ◌∷◌, ◌&&◌, ◌||◌, ◌==◌, ◌+◌, ℕ, [], List}
+pub use Rattle.std.proofs.Common.{refl, sym, ap}
 pub use Rattle.std.proofs.Common.{subst, append_assoc, append-nil, Bool, true, false, not, length}
 pub use Rattle.std.proofs.Common.{Option, Some, None, if◌then◌else◌, rules, arith, MatchBool, map}
 pub use Rattle.std.proofs.Common.{inl, inr, ◌⊎◌, take, Result, Ok, Err, IfOk, IfErr, IfSome, OnOk}
@@ -21,7 +22,7 @@ pub use Rattle.h2_follow.specs.FollowText.{Line, OfSide, Piece}
 pub use Rattle.h2_follow.specs.Follower.{SideAdvances, EndsSide, SideShows, FollowerReads}
 pub use Rattle.h2_follow.specs.Follows.{marked_of, output_of}
 pub use Rattle.h2_follow.specs.InForce.{Bound}
-pub use Rattle.h2_follow.specs.Log.{Log, Part}
+pub use Rattle.h2_follow.specs.Stretches.{Stretches, Stretch}
 pub use Rattle.h2_frame.specs.Frames.{Frame}
 pub use Rattle.h2_follow.specs.declared.text.Node.{Node}
 pub use Rattle.h2_follow.specs.declared.follower.Follower.{Follower}

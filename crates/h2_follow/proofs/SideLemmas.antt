@@ -1,10 +1,11 @@
--- What one side has printed, after a part and at its end.
-use Rattle.h2_follow.proofs.Names.{◌≡◌, ◌≢◌, ◌∙◌, ◌++◌, ◌∷◌, ◌&&◌, ◌==◌, ℕ, [], List, refl, sym, ap}
+-- What one side has printed, after a stretch and at its end.
+use Rattle.h2_follow.proofs.Names.{◌≡◌, ◌≢◌, ◌∙◌, ◌++◌, ◌∷◌, ◌&&◌, ◌==◌, ℕ, [], List, refl, sym}
+use Rattle.h2_follow.proofs.Names.{ap}
 use Rattle.h2_follow.proofs.Names.{subst, append_assoc, append-nil, Bool, true, false, not, length}
 use Rattle.h2_follow.proofs.Names.{if◌then◌else◌, is_some, Status, Good, Fault, MatchBool}
 use Rattle.h2_follow.proofs.Names.{ViewerShows, error_lines, end_lines, begins_with_preface}
 use Rattle.h2_follow.proofs.Names.{OneSide, EndsSide, SideShows, Result, Ok, Err, IfOk, OnOk, None}
-use Rattle.h2_follow.proofs.Names.{Side, Frame, Log, Part, Bound, inl, inr, ◌⊎◌}
+use Rattle.h2_follow.proofs.Names.{Side, Frame, Stretches, Stretch, Bound, inl, inr, ◌⊎◌}
 use Rattle.h2_follow.proofs.Names.{take, arith, common_steps, ViewerPrints}
 use Rattle.std.proofs.Common.{min, MatchOption, Option, ◌≤◌, ◌<◌}
 use Rattle.std.proofs.lemmas.Bool.{false≢true}
@@ -21,19 +22,21 @@ use Rattle.h2_show.proofs.BlocksShown.{show_represents}
 use Rattle.h2_show.proofs.FaultLemmas.{end_shows_after, frames_shown}
 use Rattle.h2_show.proofs.PieceLemmas.{prints_none}
 use Rattle.h2_follow.specs.Follower.{PartFails, PartFailsByTable, PartGoesOn, ShowsPart, SideReads}
-use Rattle.h2_follow.specs.Follower.{SideGoesOn, part_of}
+use Rattle.h2_follow.specs.Follower.{SideGoesOn, stretch_of}
 use Rattle.h2_follow.specs.Follows.{SideEnds, as_shown, at_table}
-use Rattle.h2_follow.specs.InForce.{frame_limit, table_limit}
-use Rattle.h2_follow.specs.Log.{IsOver, IsRead, IsSoFar, KeepsTable, by_show, by_table, is_at_fault}
-use Rattle.h2_follow.specs.Log.{is_sound, frames_in, last_ends, limits_in, lines_in, octets_in}
+use Rattle.h2_follow.specs.InForce.{frame_bound, table_bound}
+use Rattle.h2_follow.specs.Stretches.{SideIsOver, SideIsRead, IsSoFar, KeepsTable, by_show}
+use Rattle.h2_follow.specs.Stretches.{by_table, is_at_fault}
+use Rattle.h2_follow.specs.Stretches.{is_sound, frames_read, last_ends, limits_in, lines_read}
+use Rattle.h2_follow.specs.Stretches.{octets_read}
 
 -- what a side has printed is what is shown of its octets so far
-pub side_so_far : (one : OneSide) (from : Side) (own : Log) → SideShows one from own
+pub side_so_far : (one : OneSide) (from : Side) (own : Stretches) → SideShows one from own
     → IsSoFar from own
 side_so_far one from own = by one.is_over
   where
     by : (over : Bool)
-        → MatchBool over (IsOver from own × IsRead from own) (SideGoesOn one from own)
+        → MatchBool over (SideIsOver from own × SideIsRead from own) (SideGoesOn one from own)
         → IsSoFar from own
     by true (over, read) = (read, inr over)
     by false goes = (
@@ -55,44 +58,44 @@ side_so_far one from own = by one.is_over
     )
 
 -- a side that no fault has ended
-going : (one : OneSide) (from : Side) (own : Log) → one.is_over ≡ false → SideShows one from own
+going : (one : OneSide) (from : Side) (own : Stretches) → one.is_over ≡ false → SideShows one from own
     → SideGoesOn one from own
 going one from own is shows = subst (λ (over : Bool).
-    MatchBool over (IsOver from own × IsRead from own) (SideGoesOn one from own)) is shows
+    MatchBool over (SideIsOver from own × SideIsRead from own) (SideGoesOn one from own)) is shows
 
 -- and one that a fault has ended
-pub known_over : (one : OneSide) (from : Side) (own : Log) → one.is_over ≡ true
-    → SideShows one from own → IsOver from own × IsRead from own
+pub known_over : (one : OneSide) (from : Side) (own : Stretches) → one.is_over ≡ true
+    → SideShows one from own → SideIsOver from own × SideIsRead from own
 known_over one from own is shows = subst (λ (over : Bool).
-    MatchBool over (IsOver from own × IsRead from own) (SideGoesOn one from own)) is shows
+    MatchBool over (SideIsOver from own × SideIsRead from own) (SideGoesOn one from own)) is shows
 
--- The octets of a part are at fault, as `show` finds, where the viewer had shown those before it.
-show_over : (mid : OneSide) (from : Side) (own : Log) (part : Part) (printed : List ℕ)
-    → part.lines ≡ printed
+-- The octets of a stretch are at fault, as `show` finds, where the viewer had shown those before it.
+show_over : (mid : OneSide) (from : Side) (own : Stretches) (stretch : Stretch) (printed : List ℕ)
+    → stretch.lines ≡ printed
     → ViewerShows mid.viewer.cutter mid.viewer.blocks mid.viewer.preface.is_due
-    (begins_with_preface from) (limits_in (part ∷ own)) (octets_in own) (lines_in own)
-    → PartFails mid part.octets printed → IsOver from (part ∷ own)
-show_over mid from own part printed is shows fails = by_show (λ more.
-    subst (λ (text : List ℕ). Shows (begins_with_preface from) (limits_in (part ∷ own))
-    ((octets_in own ++ part.octets) ++ more) Fault text)
-    (append_assoc (lines_in own) fails.lines
+    (begins_with_preface from) (limits_in (stretch ∷ own)) (octets_read own) (lines_read own)
+    → PartFails mid stretch.octets printed → SideIsOver from (stretch ∷ own)
+show_over mid from own stretch printed is shows fails = by_show (λ more.
+    subst (λ (text : List ℕ). Shows (begins_with_preface from) (limits_in (stretch ∷ own))
+    ((octets_read own ++ stretch.octets) ++ more) Fault text)
+    (append_assoc (lines_read own) fails.lines
     (error_lines fails.error fails.after.cutter.place fails.after.preface.is_due)
-    ∙ ap (λ (text : List ℕ). lines_in own ++ text) (sym fails.all)
-    ∙ ap (λ (text : List ℕ). lines_in own ++ text) (sym is))
-    (fails.fails (begins_with_preface from) (limits_in (part ∷ own)) (octets_in own)
-    (lines_in own) more shows))
+    ∙ ap (λ (text : List ℕ). lines_read own ++ text) (sym fails.all)
+    ∙ ap (λ (text : List ℕ). lines_read own ++ text) (sym is))
+    (fails.fails (begins_with_preface from) (limits_in (stretch ∷ own)) (octets_read own)
+    (lines_read own) more shows))
 
--- the octets of a part end a block, after which the table is above the limit
-table_over : (mid : OneSide) (from : Side) (own : Log) (part : Part) (ends : Bool)
-    (printed : List ℕ) → part.lines ≡ printed → ends ≡ last_ends part.frames
+-- the octets of a stretch end a block, after which the table is above the limit
+table_over : (mid : OneSide) (from : Side) (own : Stretches) (stretch : Stretch) (ends : Bool)
+    (printed : List ℕ) → stretch.lines ≡ printed → ends ≡ last_ends stretch.frames
     → ViewerShows mid.viewer.cutter mid.viewer.blocks mid.viewer.preface.is_due
-    (begins_with_preface from) (limits_in (part ∷ own)) (octets_in own) (lines_in own)
-    → PartFailsByTable mid part.octets ends part.table printed → IsOver from (part ∷ own)
-table_over mid from own part ends printed is last shows fails =
-    let after = fails.prints (begins_with_preface from) (limits_in (part ∷ own)) (octets_in own)
-    (lines_in own) shows in
+    (begins_with_preface from) (limits_in (stretch ∷ own)) (octets_read own) (lines_read own)
+    → PartFailsByTable mid stretch.octets ends stretch.table printed → SideIsOver from (stretch ∷ own)
+table_over mid from own stretch ends printed is last shows fails =
+    let after = fails.prints (begins_with_preface from) (limits_in (stretch ∷ own)) (octets_read own)
+    (lines_read own) shows in
     by_table (record {
-      last = part;
+      last = stretch;
       before = own;
       begun = fails.after.blocks.gather.begun;
       frames = after.frames;
@@ -107,60 +110,60 @@ table_over mid from own part ends printed is last shows fails =
       line = is ∙ fails.line ∙ ap (fault_line CompressionError) after.cut.place;
     })
 
--- A part without a fault of an octet was read: with it the side shows its octets so far.
+-- A stretch without a fault of an octet was read: with it the side shows its octets so far.
 pub reads_part : (old mid new : OneSide) (limited : CutterState) (least : ℕ) (bound : Bound)
     (octets : List ℕ) (frames : List Frame) (ends : Bool) (printed : List ℕ)
     → old.is_over ≡ false
-    → CutterLimited old.scanner (min (frame_limit least bound) 1048576) limited
+    → CutterLimited old.scanner (min (frame_bound least bound) 1048576) limited
     → CutterContinues limited octets frames mid.scanner → new.scanner ≡ mid.scanner
     → ViewerLimited old.viewer.cutter old.viewer.blocks old.viewer.preface.is_due
-    (min (frame_limit least bound) 1048576) mid.viewer.cutter mid.viewer.blocks
+    (min (frame_bound least bound) 1048576) mid.viewer.cutter mid.viewer.blocks
     mid.viewer.preface.is_due
-    → ends ≡ last_ends frames → ShowsPart mid new octets ends (table_limit bound) printed
+    → ends ≡ last_ends frames → ShowsPart mid new octets ends (table_bound bound) printed
     → SideReads old new least bound octets frames printed
 reads_part old mid new limited least bound octets frames ends printed is limit continues same
     viewer_limit last shows from own before =
     let goes : SideGoesOn old from own = going old from own is before in
-    let shown = viewer_limit (begins_with_preface from) (limits_in own) (octets_in own)
-    (lines_in own) goes.viewer in
+    let shown = viewer_limit (begins_with_preface from) (limits_in own) (octets_read own)
+    (lines_read own) goes.viewer in
     let cut = continues.represents (begins_with_preface from)
-    (limits_in (part_of from least bound octets frames printed ∷ own)) (octets_in own)
-    (frames_in own) (limit.represents (begins_with_preface from) (limits_in own) (octets_in own)
-    (frames_in own) goes.scanner) in
+    (limits_in (stretch_of from least bound octets frames printed ∷ own)) (octets_read own)
+    (frames_read own) (limit.represents (begins_with_preface from) (limits_in own) (octets_read own)
+    (frames_read own) goes.scanner) in
     by new.is_over shown cut shows
   where
     by : (over : Bool)
         → ViewerShows mid.viewer.cutter mid.viewer.blocks mid.viewer.preface.is_due
         (begins_with_preface from)
-        (limits_in (part_of from least bound octets frames printed ∷ own)) (octets_in own)
-        (lines_in own)
+        (limits_in (stretch_of from least bound octets frames printed ∷ own)) (octets_read own)
+        (lines_read own)
         → CutterRepresents mid.scanner (begins_with_preface from)
-        (limits_in (part_of from least bound octets frames printed ∷ own)) (octets_in own ++ octets)
-        (frames_in own ++ frames)
+        (limits_in (stretch_of from least bound octets frames printed ∷ own)) (octets_read own ++ octets)
+        (frames_read own ++ frames)
         → MatchBool over
-        (PartFails mid octets printed ⊎ PartFailsByTable mid octets ends (table_limit bound) printed)
-        (PartGoesOn mid new octets ends (table_limit bound) printed)
+        (PartFails mid octets printed ⊎ PartFailsByTable mid octets ends (table_bound bound) printed)
+        (PartGoesOn mid new octets ends (table_bound bound) printed)
         → MatchBool over
-        (IsOver from (part_of from least bound octets frames printed ∷ own)
-        × IsRead from (part_of from least bound octets frames printed ∷ own))
-        (SideGoesOn new from (part_of from least bound octets frames printed ∷ own))
+        (SideIsOver from (stretch_of from least bound octets frames printed ∷ own)
+        × SideIsRead from (stretch_of from least bound octets frames printed ∷ own))
+        (SideGoesOn new from (stretch_of from least bound octets frames printed ∷ own))
     by true shown cut (inl fails) = (
-      show_over mid from own (part_of from least bound octets frames printed) printed refl shown
+      show_over mid from own (stretch_of from least bound octets frames printed) printed refl shown
           fails,
       is_sound mid.scanner.unparsed cut.split,
     )
     by true shown cut (inr fails) = (
-      table_over mid from own (part_of from least bound octets frames printed) ends printed refl
+      table_over mid from own (stretch_of from least bound octets frames printed) ends printed refl
           last shown fails,
       is_sound mid.scanner.unparsed cut.split,
     )
     by false shown cut goes = record {
       viewer = goes.prints (begins_with_preface from)
-          (limits_in (part_of from least bound octets frames printed ∷ own)) (octets_in own)
-          (lines_in own) shown;
+          (limits_in (stretch_of from least bound octets frames printed ∷ own)) (octets_read own)
+          (lines_read own) shown;
       scanner = subst (λ (state : CutterState). CutterRepresents state (begins_with_preface from)
-          (limits_in (part_of from least bound octets frames printed ∷ own))
-          (octets_in own ++ octets) (frames_in own ++ frames)) (sym same) cut;
+          (limits_in (stretch_of from least bound octets frames printed ∷ own))
+          (octets_read own ++ octets) (frames_read own ++ frames)) (sym same) cut;
       keeps = λ ended. goes.keeps (last ∙ ended);
     }
 
@@ -185,47 +188,52 @@ found (faults.PayloadFault code) old new piece other fails none =
 -- Octets were read one of which is at fault, which ends the side.
 pub reads_fault : (old mid new : OneSide) (limited failed : CutterState) (least : ℕ) (bound : Bound)
     (octets : List ℕ) (fault : WireFault) (printed : List ℕ) → old.is_over ≡ false
-    → CutterLimited old.scanner (min (frame_limit least bound) 1048576) limited
+    → CutterLimited old.scanner (min (frame_bound least bound) 1048576) limited
     → fault ≢ faults.Memory → CutterFails limited octets fault failed
     → ViewerLimited old.viewer.cutter old.viewer.blocks old.viewer.preface.is_due
-    (min (frame_limit least bound) 1048576) mid.viewer.cutter mid.viewer.blocks
+    (min (frame_bound least bound) 1048576) mid.viewer.cutter mid.viewer.blocks
     mid.viewer.preface.is_due
     → new.is_over ≡ true → ShowsPart mid new octets false 0 printed
     → SideReads old new least bound octets [] printed
 reads_fault old mid new limited failed least bound octets fault printed is limit other fails
     viewer_limit over shows from own before =
     let goes : SideGoesOn old from own = going old from own is before in
-    let shown = viewer_limit (begins_with_preface from) (limits_in own) (octets_in own)
-    (lines_in own) goes.viewer in
-    let cut = limit.represents (begins_with_preface from) (limits_in own) (octets_in own)
-    (frames_in own) goes.scanner in
+    let shown = viewer_limit (begins_with_preface from) (limits_in own) (octets_read own)
+    (lines_read own) goes.viewer in
+    let cut = limit.represents (begins_with_preface from) (limits_in own) (octets_read own)
+    (frames_read own) goes.scanner in
     let at = (found fault limited failed octets other fails cut.sound).at
-    (begins_with_preface from) (limits_in (part_of from least bound octets [] printed ∷ own))
-    (octets_in own) (frames_in own) cut in
-    over_now (by (fails_now shows) shown, is_at_fault at.0 fault (subst (λ (frames : List Frame).
-    WireFaultAt (begins_with_preface from)
-    (limits_in (part_of from least bound octets [] printed ∷ own)) (octets_in own ++ octets) frames
-    at.0 fault) (sym (append-nil (frames_in own))) at.1))
+    (begins_with_preface from) (limits_in (stretch_of from least bound octets [] printed ∷ own))
+    (octets_read own) (frames_read own) cut in
+    over_now (
+      by (fails_now shows) shown,
+      is_at_fault at.0 fault (subst (λ (frames : List Frame).
+          WireFaultAt (begins_with_preface from)
+          (limits_in (stretch_of from least bound octets [] printed ∷ own)) (octets_read own ++ octets) frames
+          at.0 fault) (sym (append-nil (frames_read own))) at.1),
+    )
   where
-    over_now : IsOver from (part_of from least bound octets [] printed ∷ own)
-        × IsRead from (part_of from least bound octets [] printed ∷ own)
-        → SideShows new from (part_of from least bound octets [] printed ∷ own)
+    over_now : SideIsOver from (stretch_of from least bound octets [] printed ∷ own)
+        × SideIsRead from (stretch_of from least bound octets [] printed ∷ own)
+        → SideShows new from (stretch_of from least bound octets [] printed ∷ own)
     over_now both = subst (λ (one : Bool). MatchBool one
-        (IsOver from (part_of from least bound octets [] printed ∷ own)
-        × IsRead from (part_of from least bound octets [] printed ∷ own))
-        (SideGoesOn new from (part_of from least bound octets [] printed ∷ own))) (sym over) both
+        (SideIsOver from (stretch_of from least bound octets [] printed ∷ own)
+        × SideIsRead from (stretch_of from least bound octets [] printed ∷ own))
+        (SideGoesOn new from (stretch_of from least bound octets [] printed ∷ own))) (sym over) both
+
     fails_now : ShowsPart mid new octets false 0 printed
         → PartFails mid octets printed ⊎ PartFailsByTable mid octets false 0 printed
     fails_now some = subst (λ (one : Bool). MatchBool one
         (PartFails mid octets printed ⊎ PartFailsByTable mid octets false 0 printed)
         (PartGoesOn mid new octets false 0 printed)) over some
+
     by : PartFails mid octets printed ⊎ PartFailsByTable mid octets false 0 printed
         → ViewerShows mid.viewer.cutter mid.viewer.blocks mid.viewer.preface.is_due
-        (begins_with_preface from) (limits_in (part_of from least bound octets [] printed ∷ own))
-        (octets_in own) (lines_in own)
-        → IsOver from (part_of from least bound octets [] printed ∷ own)
+        (begins_with_preface from) (limits_in (stretch_of from least bound octets [] printed ∷ own))
+        (octets_read own) (lines_read own)
+        → SideIsOver from (stretch_of from least bound octets [] printed ∷ own)
     by (inl failed_so) shown =
-        show_over mid from own (part_of from least bound octets [] printed) printed refl shown
+        show_over mid from own (stretch_of from least bound octets [] printed) printed refl shown
         failed_so
     by (inr by_table_so) shown = absurd (false≢true by_table_so.block)
 
@@ -233,12 +241,12 @@ reads_fault old mid new limited failed least bound octets fault printed is limit
 pub over_ends : (one : OneSide) → one.is_over ≡ true → EndsSide one Fault []
 over_ends one is from own shows = by (known_over one from own is shows).0
   where
-    by : IsOver from own → SideEnds from own Fault []
+    by : SideIsOver from own → SideEnds from own Fault []
     by (by_show ended) = as_shown
-        (subst (λ (text : List ℕ). Shows (begins_with_preface from) (limits_in own) (octets_in own)
-        Fault text) (sym (append-nil (lines_in own)))
+        (subst (λ (text : List ℕ). Shows (begins_with_preface from) (limits_in own) (octets_read own)
+        Fault text) (sym (append-nil (lines_read own)))
         (subst (λ (all : List ℕ). Shows (begins_with_preface from) (limits_in own) all Fault
-        (lines_in own)) (append-nil (octets_in own)) (ended [])))
+        (lines_read own)) (append-nil (octets_read own)) (ended [])))
     by (by_table fault) = at_table fault refl refl
 
 -- the end of one that none has
@@ -249,12 +257,12 @@ pub good_ends : (one : OneSide) (status : Status) → one.is_over ≡ false
     (end_lines (length one.viewer.cutter.unparsed) (is_some one.viewer.blocks.gather.begun))
 good_ends one status is known from own shows = as_shown
     (subst (λ (all : List ℕ). Shows (begins_with_preface from) (limits_in own) all status
-    (lines_in own ++ end_lines (length one.viewer.cutter.unparsed)
-    (is_some one.viewer.blocks.gather.begun))) (append-nil (octets_in own))
+    (lines_read own ++ end_lines (length one.viewer.cutter.unparsed)
+    (is_some one.viewer.blocks.gather.begun))) (append-nil (octets_read own))
     (end_shows_after one.viewer.cutter one.viewer.cutter one.viewer.blocks one.viewer.blocks
     one.viewer.preface.is_due one.viewer.preface.is_due [] [] status
     (prints_none one.viewer.cutter one.viewer.blocks one.viewer.preface.is_due) known
-    (begins_with_preface from) (limits_in own) (octets_in own) (lines_in own)
+    (begins_with_preface from) (limits_in own) (octets_read own) (lines_read own)
     (going one from own is shows).viewer))
 
 pub end_told : {E : Type 0} (one : OneSide) (before after : List ℕ) (result : Result Status E)
@@ -268,7 +276,7 @@ pub end_told : {E : Type 0} (one : OneSide) (before after : List ℕ) (result : 
 end_told one before after (Err error) is known last = tt
 end_told one before after (Ok status) is known last = (_, last, good_ends one status is known)
 
--- a part that no fault ends
+-- a stretch that no fault ends
 pub goes_part : (old new : OneSide) (octets : List ℕ) (ends : Bool) (table : ℕ)
     (printed : List ℕ) → new.is_over ≡ false
     → ViewerPrints old.viewer.cutter old.viewer.blocks old.viewer.preface.is_due octets
@@ -278,7 +286,7 @@ pub goes_part : (old new : OneSide) (octets : List ℕ) (ends : Bool) (table : �
 goes_part old new octets ends table printed is prints keeps = subst (λ (over : Bool).
     MatchBool over (PartFails old octets printed ⊎ PartFailsByTable old octets ends table printed)
     (PartGoesOn old new octets ends table printed)) (sym is)
-    (record { prints = prints; keeps = keeps; })
+    (record { prints = prints; keeps = keeps })
 
 -- what follows a text is dropped
 pub take_kept : (count : ℕ) (text more : List ℕ) → count ≡ length text
@@ -290,6 +298,3 @@ pub all_used : (octets : List ℕ)
     → (length octets ≤ length octets) × (octets ≢ [] → 0 < length octets)
 all_used [] = (grind (arith, common_steps), λ some. absurd (some refl))
 all_used (octet ∷ octets) = (grind (arith, common_steps), λ some. grind (arith, common_steps))
-
-pub take_whole : (octets : List ℕ) → take (length octets) octets ≡ octets
-take_whole octets = grind (arith, common_steps)

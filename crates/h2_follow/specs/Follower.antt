@@ -20,25 +20,28 @@ use Rattle.h2_follow.specs.declared.follower.Follower.{Follower}
 use Rattle.h2_follow.specs.FollowText.{BeginsWithLines, Line, OfSide, Piece, client_by}
 use Rattle.h2_follow.specs.FollowText.{client_of, sided}
 use Rattle.h2_follow.specs.Follows.{SideEnds, marked_of, output_of}
-use Rattle.h2_follow.specs.InForce.{Bound, after_others, after_own, bound_of, frame_limit, in_force}
-use Rattle.h2_follow.specs.InForce.{table_limit}
-use Rattle.h2_follow.specs.Log.{AreOf, AreParts, IsLog, IsOver, IsPiece, IsRead, KeepsTable, Log}
-use Rattle.h2_follow.specs.Log.{last_ends}
-use Rattle.h2_follow.specs.Log.{Part, frames_in, items_in, limits_in, lines_in, octets_in, own_of}
+use Rattle.h2_follow.specs.InForce.{Bound, after_others, after_own, bound_of, frame_bound}
+use Rattle.h2_follow.specs.InForce.{in_force}
+use Rattle.h2_follow.specs.InForce.{table_bound}
+use Rattle.h2_follow.specs.Stretches.{AreOf, ArePieces, AreFollowed, SideIsOver, IsPiece}
+use Rattle.h2_follow.specs.Stretches.{SideIsRead, KeepsTable, Stretches}
+use Rattle.h2_follow.specs.Stretches.{last_ends}
+use Rattle.h2_follow.specs.Stretches.{Stretch, frames_read, sent_in, limits_in, lines_read}
+use Rattle.h2_follow.specs.Stretches.{octets_read, own_of}
 
 -- No fault has ended the side, and its viewer and its scanner represent its octets so far.
-pub record SideGoesOn (one : OneSide) (from : Side) (own : Log) : Type 0 where
+pub record SideGoesOn (one : OneSide) (from : Side) (own : Stretches) : Type 0 where
   pub viewer : ViewerShows one.viewer.cutter one.viewer.blocks one.viewer.preface.is_due
-      (begins_with_preface from) (limits_in own) (octets_in own) (lines_in own)
+      (begins_with_preface from) (limits_in own) (octets_read own) (lines_read own)
   pub scanner : CutterRepresents one.scanner (begins_with_preface from) (limits_in own)
-      (octets_in own) (frames_in own)
+      (octets_read own) (frames_read own)
   pub keeps : KeepsTable own one.viewer.blocks.decoder.table
 
--- The lines of these parts are all that is printed of the side's octets so far; after a fault,
+-- The lines of these stretches are all that is printed of the side's octets so far; after a fault,
 -- whatever follows.
-abbrev pub SideShows : OneSide → (from : Side) → (own : Log) → Type 0
+abbrev pub SideShows : OneSide → (from : Side) → (own : Stretches) → Type 0
 SideShows one from own =
-    MatchBool one.is_over (IsOver from own × IsRead from own) (SideGoesOn one from own)
+    MatchBool one.is_over (SideIsOver from own × SideIsRead from own) (SideGoesOn one from own)
 
 -- the bound after frames of the side, and after frames of the other
 abbrev pub after_owns : List Frame → Bound → Bound
@@ -49,27 +52,27 @@ abbrev pub after_all_others : List Frame → Bound → Bound
 after_all_others [] bound = bound
 after_all_others (frame ∷ frames) bound = after_all_others frames (after_others frame bound)
 
--- the part of octets that a side within these bounds has sent
-abbrev pub part_of : (from : Side) → (least : ℕ) → Bound → (octets : List ℕ) → List Frame
-    → (lines : List ℕ) → Part
-part_of from least bound octets frames lines = record {
+-- the stretch of octets that a side within these bounds has sent
+abbrev pub stretch_of : (from : Side) → (least : ℕ) → Bound → (octets : List ℕ) → List Frame
+    → (lines : List ℕ) → Stretch
+stretch_of from least bound octets frames lines = record {
   side = from;
-  limit = min (frame_limit least bound) 1048576;
-  table = table_limit bound;
+  limit = min (frame_bound least bound) 1048576;
+  table = table_bound bound;
   octets = octets;
   frames = frames;
   lines = lines;
 }
 
--- The side has read a part within these bounds, which ends with these frames, and printed these
+-- The side has read a stretch within these bounds, which ends with these frames, and printed these
 -- lines of it.
 abbrev pub SideReads : (old new : OneSide) → (least : ℕ) → Bound → (octets : List ℕ) → List Frame
     → (lines : List ℕ) → Type 0
 SideReads old new least bound octets frames lines =
-    (from : Side) (own : Log) → SideShows old from own
-    → SideShows new from (part_of from least bound octets frames lines ∷ own)
+    (from : Side) (own : Stretches) → SideShows old from own
+    → SideShows new from (stretch_of from least bound octets frames lines ∷ own)
 
--- One or no frame ends a part.
+-- One or no frame ends a stretch.
 abbrev pub IsOneOrNone : List Frame → Type 0
 IsOneOrNone [] = Unit {0}
 IsOneOrNone (frame ∷ []) = Unit {0}
@@ -140,7 +143,7 @@ ShowsPart old new octets ends table printed =
 -- The side's octets end, and this was printed of that.
 abbrev pub EndsSide : OneSide → Status → (printed : List ℕ) → Type 0
 EndsSide one status printed =
-    (from : Side) (own : Log) → SideShows one from own → SideEnds from own status printed
+    (from : Side) (own : Stretches) → SideShows one from own → SideEnds from own status printed
 
 -- The client is known once octets have come.
 abbrev pub KnowsClient : Option Node → List Piece → Type 0
@@ -157,25 +160,25 @@ abbrev pub one_of : Side → Follower → OneSide
 one_of Client follower = follower.client_side
 one_of Server follower = follower.server_side
 
--- These parts are all that both sides have read, which may send this.
+-- These stretches are all that both sides have read, which may send this.
 pub record BothRead (client_side server_side : OneSide) (client_bound server_bound : Bound)
-    (least : ℕ) (log : Log) : Type 0 where
-  pub client_may : client_bound ≡ in_force Client (items_in log)
-  pub server_may : server_bound ≡ in_force Server (items_in log)
+    (least : ℕ) (log : Stretches) : Type 0 where
+  pub client_may : client_bound ≡ in_force Client (sent_in log)
+  pub server_may : server_bound ≡ in_force Server (sent_in log)
   pub client : SideShows client_side Client (own_of Client log)
   pub server : SideShows server_side Server (own_of Server log)
-  pub is_log : IsLog least log
+  pub is_log : AreFollowed least log
 
--- These parts are all that the follower has read.
-abbrev pub FollowerReads : Follower → Log → Type 0
+-- These stretches are all that the follower has read.
+abbrev pub FollowerReads : Follower → Stretches → Type 0
 FollowerReads follower log =
     BothRead follower.client_side follower.server_side (bound_of follower.client_bound)
     (bound_of follower.server_bound) follower.least log
 
--- The follower has read more parts.
-abbrev pub FollowerReadsMore : (old new : Follower) → (newer : Log) → Type 0
+-- The follower has read more stretches.
+abbrev pub FollowerReadsMore : (old new : Follower) → (newer : Stretches) → Type 0
 FollowerReadsMore old new newer =
-    (log : Log) → FollowerReads old log → FollowerReads new (newer ++ log)
+    (log : Stretches) → FollowerReads old log → FollowerReads new (newer ++ log)
 
 -- A side that no fault has ended has read the first octets of a piece; the other is as it was.
 abbrev pub SideSteps : Side → (old new : Follower) → (octets : List ℕ) → (used : ℕ) → Type 0
@@ -190,45 +193,45 @@ SideSteps Server old new octets used =
     × (new.client_side ≡ old.client_side) × (new.client ≡ old.client)
     × (new.least ≡ old.least) × (new.lines.items ≡ old.lines.items)
 
--- The follower has read one more part, the first octets of a piece.
+-- The follower has read one more stretch, the first octets of a piece.
 pub record FollowerSteps (old new : Follower) (side : Side) (octets : List ℕ) (used : ℕ) : Type 0
   where
-    pub part : Part
-    pub of : part.side ≡ side
+    pub stretch : Stretch
+    pub of : stretch.side ≡ side
     pub within : used ≤ length octets
     pub some : octets ≢ [] → 0 < used
-    pub octets_are : part.octets ≡ take used octets
-    pub written : new.lines.items ≡ old.lines.items ++ marked_of (part.side, part.lines)
-    pub reads : FollowerReadsMore old new (part ∷ [])
+    pub octets_are : stretch.octets ≡ take used octets
+    pub written : new.lines.items ≡ old.lines.items ++ marked_of (stretch.side, stretch.lines)
+    pub reads : FollowerReadsMore old new (stretch ∷ [])
     pub client : new.client ≡ old.client
     pub least : new.least ≡ old.least
 
--- What a call that reads octets of a side makes of the follower: parts, whose lines it adds, and
+-- What a call that reads octets of a side makes of the follower: stretches, whose lines it adds, and
 -- which are all of the octets unless the side is over.
 pub record FollowerAdvances (old new : Follower) (side : Side) (octets : List ℕ)
     (lines new_lines : List ℕ) : Type 0 where
-  pub newer : Log
+  pub newer : Stretches
   pub after : List ℕ
   pub of : AreOf side newer
-  pub joined : octets ≡ octets_in newer ++ after
+  pub joined : octets ≡ octets_read newer ++ after
   pub ended : (after ≡ []) ⊎ ((one_of side new).is_over ≡ true)
   pub written : new_lines ≡ lines ++ output_of newer
   pub reads : FollowerReadsMore old new newer
   pub client : new.client ≡ old.client
   pub least : new.least ≡ old.least
 
--- These parts are all that was read of the pieces so far.
+-- These stretches are all that was read of the pieces so far.
 pub record FollowerShows (follower : Follower) (least : ℕ) (pieces : List Piece)
-    (log : Log) : Type 0 where
+    (log : Stretches) : Type 0 where
   pub knows : KnowsClient follower.client pieces
-  pub parts : AreParts (sided (client_of pieces) pieces) log
+  pub parts : ArePieces (sided (client_of pieces) pieces) log
   pub reads : FollowerReads follower log
   pub same : follower.least ≡ least
 
--- These pieces were taken, by these parts.
-abbrev pub FollowerTakes : (old new : Follower) → (more : List Piece) → (newer : Log) → Type 0
+-- These pieces were taken, by these stretches.
+abbrev pub FollowerTakes : (old new : Follower) → (more : List Piece) → (newer : Stretches) → Type 0
 FollowerTakes old new more newer =
-    (least : ℕ) (pieces : List Piece) (log : Log) → FollowerShows old least pieces log
+    (least : ℕ) (pieces : List Piece) (log : Stretches) → FollowerShows old least pieces log
     → FollowerShows new least (pieces ++ more) (newer ++ log)
 
 -- Lines were read of known octets, which begin with them.

@@ -11,9 +11,11 @@ use Rattle.h2_show.specs.Report.{begins_with_preface}
 use Rattle.h2_show.specs.Shown.{Shows}
 use Rattle.h2_follow.specs.declared.hint.FollowHint.{FollowHint}
 use Rattle.h2_follow.specs.declared.hint.FollowHint.TheVariants as hints
-use Rattle.h2_follow.specs.FollowText.{FollowText, HasBadLine, Line, OfSide, Piece, client_of, sided}
-use Rattle.h2_follow.specs.Log.{AreParts, HasTableFault, IsLog, Log, lines_in, limits_in, octets_in}
-use Rattle.h2_follow.specs.Log.{own_of}
+use Rattle.h2_follow.specs.FollowText.{FollowText, HasBadLine, Line, OfSide, Piece, client_of}
+use Rattle.h2_follow.specs.FollowText.{sided}
+use Rattle.h2_follow.specs.Stretches.{ArePieces, HasTableFault, AreFollowed, Stretches, lines_read}
+use Rattle.h2_follow.specs.Stretches.{limits_in, octets_read}
+use Rattle.h2_follow.specs.Stretches.{own_of}
 
 -- the mark of a side's lines
 -- rule: follow (own) Each side has the lines that show prints of it, after its mark
@@ -39,9 +41,9 @@ abbrev pub status_of_both : (client server : Status) → Status
 status_of_both Good Good = Good
 status_of_both client server = Fault
 
--- what is printed of the parts, each line after its side's mark
+-- what is printed of the stretches, each line after its side's mark
 -- rule: follow (own) A line stands where the last octet of its frame came
-abbrev pub output_of : Log → List ℕ
+abbrev pub output_of : Stretches → List ℕ
 output_of [] = []
 output_of (part ∷ log) = output_of log ++ marked_of (part.side, part.lines)
 
@@ -49,13 +51,13 @@ output_of (part ∷ log) = output_of log ++ marked_of (part.side, part.lines)
 -- `h2 show` prints of the octets within the limits, or no more after the fault of a table.
 -- rule: follow (own) Each side has the lines that show prints of it, after its mark
 -- rule: follow (own) The status is 0 only where both sides are good to their ends
-pub data SideEnds (from : Side) (own : Log) (status : Status) (last : List ℕ) : Type 0 where
-  as_shown : Shows (begins_with_preface from) (limits_in own) (octets_in own) status
-      (lines_in own ++ last)
+pub data SideEnds (from : Side) (own : Stretches) (status : Status) (last : List ℕ) : Type 0 where
+  as_shown : Shows (begins_with_preface from) (limits_in own) (octets_read own) status
+      (lines_read own ++ last)
       → SideEnds from own status last
   at_table : HasTableFault from own → status ≡ Fault → last ≡ [] → SideEnds from own status last
 
--- The whole output of pieces: the lines of their parts, and then those of each side's end, the
+-- The whole output of pieces: the lines of their stretches, and then those of each side's end, the
 -- client's first. `least` is the limit of payloads whatever SETTINGS say.
 -- rule: follow (own) Each side has the lines that show prints of it, after its mark
 -- rule: follow (own) A line stands where the last octet of its frame came
@@ -63,9 +65,9 @@ pub data SideEnds (from : Side) (own : Log) (status : Status) (last : List ℕ) 
 -- rule: follow (own) What a side may send follows the other's SETTINGS, and its own ACK
 pub record FollowsPieces (least : ℕ) (pieces : List OfSide) (status : Status)
     (output : List ℕ) : Type 0 where
-  pub log : Log
-  pub parts : AreParts pieces log
-  pub is_log : IsLog least log
+  pub log : Stretches
+  pub parts : ArePieces pieces log
+  pub is_log : AreFollowed least log
   pub client_last : List ℕ
   pub server_last : List ℕ
   pub client_status : Status
@@ -104,15 +106,15 @@ abbrev pub hint_of_line : (number : ℕ) → Line → FollowHint
 hint_of_line number line =
     if is_capture_line number line then hints.Capture else hints.BadLine number
 
--- What is printed of a text up to a line that is refused: the lines of the parts of the lines
+-- What is printed of a text up to a line that is refused: the lines of the stretches of the lines
 -- before it, and nothing of the sides' ends. The hint is that for the line.
 -- rule: follow (own) A line that is not of tshark's text ends all, with its number
 pub record FollowsToBadLine (least : ℕ) (text : List ℕ) (hint : Option FollowHint)
     (output : List ℕ) : Type 0 where
   pub number : ℕ
   pub bad : HasBadLine text number
-  pub log : Log
-  pub parts : AreParts (sided (client_of bad.pieces) bad.pieces) log
-  pub is_log : IsLog least log
+  pub log : Stretches
+  pub parts : ArePieces (sided (client_of bad.pieces) bad.pieces) log
+  pub is_log : AreFollowed least log
   pub all : output ≡ output_of log
   pub reports : hint ≡ Some (hint_of_line number bad.line)

@@ -22,32 +22,32 @@ pub record Bound : Type 0 where
 
 -- the values before any SETTINGS (section 6.5.2)
 -- rule: follow (own) What a side may send follows the other's SETTINGS, and its own ACK
-abbrev pub first_values : Values
-first_values = record { max_frame = 16384; table = 4096 }
+abbrev pub values_at_first : Values
+values_at_first = record { max_frame = 16384; table = 4096 }
 
 abbrev pub first_bound : Bound
-first_bound = record { acknowledged = first_values; waiting = []; newest = first_values }
+first_bound = record { acknowledged = values_at_first; waiting = []; newest = values_at_first }
 
 -- the values after a pair: HEADER_TABLE_SIZE is 1, and MAX_FRAME_SIZE 5
 -- rule: follow (own) What a side may send follows the other's SETTINGS, and its own ACK
-abbrev pub value_after : Values → ℕ × ℕ → Values
-value_after values pair =
+abbrev pub with_pair : Values → ℕ × ℕ → Values
+with_pair values pair =
     if pair.0 == 1 then record { max_frame = values.max_frame; table = pair.1 }
     else if pair.0 == 5 then record { max_frame = pair.1; table = values.table } else values
 
 -- and after pairs, in order: the last value of a setting stays (section 6.5.3)
 -- rule: follow (own) What a side may send follows the other's SETTINGS, and its own ACK
-abbrev pub values_after : Values → List (ℕ × ℕ) → Values
-values_after values [] = values
-values_after values (pair ∷ pairs) = values_after (value_after values pair) pairs
+abbrev pub with_pairs : Values → List (ℕ × ℕ) → Values
+with_pairs values [] = values
+with_pairs values (pair ∷ pairs) = with_pairs (with_pair values pair) pairs
 
 -- the other side has sent SETTINGS with these pairs
 -- rule: follow (own) What a side may send follows the other's SETTINGS, and its own ACK
 abbrev pub announced : List (ℕ × ℕ) → Bound → Bound
 announced pairs bound = record {
   acknowledged = bound.acknowledged;
-  waiting = bound.waiting ++ values_after bound.newest pairs ∷ [];
-  newest = values_after bound.newest pairs;
+  waiting = bound.waiting ++ with_pairs bound.newest pairs ∷ [];
+  newest = with_pairs bound.newest pairs;
 }
 
 -- the first of the values that wait are acknowledged, where some do
@@ -74,20 +74,20 @@ after_others (Settings false pairs) bound = announced pairs bound
 after_others _ bound = bound
 
 -- frames of both sides
-abbrev pub Item : Type 0
-Item = Side × Frame
+abbrev pub SentFrame : Type 0
+SentFrame = Side × Frame
 
-abbrev pub after_item : (side : Side) → Item → Bound → Bound
-after_item Client (Client, frame) bound = after_own frame bound
-after_item Client (Server, frame) bound = after_others frame bound
-after_item Server (Client, frame) bound = after_others frame bound
-after_item Server (Server, frame) bound = after_own frame bound
+abbrev pub after_sent : (side : Side) → SentFrame → Bound → Bound
+after_sent Client (Client, frame) bound = after_own frame bound
+after_sent Client (Server, frame) bound = after_others frame bound
+after_sent Server (Client, frame) bound = after_others frame bound
+after_sent Server (Server, frame) bound = after_own frame bound
 
 -- what a side may send after the frames of both sides, the newest of which is first
 -- rule: follow (own) What a side may send follows the other's SETTINGS, and its own ACK
-abbrev pub in_force : Side → List Item → Bound
+abbrev pub in_force : Side → List SentFrame → Bound
 in_force side [] = first_bound
-in_force side (item ∷ items) = after_item side item (in_force side items)
+in_force side (item ∷ items) = after_sent side item (in_force side items)
 
 -- the greatest payload, and the greatest table, of these values and of `most`
 abbrev pub greatest_frame : (most : ℕ) → List Values → ℕ
@@ -100,14 +100,14 @@ greatest_table most (values ∷ more) = greatest_table (max most values.table) m
 
 -- the most octets of a payload that a side may send, which is `least` at least
 -- rule: follow (own) What a side may send follows the other's SETTINGS, and its own ACK
-abbrev pub frame_limit : (least : ℕ) → Bound → ℕ
-frame_limit least bound =
+abbrev pub frame_bound : (least : ℕ) → Bound → ℕ
+frame_bound least bound =
     greatest_frame (max least bound.acknowledged.max_frame) bound.waiting
 
 -- the greatest table of its encoder
 -- rule: follow (own) What a side may send follows the other's SETTINGS, and its own ACK
-abbrev pub table_limit : Bound → ℕ
-table_limit bound = greatest_table bound.acknowledged.table bound.waiting
+abbrev pub table_bound : Bound → ℕ
+table_bound bound = greatest_table bound.acknowledged.table bound.waiting
 
 -- what the code keeps of it
 abbrev pub bound_of : InForce → Bound

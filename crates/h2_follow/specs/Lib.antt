@@ -1,5 +1,5 @@
 pub mod FollowText
 pub mod InForce
-pub mod Log
+pub mod Stretches
 pub mod Follows
 pub mod Follower

@@ -1,13 +1,15 @@
 //! Both sides of a connection, shown as their octets come.
 
-ghost use Rattle.std.specs.Prelude.{◌≡◌, ◌<◌, ◌≤◌, ◌≢◌, ℕ, false, List, [], ◌∷◌, ◌++◌, length, OnOk, IfOk};
+ghost use Rattle.std.specs.Prelude.{◌≡◌, ◌<◌, ◌≤◌, ◌≢◌, ℕ, false, List, [], ◌∷◌, ◌++◌, length};
+ghost use Rattle.std.specs.Prelude.{OnOk, IfOk};
 ghost use Rattle.std.specs.Io.KnownBytes.{Appends};
 ghost use Rattle.h2_cli.specs.declared.status.Status.{Status as End};
 ghost use Rattle.h2_follow.specs.FollowText.{pieces_read};
-ghost use Rattle.h2_follow.specs.Follower.{ChoosesClient, EndsSide, FollowerAdvances, FollowerShows};
+ghost use Rattle.h2_follow.specs.Follower.{ChoosesClient, EndsSide, FollowerAdvances};
+ghost use Rattle.h2_follow.specs.Follower.{FollowerShows};
 ghost use Rattle.h2_follow.specs.Follower.{FollowerSteps, FollowerTakes, SideSteps, one_of};
 ghost use Rattle.h2_follow.specs.Follows.{marked_of, output_of, status_of_both};
-ghost use Rattle.h2_follow.specs.Log.{Log};
+ghost use Rattle.h2_follow.specs.Stretches.{Stretches};
 ghost use Rattle.h2_show.specs.declared.options.Side.TheVariants as sides;
 
 use crate::hint::FollowHint;
@@ -77,7 +79,7 @@ impl Follower {
         read: Option<Read>,
         out: &mut W,
     ) -> io::Result<()>
-        ensures { OnOk result ((newer : Log)
+        ensures { OnOk result ((newer : Stretches)
             × Appends (W.contents out.old) (W.contents out.new) (output_of newer)
             × FollowerTakes self.old self.new (pieces_read read) newer) }
     {
@@ -90,7 +92,7 @@ impl Follower {
     // rule: follow (own) A line stands where the last octet of its frame came
     // Shows octets that came together, those of the line with this number.
     fn take<W: Write>(&mut self, number: u64, read: &Read, out: &mut W) -> io::Result<()>
-        ensures { OnOk result ((newer : Log)
+        ensures { OnOk result ((newer : Stretches)
             × Appends (W.contents out.old) (W.contents out.new) (output_of newer)
             × FollowerTakes self.old self.new ((read.now.node, read.now.octets.items) ∷ []) newer) }
     {
@@ -244,9 +246,13 @@ impl Follower {
         if self.client.is_none() {
             return Some(FollowHint::NoOctets);
         }
-        self.notice
-            .or(self.client_side.hint())
-            .or(self.server_side.hint())
+        let client = self.client_side.hint();
+        let server = self.server_side.hint();
+        match client {
+            // A fault says more.
+            Some(FollowHint::CutOff) => self.notice.or(server).or(client),
+            _ => self.notice.or(client).or(server),
+        }
     }
 }
 

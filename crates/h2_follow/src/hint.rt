@@ -23,4 +23,6 @@ pub enum FollowHint {
     Table,
     /// A side is at fault.
     Fault,
+    /// A side ends inside the preface or inside a frame.
+    CutOff,
 }

@@ -4,8 +4,8 @@ ghost use Rattle.std.specs.Prelude.{◌≡◌, ℕ, List, [], ◌++◌, OnOk};
 ghost use Rattle.h2_frame.specs.Frames.{frame_of};
 ghost use Rattle.h2_frame.specs.Pairs.{lent_pairs};
 ghost use Rattle.h2_follow.specs.InForce.{acknowledged, after_others, after_own, announced};
-ghost use Rattle.h2_follow.specs.InForce.{bound_of, first_bound, frame_limit, table_limit};
-ghost use Rattle.h2_follow.specs.InForce.{value_after, values_after};
+ghost use Rattle.h2_follow.specs.InForce.{bound_of, first_bound, frame_bound, table_bound};
+ghost use Rattle.h2_follow.specs.InForce.{with_pair, with_pairs};
 
 use h2_frame::limits::{FIRST_TABLE, LEAST_MAX_FRAME};
 use h2_frame::{FrameRef, Pairs};
@@ -35,7 +35,7 @@ impl Values {
     // rule: follow (own) What a side may send follows the other's SETTINGS, and its own ACK
     // The values after a pair of SETTINGS.
     fn set(&mut self, id: u16, value: u32)
-        ensures { self.new ≡ value_after self.old (id, value) }
+        ensures { self.new ≡ with_pair self.old (id, value) }
     {
         match id {
             1 => self.table = value,
@@ -92,7 +92,7 @@ impl InForce {
     // rule: follow (own) What a side may send follows the other's SETTINGS, and its own ACK
     /// The most octets of a payload that the side may send, and `least` at least.
     pub(crate) fn max_frame(&self, least: u32) -> u32
-        ensures { result ≡ frame_limit least (bound_of self.now) }
+        ensures { result ≡ frame_bound least (bound_of self.now) }
     {
         let mut most = least.max(self.acknowledged.max_frame);
         for values in &self.waiting {
@@ -105,7 +105,7 @@ impl InForce {
     // rule: follow (own) What a side may send follows the other's SETTINGS, and its own ACK
     /// The greatest table that the side's encoder may use.
     pub(crate) fn table(&self) -> u32
-        ensures { result ≡ table_limit (bound_of self.now) }
+        ensures { result ≡ table_bound (bound_of self.now) }
     {
         let mut most = self.acknowledged.table;
         for values in &self.waiting {

@@ -1,6 +1,7 @@
 //! One side of a connection, shown part by part.
 
-ghost use Rattle.std.specs.Prelude.{◌≡◌, ◌≢◌, ℕ, true, false, List, [], ◌++◌, length, take, OnOk, IfOk};
+ghost use Rattle.std.specs.Prelude.{◌≡◌, ◌≢◌, ℕ, true, false, List, [], ◌++◌, length, take, OnOk};
+ghost use Rattle.std.specs.Prelude.{IfOk};
 ghost use Rattle.std.specs.Prelude.{IfErr};
 ghost use Rattle.h2_frame.specs.declared.code.Code.TheVariants as codes_of;
 ghost use Rattle.h2_frame.specs.Frames.{frame_of};
@@ -12,7 +13,7 @@ ghost use Rattle.h2_show.specs.Report.{begins_with_preface};
 ghost use Rattle.h2_show.specs.Viewer.{IsStreamFault};
 ghost use Rattle.h2_follow.specs.Follower.{EndsSide, Scans, SideAdvances, SideShows, ShowsPart};
 ghost use Rattle.h2_follow.specs.InForce.{bound_of};
-ghost use Rattle.h2_follow.specs.Log.{ends_block};
+ghost use Rattle.h2_follow.specs.Stretches.{ends_block};
 
 use crate::hint::FollowHint;
 use crate::in_force::{InForce, note_frame};
@@ -146,12 +147,7 @@ impl OneSide {
 
     // rule: follow (own) A side's fault ends that side, while the other goes on
     // Adds the lines of octets in which the scanner has found this fault, and the line of that fault.
-    fn show_fault(
-        &mut self,
-        fault: WireFault,
-        octets: &[u8],
-        text: &mut Vec<u8>,
-    ) -> io::Result<()>
+    fn show_fault(&mut self, fault: WireFault, octets: &[u8], text: &mut Vec<u8>) -> io::Result<()>
         ensures other { OnOk result (fault ≢ wire_faults.Memory) }
         ensures part { OnOk result ((printed : List ℕ)
             × (text.new.items ≡ text.old.items ++ printed)
@@ -201,8 +197,13 @@ impl OneSide {
         self.viewer.show_end(text)
     }
 
-    /// What is likely the cause of the side's fault, where one has ended it.
+    // rule (tested): follow (own) A hint says why a side may be at fault, or which line is bad
+    /// What is likely the cause of the side's fault, where one has ended it, or that its octets end
+    /// inside the preface or inside a frame.
     pub(crate) fn hint(&self) -> Option<FollowHint> {
+        if !self.is_over && self.scanner.held() != 0 {
+            return Some(FollowHint::CutOff);
+        }
         self.hint
     }
 }

@@ -4,7 +4,7 @@ use Rattle.std.proofs.KnownBytes.{Appends-nil}
 use Rattle.h2_follow.specs.FollowText.{pieces_read}
 use Rattle.h2_follow.proofs.LinesLemmas.{none_read, read_none, reads_next, counted_next}
 use Rattle.h2_follow.proofs.FollowLemmas.{ended_told, refused_told}
-use Rattle.h2_follow.proofs.LogLemmas.{written_append}
+use Rattle.h2_follow.proofs.StretchLemmas.{written_append}
 use Rattle.h2_follow.proofs.follow.follow_lines.Goals as goal
 
 pub loop-count-init : goal.loop-count-init

@@ -1,6 +1,6 @@
 -- The text has the lines of these octets alone, and each follows the mark.
 use Rattle.h2_follow.proofs.Names.{refl}
-use Rattle.h2_follow.proofs.LogLemmas.{part_told}
+use Rattle.h2_follow.proofs.StretchLemmas.{part_told}
 use Rattle.h2_follow.proofs.follower.Follower.show_part.Goals as goal
 
 pub returns : goal.returns

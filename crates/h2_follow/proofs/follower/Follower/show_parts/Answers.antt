@@ -1,7 +1,7 @@
--- Part after part is read.
+-- Stretch after part is read.
 use Rattle.h2_follow.proofs.Names.{◌∙◌, inr, sym}
 use Rattle.h2_show.proofs.ViewerLemmas.{used_within}
-use Rattle.h2_follow.proofs.LogLemmas.{read_all, read_next}
+use Rattle.h2_follow.proofs.StretchLemmas.{read_all, read_next}
 use Rattle.h2_follow.proofs.follower.Follower.show_parts.Goals as goal
 
 pub loop-done-preserved : goal.loop-done-preserved

@@ -1,11 +1,12 @@
 -- The viewer and the scanner read the same octets, within the limits in force.
 use Rattle.h2_follow.proofs.Names.{ℕ, List, ◌∙◌, [], ap, subst, sym, take, length, OneSide}
 use Rattle.std.proofs.Common.{min}
+use Rattle.std.proofs.Math.Seq.{take-length}
 use Rattle.h2_wire.specs.Cutter.{CutterLimited}
 use Rattle.h2_show.specs.Limited.{ViewerLimited}
 use Rattle.h2_follow.specs.Follower.{ShowsPart, SideReads}
 use Rattle.h2_follow.specs.InForce.{bound_of}
-use Rattle.h2_follow.proofs.SideLemmas.{all_used, reads_fault, reads_part, take_whole}
+use Rattle.h2_follow.proofs.SideLemmas.{all_used, reads_fault, reads_part}
 use Rattle.h2_follow.proofs.one_side.OneSide.show.Goals as goal
 
 pub returns-in_ok-show_part-in-Ok : goal.returns-in_ok-show_part-in-Ok
@@ -61,7 +62,7 @@ returns-in_ok-show_fault-in-Err c = λ is.
       few = tt;
       reads = subst (λ (octets : List ℕ). SideReads c.args.self.now c.show_fault.new.self
           c.args.least (bound_of c.args.own.now) octets [] printed)
-          (sym (take_whole c.args.octets.now))
+          (sym (take-length c.args.octets.now))
           (reads_fault c.args.self.now
           (record c.args.self.now {
             viewer = c.set_max_frame.new.self;

@@ -6,6 +6,7 @@ use Rattle.h2_show.specs.Lines.{fault_line}
 use Rattle.h2_follow.proofs.SideLemmas.{goes_part, take_kept}
 use Rattle.h2_follow.proofs.one_side.OneSide.show_part.Goals as goal
 use Rattle.h2_follow.proofs.one_side.OneSide.show_part.Goals.{else-ends_block-via-else-ends_block}
+use Rattle.h2_follow.proofs.one_side.OneSide.show_part.Goals.{}
 use Rattle.h2_follow.proofs.one_side.OneSide.show_part.Goals.{else-ends_block-via-then-ends_block+else-table_maximum-table}
 
 pub returns-in_ok-add_table_fault-in-Ok-clause-part :
@@ -33,7 +34,7 @@ returns-else-ends_block-clause-part c =
     let (printed, written, prints) = c.in-Ok.ensures.shown in (
       printed,
       written,
-      λ is. goes_part c.args.self.now (record c.args.self.now { viewer = c.show_piece.new.self; })
+      λ is. goes_part c.args.self.now (record c.args.self.now { viewer = c.show_piece.new.self })
           c.args.octets.now c.args.ends_block c.args.table printed is prints
           (elim c.else-ends_block.branch [
             | else-ends_block-via-then-ends_block+else-table_maximum-table w ↦ λ ends.

@@ -1,6 +1,8 @@
 -- Parts that were read, and one more.
-use Rattle.h2_follow.proofs.Names.{◌≡◌, ◌∙◌, ◌++◌, ◌∷◌, ℕ, [], List, refl, sym, ap, subst, Side, Client}
-use Rattle.h2_follow.proofs.Names.{◌≢◌, OneSide, SideShows, length, take, Server, Frame, Log, Part, Bound, append_assoc, append-nil}
+use Rattle.h2_follow.proofs.Names.{◌≡◌, ◌∙◌, ◌++◌, ◌∷◌, ℕ, [], List, refl, sym, ap, subst, Side}
+use Rattle.h2_follow.proofs.Names.{Client}
+use Rattle.h2_follow.proofs.Names.{◌≢◌, OneSide, SideShows, length, take, Server, Frame, Stretches}
+use Rattle.h2_follow.proofs.Names.{Stretch, Bound, append_assoc, append-nil}
 use Rattle.h2_follow.proofs.Names.{output_of, marked_of, Follower, FollowerReads, Appends, Option}
 use Rattle.h2_follow.proofs.SideLemmas.{side_so_far}
 use Rattle.h2_follow.proofs.Names.{Result, Ok, Err, IfOk, true, false, inl, inr, ◌⊎◌, ◌+◌, arith}
@@ -9,31 +11,35 @@ use Rattle.std.proofs.Common.{min, ◌<◌, ◌≤◌, ◌-◌, drop}
 use Rattle.std.proofs.lemmas.List.{take-append-drop}
 use Rattle.h2_show.proofs.ViewerLemmas.{prefix_append}
 use Rattle.std.proofs.KnownBytes.{Appends-trans}
-use Rattle.h2_follow.specs.Follower.{BothRead, FollowerReadsMore, IsOneOrNone, SideSteps, after_all_others}
-use Rattle.h2_follow.specs.Follower.{FollowerAdvances, FollowerSteps, after_owns, one_of, part_of}
+use Rattle.h2_follow.specs.Follower.{BothRead, FollowerReadsMore, IsOneOrNone, SideSteps}
+use Rattle.h2_follow.specs.Follower.{after_all_others}
+use Rattle.h2_follow.specs.Follower.{FollowerAdvances, FollowerSteps, after_owns, one_of}
+use Rattle.h2_follow.specs.Follower.{stretch_of}
 use Rattle.h2_follow.specs.Follows.{mark_of, marked}
-use Rattle.h2_follow.specs.InForce.{Item, after_others, after_own, bound_of, frame_limit, in_force}
-use Rattle.h2_follow.specs.InForce.{table_limit}
-use Rattle.h2_follow.specs.Log.{AreOf, HasLimits, IsLog, items_in, items_of, octets_in, own_of}
+use Rattle.h2_follow.specs.InForce.{SentFrame, after_others, after_own, bound_of, frame_bound}
+use Rattle.h2_follow.specs.InForce.{in_force}
+use Rattle.h2_follow.specs.InForce.{table_bound}
+use Rattle.h2_follow.specs.Stretches.{AreOf, HasLimits, AreFollowed, sent_in, sent_by, octets_read}
+use Rattle.h2_follow.specs.Stretches.{own_of}
 
--- the octets of parts, and of others before them
-pub octets_append : (newer older : Log)
-    → octets_in (newer ++ older) ≡ octets_in older ++ octets_in newer
-octets_append [] older = sym (append-nil (octets_in older))
-octets_append (part ∷ newer) older =
-    ap (λ (octets : List ℕ). octets ++ part.octets) (octets_append newer older)
-    ∙ append_assoc (octets_in older) (octets_in newer) part.octets
+-- the octets of stretches, and of others before them
+pub octets_append : (newer older : Stretches)
+    → octets_read (newer ++ older) ≡ octets_read older ++ octets_read newer
+octets_append [] older = sym (append-nil (octets_read older))
+octets_append (stretch ∷ newer) older =
+    ap (λ (octets : List ℕ). octets ++ stretch.octets) (octets_append newer older)
+    ∙ append_assoc (octets_read older) (octets_read newer) stretch.octets
 
 -- what is printed of them
-pub output_append : (newer older : Log)
+pub output_append : (newer older : Stretches)
     → output_of (newer ++ older) ≡ output_of older ++ output_of newer
 output_append [] older = sym (append-nil (output_of older))
-output_append (part ∷ newer) older =
-    ap (λ (text : List ℕ). text ++ marked_of (part.side, part.lines)) (output_append newer older)
-    ∙ append_assoc (output_of older) (output_of newer) (marked_of (part.side, part.lines))
+output_append (stretch ∷ newer) older =
+    ap (λ (text : List ℕ). text ++ marked_of (stretch.side, stretch.lines)) (output_append newer older)
+    ∙ append_assoc (output_of older) (output_of newer) (marked_of (stretch.side, stretch.lines))
 
--- what is written of parts, and of more
-pub written_append : (start middle ended : Option (List ℕ)) (older newer : Log)
+-- what is written of stretches, and of more
+pub written_append : (start middle ended : Option (List ℕ)) (older newer : Stretches)
     → Appends start middle (output_of older) → Appends middle ended (output_of newer)
     → Appends start ended (output_of (newer ++ older))
 written_append start middle ended older newer one two =
@@ -41,9 +47,9 @@ written_append start middle ended older newer one two =
     (Appends-trans start middle ended _ _ one two)
 
 -- what a side may send after a frame of its own, or none
-own_next : (side : Side) (frames : List Frame) → IsOneOrNone frames → (items : List Item)
+own_next : (side : Side) (frames : List Frame) → IsOneOrNone frames → (items : List SentFrame)
     (bound next : Bound) → bound ≡ in_force side items → next ≡ after_owns frames bound
-    → next ≡ in_force side (items_of side frames ++ items)
+    → next ≡ in_force side (sent_by side frames ++ items)
 own_next Client [] few items bound next is now = now ∙ is
 own_next Client (frame ∷ []) few items bound next is now = now ∙ ap (after_own frame) is
 own_next Client (frame ∷ second ∷ more) few items bound next is now = absurd few
@@ -52,45 +58,45 @@ own_next Server (frame ∷ []) few items bound next is now = now ∙ ap (after_o
 own_next Server (frame ∷ second ∷ more) few items bound next is now = absurd few
 
 -- and after one of the other side
-client_next : (frames : List Frame) → IsOneOrNone frames → (items : List Item)
+client_next : (frames : List Frame) → IsOneOrNone frames → (items : List SentFrame)
     (bound next : Bound) → bound ≡ in_force Client items → next ≡ after_all_others frames bound
-    → next ≡ in_force Client (items_of Server frames ++ items)
+    → next ≡ in_force Client (sent_by Server frames ++ items)
 client_next [] few items bound next is now = now ∙ is
 client_next (frame ∷ []) few items bound next is now = now ∙ ap (after_others frame) is
 client_next (frame ∷ second ∷ more) few items bound next is now = absurd few
 
-server_next : (frames : List Frame) → IsOneOrNone frames → (items : List Item)
+server_next : (frames : List Frame) → IsOneOrNone frames → (items : List SentFrame)
     (bound next : Bound) → bound ≡ in_force Server items → next ≡ after_all_others frames bound
-    → next ≡ in_force Server (items_of Client frames ++ items)
+    → next ≡ in_force Server (sent_by Client frames ++ items)
 server_next [] few items bound next is now = now ∙ is
 server_next (frame ∷ []) few items bound next is now = now ∙ ap (after_others frame) is
 server_next (frame ∷ second ∷ more) few items bound next is now = absurd few
 
--- the limits of a part are those in force before it
+-- the limits of a stretch are those in force before it
 limits_known : (side : Side) (least : ℕ) (bound : Bound) (octets lines : List ℕ)
-    (frames : List Frame) (before : Log) → bound ≡ in_force side (items_in before)
-    → HasLimits least (part_of side least bound octets frames lines) before
+    (frames : List Frame) (before : Stretches) → bound ≡ in_force side (sent_in before)
+    → HasLimits least (stretch_of side least bound octets frames lines) before
 limits_known side least bound octets lines frames before is = (
-  ap (λ (some : Bound). min (frame_limit least some) 1048576) is,
-  ap table_limit is,
+  ap (λ (some : Bound). min (frame_bound least some) 1048576) is,
+  ap table_bound is,
 )
 
--- what the follower has read, after a part of the client
+-- what the follower has read, after a stretch of the client
 client_reads : (old new : Follower) (octets : List ℕ) (used : ℕ)
     → (steps : SideSteps Client old new octets used)
-    → FollowerReadsMore old new (part_of Client old.least (bound_of old.client_bound)
+    → FollowerReadsMore old new (stretch_of Client old.least (bound_of old.client_bound)
     (take used octets) steps.0.frames steps.0.lines ∷ [])
 client_reads old new octets used (advances, same, client, least, lines) log reads =
     let shows = advances.reads Client (own_of Client log) reads.client in
     record {
-      client_may = own_next Client advances.frames advances.few (items_in log) _ _
+      client_may = own_next Client advances.frames advances.few (sent_in log) _ _
           reads.client_may advances.own_next;
-      server_may = server_next advances.frames advances.few (items_in log) _ _
+      server_may = server_next advances.frames advances.few (sent_in log) _ _
           reads.server_may advances.others_next;
       client = shows;
       server = subst (λ (one : OneSide). SideShows one Server (own_of Server log)) (sym same)
           reads.server;
-      is_log = subst (λ (some : ℕ). IsLog some (part_of Client old.least
+      is_log = subst (λ (some : ℕ). AreFollowed some (stretch_of Client old.least
           (bound_of old.client_bound) (take used octets) advances.frames advances.lines ∷ log))
           (sym least) (
             limits_known Client old.least (bound_of old.client_bound) (take used octets)
@@ -103,19 +109,19 @@ client_reads old new octets used (advances, same, client, least, lines) log read
 -- and after one of the server
 server_reads : (old new : Follower) (octets : List ℕ) (used : ℕ)
     → (steps : SideSteps Server old new octets used)
-    → FollowerReadsMore old new (part_of Server old.least (bound_of old.server_bound)
+    → FollowerReadsMore old new (stretch_of Server old.least (bound_of old.server_bound)
     (take used octets) steps.0.frames steps.0.lines ∷ [])
 server_reads old new octets used (advances, same, client, least, lines) log reads =
     let shows = advances.reads Server (own_of Server log) reads.server in
     record {
-      client_may = client_next advances.frames advances.few (items_in log) _ _
+      client_may = client_next advances.frames advances.few (sent_in log) _ _
           reads.client_may advances.others_next;
-      server_may = own_next Server advances.frames advances.few (items_in log) _ _
+      server_may = own_next Server advances.frames advances.few (sent_in log) _ _
           reads.server_may advances.own_next;
       client = subst (λ (one : OneSide). SideShows one Client (own_of Client log)) (sym same)
           reads.client;
       server = shows;
-      is_log = subst (λ (some : ℕ). IsLog some (part_of Server old.least
+      is_log = subst (λ (some : ℕ). AreFollowed some (stretch_of Server old.least
           (bound_of old.server_bound) (take used octets) advances.frames advances.lines ∷ log))
           (sym least) (
             limits_known Server old.least (bound_of old.server_bound) (take used octets)
@@ -128,12 +134,12 @@ server_reads old new octets used (advances, same, client, least, lines) log read
 -- what was read where the text had been cleared
 pub step_told : (side : Side) (old new : Follower) (octets : List ℕ) (used : ℕ)
     → old.text.items ≡ [] → SideSteps side old new octets used
-    → (part : Part) × (part.side ≡ side) × (used ≤ length octets) × (octets ≢ [] → 0 < used)
-    × (part.octets ≡ take used octets) × (new.text.items ≡ part.lines)
-    × FollowerReadsMore old new (part ∷ []) × (new.client ≡ old.client)
+    → (stretch : Stretch) × (stretch.side ≡ side) × (used ≤ length octets) × (octets ≢ [] → 0 < used)
+    × (stretch.octets ≡ take used octets) × (new.text.items ≡ stretch.lines)
+    × FollowerReadsMore old new (stretch ∷ []) × (new.client ≡ old.client)
     × (new.least ≡ old.least) × (new.lines.items ≡ old.lines.items)
 step_told Client old new octets used none steps = (
-  part_of Client old.least (bound_of old.client_bound) (take used octets) steps.0.frames
+  stretch_of Client old.least (bound_of old.client_bound) (take used octets) steps.0.frames
       steps.0.lines,
   refl,
   steps.0.within,
@@ -146,7 +152,7 @@ step_told Client old new octets used none steps = (
   steps.4,
 )
 step_told Server old new octets used none steps = (
-  part_of Server old.least (bound_of old.server_bound) (take used octets) steps.0.frames
+  stretch_of Server old.least (bound_of old.server_bound) (take used octets) steps.0.frames
       steps.0.lines,
   refl,
   steps.0.within,
@@ -168,8 +174,8 @@ one_same Server old new one two = two
 -- what was read of octets, and its lines added after the mark
 pub part_told : {E : Type 0} (result : Result ℕ E) (old mid shown new : Follower) (side : Side)
     (octets mark : List ℕ) → mid.text.items ≡ []
-    → ((log : Log) → FollowerReads old log → FollowerReads mid log)
-    → ((log : Log) → FollowerReads shown log → FollowerReads new log)
+    → ((log : Stretches) → FollowerReads old log → FollowerReads mid log)
+    → ((log : Stretches) → FollowerReads shown log → FollowerReads new log)
     → mid.client_side ≡ old.client_side → mid.server_side ≡ old.server_side
     → mid.lines.items ≡ old.lines.items → mid.client ≡ old.client → mid.least ≡ old.least
     → new.client ≡ shown.client → new.least ≡ shown.least
@@ -185,10 +191,10 @@ part_told (Ok used) old mid shown new side octets mark cleared before after one 
     least new_client new_least told written is = λ goes.
     let over : (one_of side mid).is_over ≡ false =
     ap (λ (some : OneSide). some.is_over) (one_same side old mid one two) ∙ goes in
-    let (part, side_is, within, some, octets_are, text_is, reads, client_is, least_is, lines_are) =
+    let (stretch, side_is, within, some, octets_are, text_is, reads, client_is, least_is, lines_are) =
     step_told side mid shown octets used cleared (told over) in
     record {
-      part = part;
+      stretch = stretch;
       of = side_is;
       within = within;
       some = some;
@@ -197,31 +203,31 @@ part_told (Ok used) old mid shown new side octets mark cleared before after one 
           ∙ ap (λ (text : List ℕ). text ++ marked mark true shown.text.items)
           (lines_are ∙ lines)
           ∙ ap (λ (text : List ℕ). old.lines.items ++ marked mark true text) text_is
-          ∙ ap (λ (text : List ℕ). old.lines.items ++ marked text true part.lines)
+          ∙ ap (λ (text : List ℕ). old.lines.items ++ marked text true stretch.lines)
           (is ∙ ap mark_of (sym side_is));
-      reads = λ log known. after (part ∷ log) (reads log (before log known));
+      reads = λ log known. after (stretch ∷ log) (reads log (before log known));
       client = new_client ∙ client_is ∙ client;
       least = new_least ∙ least_is ∙ least;
     }
 
 -- Parts that were read, and one more of the octets that follow.
 pub read_next : (old mid new : Follower) (side : Side) (octets : List ℕ) (done used : ℕ)
-    → (read : (newer : Log) × AreOf side newer × (take done octets ≡ octets_in newer)
+    → (read : (newer : Stretches) × AreOf side newer × (take done octets ≡ octets_read newer)
     × (mid.lines.items ≡ old.lines.items ++ output_of newer) × FollowerReadsMore old mid newer)
     → FollowerSteps mid new side (take (length octets - done) (drop done octets)) used
-    → (newer : Log) × AreOf side newer × (take (done + used) octets ≡ octets_in newer)
+    → (newer : Stretches) × AreOf side newer × (take (done + used) octets ≡ octets_read newer)
     × (new.lines.items ≡ old.lines.items ++ output_of newer) × FollowerReadsMore old new newer
 read_next old mid new side octets done used (newer, of, taken, lines, reads) steps = (
-  steps.part ∷ newer,
+  steps.stretch ∷ newer,
   (steps.of, of),
   sym (prefix_append octets done used)
       ∙ ap (λ (first : List ℕ). first ++ take used (take (length octets - done)
       (drop done octets))) taken
-      ∙ ap (λ (last : List ℕ). octets_in newer ++ last) (sym steps.octets_are),
+      ∙ ap (λ (last : List ℕ). octets_read newer ++ last) (sym steps.octets_are),
   steps.written
-      ∙ ap (λ (text : List ℕ). text ++ marked_of (steps.part.side, steps.part.lines)) lines
+      ∙ ap (λ (text : List ℕ). text ++ marked_of (steps.stretch.side, steps.stretch.lines)) lines
       ∙ append_assoc old.lines.items (output_of newer)
-      (marked_of (steps.part.side, steps.part.lines)),
+      (marked_of (steps.stretch.side, steps.stretch.lines)),
   λ log known. steps.reads (newer ++ log) (reads log known),
 )
 
@@ -231,7 +237,7 @@ drop_all octets done all = grind (arith, common_steps)
 
 -- All octets were read, or their side is over.
 pub read_all : (old new : Follower) (side : Side) (octets : List ℕ) (done : ℕ)
-    → (newer : Log) × AreOf side newer × (take done octets ≡ octets_in newer)
+    → (newer : Stretches) × AreOf side newer × (take done octets ≡ octets_read newer)
     × (new.lines.items ≡ old.lines.items ++ output_of newer) × FollowerReadsMore old new newer
     → new.client ≡ old.client → new.least ≡ old.least
     → (length octets ≤ done) ⊎ ((one_of side new).is_over ≡ true)
