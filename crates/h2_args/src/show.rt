@@ -209,6 +209,9 @@ at the end each side says what is unfinished, the client first. The client is
 the node whose octets come first, where they begin as the preface, and else the
 other. The status is 0 only where both sides are good to their ends. A line
 that is not of tshark's text ends all with `bad hex`; the hint has its number.
+Frames and header tables are checked by the SETTINGS of the other side: a
+greater value is in force from them on, a smaller one from the ACK on. Frames
+of up to the octets of --max-frame are taken in any case.
 
 Example:
   $ echo 000004 08 00 00000000 0000000f | h2 show --hex --from server

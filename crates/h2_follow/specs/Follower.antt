@@ -1,44 +1,161 @@
 -- What both sides have printed so far, by the state of their viewers.
-use Rattle.std.specs.Prelude.{◌≡◌, ◌≢◌, ℕ, List, [], ◌∷◌, ◌++◌, Option, Some, None, MatchBool}
+use Rattle.std.specs.Prelude.{◌≡◌, ◌≢◌, ◌⊎◌, ℕ, ◌<◌, ◌≤◌, Bool, true, false, List, [], ◌∷◌, ◌++◌}
+use Rattle.std.specs.Prelude.{length, take, min, Option, Some, None, MatchBool}
+use Rattle.h2_frame.specs.Frames.{Frame}
+use Rattle.h2_frame.specs.declared.code.Code.TheVariants.{CompressionError}
+use Rattle.h2_wire.specs.Cutter.{CutterContinues, CutterRepresents, CutterState}
 use Rattle.h2_cli.specs.declared.status.Status.{Status}
-use Rattle.h2_cli.specs.declared.status.Status.TheVariants.{Fault}
-use Rattle.h2_show.specs.declared.options.ShowOptions.{ShowOptions}
 use Rattle.h2_show.specs.declared.options.Side.{Side}
 use Rattle.h2_show.specs.declared.options.Side.TheVariants.{Client, Server}
-use Rattle.h2_show.specs.Printed.{ViewerHasPrinted}
-use Rattle.h2_show.specs.Shown.{ShowsOctets}
+use Rattle.h2_show.specs.declared.options.Style.TheVariants.{Plain}
+use Rattle.h2_show.specs.declared.viewer.ShowError.{ShowError}
+use Rattle.h2_show.specs.declared.viewer.Viewer.{Viewer}
+use Rattle.h2_show.specs.Lines.{fault_line}
+use Rattle.h2_show.specs.Printed.{ViewerFailsWith, ViewerPrints, ViewerShows, error_lines}
+use Rattle.h2_show.specs.Report.{begins_with_preface}
+use Rattle.h2_show.specs.ShownLines.{ShowLine}
+use Rattle.h2_show.specs.Styles.{styled_text, text_from}
+use Rattle.h2_follow.specs.declared.in_force.InForce.{InForce}
 use Rattle.h2_follow.specs.declared.text.Node.{Node}
 use Rattle.h2_follow.specs.declared.one_side.OneSide.{OneSide}
+use Rattle.h2_follow.specs.declared.one_side.Scanned.{Scanned}
 use Rattle.h2_follow.specs.declared.follower.Follower.{Follower}
 use Rattle.h2_follow.specs.FollowText.{BeginsWithLines, Line, OfSide, Piece, client_by}
 use Rattle.h2_follow.specs.FollowText.{client_of, sided}
-use Rattle.h2_follow.specs.Follows.{FollowsSoFar, of_side, side_options}
+use Rattle.h2_follow.specs.Follows.{SideEnds, marked_of, output_of}
+use Rattle.h2_follow.specs.InForce.{Bound, after_others, after_own, bound_of, frame_bound}
+use Rattle.h2_follow.specs.InForce.{in_force}
+use Rattle.h2_follow.specs.InForce.{table_bound}
+use Rattle.h2_follow.specs.Stretches.{AreOf, ArePieces, AreFollowed, SideIsOver, IsPiece}
+use Rattle.h2_follow.specs.Stretches.{SideIsRead, KeepsTable, Stretches}
+use Rattle.h2_follow.specs.Stretches.{last_ends}
+use Rattle.h2_follow.specs.Stretches.{Stretch, frames_read, sent_in, limits_in, lines_read}
+use Rattle.h2_follow.specs.Stretches.{octets_read, own_of}
 
--- These lines are all that is printed of the side's octets so far; after a fault, whatever follows.
-abbrev pub SideShows : OneSide → ShowOptions → (octets lines : List ℕ) → Type 0
-SideShows one options octets lines =
-    MatchBool one.is_over
-    ((more : List ℕ) → ShowsOctets options (octets ++ more) Fault lines)
-    (ViewerHasPrinted one.viewer options octets lines)
+-- No fault has ended the side, and its viewer and its scanner represent its octets so far.
+pub record SideGoesOn (one : OneSide) (from : Side) (own : Stretches) : Type 0 where
+  pub shown : List ShowLine
+  pub viewer : ViewerShows one.viewer.cutter one.viewer.blocks one.viewer.printer.is_due
+      (begins_with_preface from) (limits_in own) (octets_read own) shown
+  pub plain : one.viewer.printer.style ≡ Plain
+  pub text : lines_read own ≡ styled_text Plain shown
+  pub scanner : CutterRepresents one.scanner (begins_with_preface from) (limits_in own)
+      (octets_read own) (frames_read own)
+  pub keeps : KeepsTable own one.viewer.blocks.decoder.table
 
--- The side has taken these octets, and printed this.
-abbrev pub SideAdvances : (old new : OneSide) → (octets printed : List ℕ) → Type 0
-SideAdvances old new octets printed =
-    (options : ShowOptions) (so_far lines : List ℕ) → SideShows old options so_far lines
-    → SideShows new options (so_far ++ octets) (lines ++ printed)
+-- The lines of these stretches are all that is printed of the side's octets so far; after a fault,
+-- whatever follows.
+abbrev pub SideShows : OneSide → (from : Side) → (own : Stretches) → Type 0
+SideShows one from own =
+    MatchBool one.is_over (SideIsOver from own × SideIsRead from own) (SideGoesOn one from own)
+
+-- the bound after frames of the side, and after frames of the other
+abbrev pub after_owns : List Frame → Bound → Bound
+after_owns [] bound = bound
+after_owns (frame ∷ frames) bound = after_owns frames (after_own frame bound)
+
+abbrev pub after_all_others : List Frame → Bound → Bound
+after_all_others [] bound = bound
+after_all_others (frame ∷ frames) bound = after_all_others frames (after_others frame bound)
+
+-- the stretch of octets that a side within these bounds has sent
+abbrev pub stretch_of : (from : Side) → (least : ℕ) → Bound → (octets : List ℕ) → List Frame
+    → (lines : List ℕ) → Stretch
+stretch_of from least bound octets frames lines = record {
+  side = from;
+  limit = min (frame_bound least bound) 1048576;
+  table = table_bound bound;
+  octets = octets;
+  frames = frames;
+  lines = lines;
+}
+
+-- The side has read a stretch within these bounds, which ends with these frames, and printed these
+-- lines of it.
+abbrev pub SideReads : (old new : OneSide) → (least : ℕ) → Bound → (octets : List ℕ) → List Frame
+    → (lines : List ℕ) → Type 0
+SideReads old new least bound octets frames lines =
+    (from : Side) (own : Stretches) → SideShows old from own
+    → SideShows new from (stretch_of from least bound octets frames lines ∷ own)
+
+-- One or no frame ends a stretch.
+abbrev pub IsOneOrNone : List Frame → Type 0
+IsOneOrNone [] = Unit {0}
+IsOneOrNone (frame ∷ []) = Unit {0}
+IsOneOrNone (frame ∷ next ∷ more) = ⊥
+
+-- What a call that reads the first octets of a piece makes of a side that no fault has ended, and
+-- of what both sides may send.
+pub record SideAdvances (old new : OneSide) (least : ℕ) (octets : List ℕ) (used : ℕ)
+    (own new_own others new_others : InForce) (text new_text : List ℕ) : Type 0 where
+  pub frames : List Frame
+  pub lines : List ℕ
+  pub within : used ≤ length octets
+  pub some : octets ≢ [] → 0 < used
+  pub adds : new_text ≡ text ++ lines
+  pub own_next : bound_of new_own ≡ after_owns frames (bound_of own)
+  pub others_next : bound_of new_others ≡ after_all_others frames (bound_of others)
+  pub few : IsOneOrNone frames
+  pub reads : SideReads old new least (bound_of own) (take used octets) frames lines
+
+-- A call that reads octets up to the end of a frame, or all of them, and notes that frame.
+pub record Scans (old new : CutterState) (octets : List ℕ) (scanned : Scanned)
+    (own new_own others new_others : InForce) : Type 0 where
+  pub frames : List Frame
+  pub within : scanned.used ≤ length octets
+  pub some : octets ≢ [] → 0 < scanned.used
+  pub ends : scanned.ends_block ≡ last_ends frames
+  pub own_next : bound_of new_own ≡ after_owns frames (bound_of own)
+  pub others_next : bound_of new_others ≡ after_all_others frames (bound_of others)
+  pub few : IsOneOrNone frames
+  pub continues : CutterContinues old (take scanned.used octets) frames new
+
+-- The viewer of a side has shown octets, after which no fault is known: if they end a block, the
+-- table is within the limit.
+pub record PartGoesOn (old new : OneSide) (octets : List ℕ) (ends : Bool) (table : ℕ)
+    (printed : List ℕ) : Type 0 where
+  pub lines : List ShowLine
+  pub all : printed ≡ text_from old.viewer.printer.style old.viewer.printer.next lines
+  pub style : new.viewer.printer.style ≡ old.viewer.printer.style
+  pub prints : ViewerPrints old.viewer.cutter old.viewer.blocks old.viewer.printer.is_due octets
+      new.viewer.cutter new.viewer.blocks new.viewer.printer.is_due lines
+  pub keeps : ends ≡ true → new.viewer.blocks.decoder.table.maximum ≤ table
+
+-- The octets are at fault, as `show` finds.
+pub record PartFails (old : OneSide) (octets : List ℕ) (printed : List ℕ) : Type 0 where
+  pub error : ShowError
+  pub after : Viewer
+  pub lines : List ShowLine
+  pub all : printed ≡ text_from old.viewer.printer.style old.viewer.printer.next lines
+      ++ text_from after.printer.style after.printer.next
+      (error_lines error after.cutter.place after.printer.is_due)
+  pub style : after.printer.style ≡ old.viewer.printer.style
+  pub fails : ViewerFailsWith old.viewer.cutter old.viewer.blocks old.viewer.printer.is_due octets
+      error after.cutter after.printer.is_due lines
+
+-- The octets end a block, after which the table is above the limit.
+pub record PartFailsByTable (old : OneSide) (octets : List ℕ) (ends : Bool) (table : ℕ)
+    (printed : List ℕ) : Type 0 where
+  pub after : Viewer
+  pub lines : List ShowLine
+  pub prints : ViewerPrints old.viewer.cutter old.viewer.blocks old.viewer.printer.is_due octets
+      after.cutter after.blocks after.printer.is_due lines
+  pub block : ends ≡ true
+  pub above : table < after.blocks.decoder.table.maximum
+  pub line : printed ≡ fault_line CompressionError after.cutter.place
+
+-- What a call that shows octets of a side makes of it.
+abbrev pub ShowsPart : (old new : OneSide) → (octets : List ℕ) → (ends : Bool) → (table : ℕ)
+    → (printed : List ℕ) → Type 0
+ShowsPart old new octets ends table printed =
+    MatchBool new.is_over
+    (PartFails old octets printed ⊎ PartFailsByTable old octets ends table printed)
+    (PartGoesOn old new octets ends table printed)
 
 -- The side's octets end, and this was printed of that.
 abbrev pub EndsSide : OneSide → Status → (printed : List ℕ) → Type 0
 EndsSide one status printed =
-    (options : ShowOptions) (octets lines : List ℕ) → SideShows one options octets lines
-    → ShowsOctets options octets status (lines ++ printed)
-
--- One side has taken these octets, and printed this; the other is as it was.
-abbrev pub AdvancesSide : Side → (old new : Follower) → (octets printed : List ℕ) → Type 0
-AdvancesSide Client old new octets printed =
-    SideAdvances old.client_side new.client_side octets printed × (new.server_side ≡ old.server_side)
-AdvancesSide Server old new octets printed =
-    SideAdvances old.server_side new.server_side octets printed × (new.client_side ≡ old.client_side)
+    (from : Side) (own : Stretches) → SideShows one from own → SideEnds from own status printed
 
 -- The client is known once octets have come.
 abbrev pub KnowsClient : Option Node → List Piece → Type 0
@@ -50,30 +167,84 @@ abbrev pub ChoosesClient : Option Node → Piece → (client : Node) → Type 0
 ChoosesClient None piece client = client ≡ client_by piece
 ChoosesClient (Some known) piece client = client ≡ known
 
--- These texts are all that is printed of the pieces so far.
-pub record FollowerShows (follower : Follower) (max_frame : ℕ) (pieces : List Piece)
-    (texts : List OfSide) : Type 0 where
+-- the side of a follower
+abbrev pub one_of : Side → Follower → OneSide
+one_of Client follower = follower.client_side
+one_of Server follower = follower.server_side
+
+-- These stretches are all that both sides have read, which may send this.
+pub record BothRead (client_side server_side : OneSide) (client_bound server_bound : Bound)
+    (least : ℕ) (log : Stretches) : Type 0 where
+  pub client_may : client_bound ≡ in_force Client (sent_in log)
+  pub server_may : server_bound ≡ in_force Server (sent_in log)
+  pub client : SideShows client_side Client (own_of Client log)
+  pub server : SideShows server_side Server (own_of Server log)
+  pub is_log : AreFollowed least log
+
+-- These stretches are all that the follower has read.
+abbrev pub FollowerReads : Follower → Stretches → Type 0
+FollowerReads follower log =
+    BothRead follower.client_side follower.server_side (bound_of follower.client_bound)
+    (bound_of follower.server_bound) follower.least log
+
+-- The follower has read more stretches.
+abbrev pub FollowerReadsMore : (old new : Follower) → (newer : Stretches) → Type 0
+FollowerReadsMore old new newer =
+    (log : Stretches) → FollowerReads old log → FollowerReads new (newer ++ log)
+
+-- A side that no fault has ended has read the first octets of a piece; the other is as it was.
+abbrev pub SideSteps : Side → (old new : Follower) → (octets : List ℕ) → (used : ℕ) → Type 0
+SideSteps Client old new octets used =
+    SideAdvances old.client_side new.client_side old.least octets used old.client_bound
+    new.client_bound old.server_bound new.server_bound old.text.items new.text.items
+    × (new.server_side ≡ old.server_side) × (new.client ≡ old.client)
+    × (new.least ≡ old.least) × (new.lines.items ≡ old.lines.items)
+SideSteps Server old new octets used =
+    SideAdvances old.server_side new.server_side old.least octets used old.server_bound
+    new.server_bound old.client_bound new.client_bound old.text.items new.text.items
+    × (new.client_side ≡ old.client_side) × (new.client ≡ old.client)
+    × (new.least ≡ old.least) × (new.lines.items ≡ old.lines.items)
+
+-- The follower has read one more stretch, the first octets of a piece.
+pub record FollowerSteps (old new : Follower) (side : Side) (octets : List ℕ) (used : ℕ) : Type 0
+  where
+    pub stretch : Stretch
+    pub of : stretch.side ≡ side
+    pub within : used ≤ length octets
+    pub some : octets ≢ [] → 0 < used
+    pub octets_are : stretch.octets ≡ take used octets
+    pub written : new.lines.items ≡ old.lines.items ++ marked_of (stretch.side, stretch.lines)
+    pub reads : FollowerReadsMore old new (stretch ∷ [])
+    pub client : new.client ≡ old.client
+    pub least : new.least ≡ old.least
+
+-- What a call that reads octets of a side makes of the follower: stretches, whose lines it adds, and
+-- which are all of the octets unless the side is over.
+pub record FollowerAdvances (old new : Follower) (side : Side) (octets : List ℕ)
+    (lines new_lines : List ℕ) : Type 0 where
+  pub newer : Stretches
+  pub after : List ℕ
+  pub of : AreOf side newer
+  pub joined : octets ≡ octets_read newer ++ after
+  pub ended : (after ≡ []) ⊎ ((one_of side new).is_over ≡ true)
+  pub written : new_lines ≡ lines ++ output_of newer
+  pub reads : FollowerReadsMore old new newer
+  pub client : new.client ≡ old.client
+  pub least : new.least ≡ old.least
+
+-- These stretches are all that was read of the pieces so far.
+pub record FollowerShows (follower : Follower) (least : ℕ) (pieces : List Piece)
+    (log : Stretches) : Type 0 where
   pub knows : KnowsClient follower.client pieces
-  pub client : SideShows follower.client_side (side_options max_frame Client)
-      (of_side Client (sided (client_of pieces) pieces)) (of_side Client texts)
-  pub server : SideShows follower.server_side (side_options max_frame Server)
-      (of_side Server (sided (client_of pieces) pieces)) (of_side Server texts)
-  pub so_far : FollowsSoFar max_frame (sided (client_of pieces) pieces) texts
+  pub parts : ArePieces (sided (client_of pieces) pieces) log
+  pub reads : FollowerReads follower log
+  pub same : follower.least ≡ least
 
--- The piece was taken, and this text printed of it.
-abbrev pub FollowerTakes : (old new : Follower) → Piece → (text : OfSide) → Type 0
-FollowerTakes old new piece text =
-    (max_frame : ℕ) (pieces : List Piece) (texts : List OfSide)
-    → FollowerShows old max_frame pieces texts
-    → FollowerShows new max_frame (pieces ++ piece ∷ []) (texts ++ text ∷ [])
-
--- These pieces were taken, and these texts printed of them.
-abbrev pub FollowerShowsMore : (old new : Follower) → (more : List Piece) → (texts : List OfSide)
-    → Type 0
-FollowerShowsMore old new more texts =
-    (max_frame : ℕ) (pieces : List Piece) (before : List OfSide)
-    → FollowerShows old max_frame pieces before
-    → FollowerShows new max_frame (pieces ++ more) (before ++ texts)
+-- These pieces were taken, by these stretches.
+abbrev pub FollowerTakes : (old new : Follower) → (more : List Piece) → (newer : Stretches) → Type 0
+FollowerTakes old new more newer =
+    (least : ℕ) (pieces : List Piece) (log : Stretches) → FollowerShows old least pieces log
+    → FollowerShows new least (pieces ++ more) (newer ++ log)
 
 -- Lines were read of known octets, which begin with them.
 abbrev pub ReadsLines : (before after : Option (List ℕ)) → List Line → Type 0

@@ -1,3 +1,5 @@
 pub mod FollowText
+pub mod InForce
+pub mod Stretches
 pub mod Follows
 pub mod Follower

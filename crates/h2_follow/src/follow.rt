@@ -17,7 +17,8 @@ use std::io::{self, BufRead, BufReader, ErrorKind, Read, Write};
 /// How a text is shown.
 #[derive(Clone, Copy, Debug, PartialEq, Eq)]
 pub struct FollowOptions {
-    /// The most octets of a frame's payload, of either side; a frame with more is a fault.
+    /// The most octets of a frame's payload that either side may send whatever the SETTINGS of the
+    /// other say; a frame with more is a fault where these don't allow it.
     pub max_frame: u32,
 }
 
@@ -83,7 +84,8 @@ impl From<AllocError> for Unfollowed {
 /// first.
 ///
 /// Of a reader whose octets are known, the lines of each side are those that `h2 show` prints of
-/// its octets, and [`Status::Good`] comes only where both sides are good to their ends. A side's
+/// its octets, within the limits of payloads and of tables that the SETTINGS of the other side set,
+/// and [`Status::Good`] comes only where both sides are good to their ends. A side's
 /// fault ends that side alone. The text is read a line at a time: one line is kept, with its
 /// octets and their lines, and no other.
 ///

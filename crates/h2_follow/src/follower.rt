@@ -1,15 +1,19 @@
 //! Both sides of a connection, shown as their octets come.
 
-ghost use Rattle.std.specs.Prelude.{◌≡◌, ℕ, List, [], ◌++◌, flat_map, OnOk, IfOk};
+ghost use Rattle.std.specs.Prelude.{◌≡◌, ◌<◌, ◌≤◌, ◌≢◌, ℕ, false, List, [], ◌∷◌, ◌++◌, length};
+ghost use Rattle.std.specs.Prelude.{OnOk, IfOk};
 ghost use Rattle.std.specs.Io.KnownBytes.{Appends};
 ghost use Rattle.h2_cli.specs.declared.status.Status.{Status as End};
-ghost use Rattle.h2_follow.specs.FollowText.{OfSide, pieces_read};
-ghost use Rattle.h2_follow.specs.Follower.{AdvancesSide, EndsSide, FollowerShows, FollowerTakes};
-ghost use Rattle.h2_follow.specs.Follower.{ChoosesClient, FollowerShowsMore};
-ghost use Rattle.h2_follow.specs.Follows.{marked_of, status_of_both};
+ghost use Rattle.h2_follow.specs.FollowText.{pieces_read};
+ghost use Rattle.h2_follow.specs.Follower.{ChoosesClient, EndsSide, FollowerAdvances};
+ghost use Rattle.h2_follow.specs.Follower.{FollowerShows};
+ghost use Rattle.h2_follow.specs.Follower.{FollowerSteps, FollowerTakes, SideSteps, one_of};
+ghost use Rattle.h2_follow.specs.Follows.{marked_of, output_of, status_of_both};
+ghost use Rattle.h2_follow.specs.Stretches.{Stretches};
 ghost use Rattle.h2_show.specs.declared.options.Side.TheVariants as sides;
 
 use crate::hint::FollowHint;
+use crate::in_force::InForce;
 use crate::marks::{mark_lines, mark_of};
 use crate::one_side::OneSide;
 use crate::text::{Node, Read, client_by, is_lost_segment, side_of};
@@ -23,13 +27,19 @@ use std::io::{self, Write};
 pub(crate) struct Follower {
     client_side: OneSide,
     server_side: OneSide,
+    // What the client may send, by the server's SETTINGS.
+    client_bound: InForce,
+    // What the server may send.
+    server_bound: InForce,
+    // The most octets of a payload that a side may send whatever SETTINGS say.
+    least: u32,
     // The client's node, once octets have come.
     client: Option<Node>,
     // What the octets say of the capture, if they do.
     notice: Option<FollowHint>,
-    // The lines of a piece.
+    // The lines of a part.
     text: Vec<u8>,
-    // The same, each after its mark.
+    // Those of a piece, each after its mark.
     lines: Vec<u8>,
 }
 
@@ -39,12 +49,15 @@ impl Follower {
     /// # Errors
     ///
     /// [`AllocError`] when out of memory.
-    pub(crate) fn new(alloc: Global, max_frame: u32) -> Result<Follower, AllocError>
-        ensures { IfOk result (λ follower. FollowerShows follower max_frame [] []) }
+    pub(crate) fn new(alloc: Global, least: u32) -> Result<Follower, AllocError>
+        ensures { IfOk result (λ follower. FollowerShows follower least [] []) }
     {
         Ok(Follower {
-            client_side: OneSide::new(alloc, Side::Client, max_frame)?,
-            server_side: OneSide::new(alloc, Side::Server, max_frame)?,
+            client_side: OneSide::new(alloc, Side::Client)?,
+            server_side: OneSide::new(alloc, Side::Server)?,
+            client_bound: InForce::new(alloc),
+            server_bound: InForce::new(alloc),
+            least,
             client: None,
             notice: None,
             text: Vec::new(alloc),
@@ -66,9 +79,9 @@ impl Follower {
         read: Option<Read>,
         out: &mut W,
     ) -> io::Result<()>
-        ensures { OnOk result ((texts : List OfSide)
-            × Appends (W.contents out.old) (W.contents out.new) (flat_map marked_of texts)
-            × FollowerShowsMore self.old self.new (pieces_read read) texts) }
+        ensures { OnOk result ((newer : Stretches)
+            × Appends (W.contents out.old) (W.contents out.new) (output_of newer)
+            × FollowerTakes self.old self.new (pieces_read read) newer) }
     {
         match read {
             Some(read) => self.take(number, &read, out),
@@ -79,9 +92,9 @@ impl Follower {
     // rule: follow (own) A line stands where the last octet of its frame came
     // Shows octets that came together, those of the line with this number.
     fn take<W: Write>(&mut self, number: u64, read: &Read, out: &mut W) -> io::Result<()>
-        ensures { OnOk result ((text : OfSide)
-            × Appends (W.contents out.old) (W.contents out.new) (marked_of text)
-            × FollowerTakes self.old self.new (read.now.node, read.now.octets.items) text) }
+        ensures { OnOk result ((newer : Stretches)
+            × Appends (W.contents out.old) (W.contents out.new) (output_of newer)
+            × FollowerTakes self.old self.new ((read.now.node, read.now.octets.items) ∷ []) newer) }
     {
         self.notice = self.notice_with(number, &read.octets);
         let client = self.client_with(read);
@@ -119,27 +132,74 @@ impl Follower {
     // rule: follow (own) A side's fault ends that side, while the other goes on
     // Shows octets of one side.
     fn show<W: Write>(&mut self, side: Side, octets: &[u8], out: &mut W) -> io::Result<()>
-        ensures shown { OnOk result ((printed : List ℕ)
-            × Appends (W.contents out.old) (W.contents out.new) (marked_of (side, printed))
-            × AdvancesSide side self.old self.new octets.now printed) }
-        ensures client { self.new.client ≡ self.old.client }
+        ensures { OnOk result ((lines : List ℕ)
+            × Appends (W.contents out.old) (W.contents out.new) lines
+            × FollowerAdvances self.old self.new side octets.now [] lines) }
     {
-        self.text.clear();
-        let shown = self.show_side(side, octets);
-        self.write_text(side, out)?;
+        self.lines.clear();
+        let shown = self.show_parts(side, octets);
+        out.write_all(&self.lines)?;
+        out.flush()?;
         shown
     }
 
-    // Adds the lines of octets of one side to the text.
-    fn show_side(&mut self, side: Side, octets: &[u8]) -> io::Result<()>
-        ensures shown { OnOk result ((printed : List ℕ)
-            × (self.new.text.items ≡ self.old.text.items ++ printed)
-            × AdvancesSide side self.old self.new octets.now printed) }
-        ensures client { self.new.client ≡ self.old.client }
+    // contract: follow (own) What a side may send follows the other's SETTINGS, and its own ACK
+    // rule: follow (own) What a side may send follows the other's SETTINGS, and its own ACK
+    // Adds the lines of octets of one side, frame by frame, unless a fault ends it.
+    fn show_parts(&mut self, side: Side, octets: &[u8]) -> io::Result<()>
+        ensures { OnOk result (FollowerAdvances self.old self.new side octets.now self.old.lines.items
+            self.new.lines.items) }
+    {
+        let mut done = 0;
+        while done < octets.len() && !self.is_over(side) {
+            done += self.show_part(side, &octets[done..])?;
+        }
+        Ok(())
+    }
+
+    // Whether a fault has ended the side.
+    fn is_over(&self, side: Side) -> bool
+        ensures { result ≡ (one_of side self.now).is_over }
     {
         match side {
-            Side::Client => self.client_side.show(octets, &mut self.text),
-            Side::Server => self.server_side.show(octets, &mut self.text),
+            Side::Client => self.client_side.is_over(),
+            Side::Server => self.server_side.is_over(),
+        }
+    }
+
+    // rule: follow (own) Each side has the lines that show prints of it, after its mark
+    // Adds the lines of the first octets of a side that no fault has ended, each after its mark.
+    fn show_part(&mut self, side: Side, octets: &[u8]) -> io::Result<usize>
+        ensures { IfOk result (λ used. (one_of side self.old).is_over ≡ false
+            → FollowerSteps self.old self.new side octets.now used) }
+    {
+        self.text.clear();
+        let shown = self.read_part(side, octets);
+        mark_lines(&self.text, mark_of(side), &mut self.lines)?;
+        shown
+    }
+
+    // Adds the lines of the first octets of a side to the text.
+    fn read_part(&mut self, side: Side, octets: &[u8]) -> io::Result<usize>
+        ensures { IfOk result (λ used. (one_of side self.old).is_over ≡ false
+            → SideSteps side self.old self.new octets.now used) }
+    {
+        let least = self.least;
+        match side {
+            Side::Client => self.client_side.show(
+                least,
+                octets,
+                &mut self.client_bound,
+                &mut self.server_bound,
+                &mut self.text,
+            ),
+            Side::Server => self.server_side.show(
+                least,
+                octets,
+                &mut self.server_bound,
+                &mut self.client_bound,
+                &mut self.text,
+            ),
         }
     }
 
@@ -186,9 +246,13 @@ impl Follower {
         if self.client.is_none() {
             return Some(FollowHint::NoOctets);
         }
-        self.notice
-            .or(self.client_side.hint())
-            .or(self.server_side.hint())
+        let client = self.client_side.hint();
+        let server = self.server_side.hint();
+        match client {
+            // A fault says more.
+            Some(FollowHint::CutOff) => self.notice.or(server).or(client),
+            _ => self.notice.or(client).or(server),
+        }
     }
 }
 

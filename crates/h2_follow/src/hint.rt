@@ -17,6 +17,12 @@ pub enum FollowHint {
     NoPreface,
     /// A frame is longer than the limit, and a greater one can be given.
     LongFrame,
+    /// SETTINGS allow a side more than can be read, so that its fault may be none.
+    NotChecked,
+    /// A block leaves a greater table than the SETTINGS of the other side allow.
+    Table,
     /// A side is at fault.
     Fault,
+    /// A side ends inside the preface or inside a frame.
+    CutOff,
 }

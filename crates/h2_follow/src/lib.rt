@@ -7,6 +7,7 @@
 mod follow;
 mod follower;
 mod hint;
+mod in_force;
 mod marks;
 mod one_side;
 mod text;

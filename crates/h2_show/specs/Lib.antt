@@ -9,3 +9,4 @@ pub mod Report
 pub mod Shown
 pub mod Viewer
 pub mod Printed
+pub mod Limited

@@ -76,6 +76,13 @@ impl Blocks {
         })
     }
 
+    /// The maximum of the decoder's table.
+    pub(crate) fn table_maximum(&self) -> u32
+        ensures { result ≡ self.now.decoder.table.maximum }
+    {
+        self.decoder.table().maximum()
+    }
+
     // contract: 4.3 A block that does not decode is COMPRESSION_ERROR, of the connection
     // contract: show (own) A list above 65,536 octets has one line, without fields
     /// Takes the next frame, and returns what [`Blocks::list`] has of the block that it ends.

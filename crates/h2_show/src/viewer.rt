@@ -9,6 +9,7 @@ ghost use Rattle.h2_show.specs.Styles.{AppendsLines, text_from};
 ghost use Rattle.h2_show.specs.Printed.{error_lines, end_lines, ViewerShows};
 ghost use Rattle.h2_show.specs.Printed.{ViewerPrints};
 ghost use Rattle.h2_show.specs.Printed.{ViewerFailsWith};
+ghost use Rattle.h2_show.specs.Limited.{ViewerLimited};
 ghost use Rattle.h2_show.specs.Report.{begins_with_preface, limits_of};
 ghost use Rattle.h2_show.specs.Viewer.{ViewerRepresents, ViewerContinues, ViewerFails};
 ghost use Rattle.h2_show.specs.Viewer.{IsStreamFault};
@@ -132,6 +133,26 @@ impl Viewer {
             self.printer.frame(frame, decoded, self.blocks.list(), out)?;
         }
         Ok(())
+    }
+
+    // contract: 4.2 (own) A cutter's limit is changed for heads that are still to come
+    // rule: 4.2 (own) A cutter's limit is changed for heads that are still to come
+    /// Sets the most octets of a payload, for heads whose ninth octet hasn't come yet.
+    pub fn set_max_frame(&mut self, max_frame: u32)
+        ensures limited { ViewerLimited self.old.cutter self.old.blocks self.old.printer.is_due
+            max_frame self.new.cutter self.new.blocks self.new.printer.is_due }
+        ensures unparsed { self.new.cutter.unparsed ≡ self.old.cutter.unparsed }
+        ensures printer { self.new.printer ≡ self.old.printer }
+    {
+        self.cutter.set_limit(max_frame);
+    }
+
+    // rule: HPACK 4.2 A block without the update that a lower limit asks for is a fault
+    /// The maximum of the table with which the blocks so far were decoded (RFC 7541, section 4.2).
+    pub fn table_maximum(&self) -> u32
+        ensures { result ≡ self.now.blocks.decoder.table.maximum }
+    {
+        self.blocks.table_maximum()
     }
 
     // contract: show (own) Lines are written before the next read and before the end

@@ -84,6 +84,18 @@ fn give_hint<E: Write>(hint: Option<FollowHint>, err: &mut E) {
             err,
             "hint: a frame is longer than the limit: --max-frame 1048576 takes longer frames"
         ),
+        Some(FollowHint::CutOff) => writeln!(
+            err,
+            "hint: a side ends inside a frame: the capture may end before the connection does"
+        ),
+        Some(FollowHint::NotChecked) => writeln!(
+            err,
+            "hint: SETTINGS allow more than is read: the fault may be none"
+        ),
+        Some(FollowHint::Table) => writeln!(
+            err,
+            "hint: a block leaves a greater table than the other side's SETTINGS allow"
+        ),
         Some(FollowHint::Fault) => writeln!(
             err,
             "hint: the capture may be at fault: has it all segments, from the connection's first?"

@@ -3,7 +3,8 @@ use Rattle.h2_follow.proofs.Names.{[], ◌∷◌, ◌++◌, ◌+◌, ap, arith, 
 use Rattle.std.proofs.KnownBytes.{Appends-nil}
 use Rattle.h2_follow.specs.FollowText.{pieces_read}
 use Rattle.h2_follow.proofs.LinesLemmas.{none_read, read_none, reads_next, counted_next}
-use Rattle.h2_follow.proofs.FollowLemmas.{ended_told, refused_told, texts_append}
+use Rattle.h2_follow.proofs.FollowLemmas.{ended_told, refused_told}
+use Rattle.h2_follow.proofs.StretchLemmas.{written_append}
 use Rattle.h2_follow.proofs.follow.follow_lines.Goals as goal
 
 pub loop-count-init : goal.loop-count-init
@@ -15,21 +16,21 @@ loop-count-init g c = (
   none_read (g.B.Read.remaining c.args.input.now),
   read_none,
   Appends-nil (g.W.Write.contents c.args.out.now),
-  λ max_frame shows. shows,
+  λ least shows. shows,
 )
 
 pub returns-then-branch-eq0-clause-follows : goal.returns-then-branch-eq0-clause-follows
 returns-then-branch-eq0-clause-follows g c =
-    let (lines, pieces, texts, counted, reads, read, written, shows) = c.loop-count.invariant in
+    let (lines, pieces, log, counted, reads, read, written, shows) = c.loop-count.invariant in
     ended_told (g.B.Read.remaining c.args.input.now) _ _ _ _ c.args.follower.now
-    c.loop-count.follower lines pieces texts c.loop-count.part c.in_ok-status.status reads read
+    c.loop-count.follower lines pieces log c.loop-count.part c.in_ok-status.status reads read
     written shows (c.in_ok-read_until.ensures.end c.if-branch-eq0.true) c.in_ok-status.ensures
 
 pub returns-in-Err-BadHex-clause-bad_line : goal.returns-in-Err-BadHex-clause-bad_line
 returns-in-Err-BadHex-clause-bad_line g c = λ bad.
-    let (lines, pieces, texts, counted, reads, read, written, shows) = c.loop-count.invariant in
+    let (lines, pieces, log, counted, reads, read, written, shows) = c.loop-count.invariant in
     refused_told (g.B.Read.remaining c.args.input.now) (g.B.Read.remaining c.read_until.new.self) _
-    _ c.args.follower.now c.loop-count.follower lines c.read_until.new.buf.items pieces texts
+    _ c.args.follower.now c.loop-count.follower lines c.read_until.new.buf.items pieces log
     c.loop-count.part (c.loop-count.count + 1) c.bad_line.result.hint
     (reads_next _ _ _ lines c.clear.new.self.items c.read_until.new.buf.items reads
     c.clear.ensures.items c.in_ok-read_until.ensures.bytes c.in_ok-read_until.ensures.rest
@@ -46,12 +47,12 @@ returns-in-Err-BadHex-clause-bad_line g c = λ bad.
 
 pub loop-count-preserved : goal.loop-count-preserved
 loop-count-preserved g c =
-    let (lines, pieces, texts, counted, reads, read, written, shows) = c.loop-count.invariant in
+    let (lines, pieces, log, counted, reads, read, written, shows) = c.loop-count.invariant in
     let (more, wrote, takes) = c.in_ok-take_line-in-Ok.ensures in
     let line = c.read_until.new.buf.items in (
       lines ++ line ∷ [],
       pieces ++ pieces_read c.in-Ok.next.read,
-      texts ++ more,
+      more ++ log,
       counted_next c.loop-count.count lines line counted,
       reads_next _ _ _ lines c.clear.new.self.items line reads c.clear.ensures.items
           c.in_ok-read_until.ensures.bytes c.in_ok-read_until.ensures.rest
@@ -63,6 +64,6 @@ loop-count-preserved g c =
             none,
           ))),
       rw c.deref.ensures.value at (c.in-Ok.ensures.ok lines pieces read),
-      texts_append _ _ _ texts more written wrote,
-      λ max_frame first. takes max_frame pieces texts (shows max_frame first),
+      written_append _ _ _ log more written wrote,
+      λ least first. takes least pieces log (shows least first),
     )

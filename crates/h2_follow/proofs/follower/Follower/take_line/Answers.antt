@@ -1,11 +1,9 @@
 -- Octets of a line are taken, where it gives some.
-use Rattle.h2_follow.proofs.FollowerLemmas.{none_shown, some_shown}
+use Rattle.h2_follow.proofs.FollowerLemmas.{none_shown}
 use Rattle.h2_follow.proofs.follower.Follower.take_line.Goals as goal
 
 pub returns-in-Some : goal.returns-in-Some
-returns-in-Some g c =
-    rw c.in-Some.is (some_shown c.take.result c.args.self.now c.take.new.self
-    (c.in-Some.read.node, c.in-Some.read.octets.items) _ _ c.take.ensures)
+returns-in-Some g c = rw c.in-Some.is c.take.ensures
 
 pub returns-in-None : goal.returns-in-None
 returns-in-None g c =

@@ -1,9 +1,13 @@
--- Nothing was printed.
-use Rattle.h2_show.proofs.PrintedText.{printed_none}
-use Rattle.h2_follow.specs.Follows.{side_options}
+-- Nothing has come.
+use Rattle.h2_follow.proofs.Names.{[], refl}
 use Rattle.h2_follow.proofs.one_side.OneSide.new.Goals as goal
 
 pub returns : goal.returns
-returns c =
-    printed_none c.in_ok-new.field-0.0 (side_options c.args.max_frame c.args.side)
-    c.in_ok-new.ensures.shows c.in_ok-new.ensures.style c.in_ok-new.ensures.first
+returns c = record {
+  shown = [];
+  viewer = c.in_ok-new.ensures.shows;
+  plain = c.in_ok-new.ensures.style;
+  text = refl;
+  scanner = rw c.begins_with_preface.ensures at c.new-2.ensures.represents;
+  keeps = tt;
+}
