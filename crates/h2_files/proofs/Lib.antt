@@ -1,0 +1,6 @@
+mod CutLemmas
+mod DigitLemmas
+mod EscapeLemmas
+mod ResultLemmas
+mod SegmentLemmas
+pub mod examples
