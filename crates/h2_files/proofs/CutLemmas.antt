@@ -1,6 +1,6 @@
 -- Where the first of some octet stands.
 use Rattle.std.proofs.Common.{◌≡◌, ℕ, ◌<◌, ◌+◌, ◌-◌, Bool, true, false, cond, List, length, take}
-use Rattle.std.proofs.Common.{drop, Option, Some, None, refl, sym, ltb, not, arith}
+use Rattle.std.proofs.Common.{drop, Some, None, refl, sym, ltb, not, arith}
 use Rattle.std.proofs.lemmas.List.{take_rest}
 use Rattle.std.proofs.lemmas.List.Sums.{prefix_len-le-length}
 use borrow.Author.Tests.{ltb-true, ltb-false}

@@ -1,7 +1,7 @@
 -- Texts of digits, and the numbers that they write.
 use Rattle.std.proofs.Common.{◌≡◌, ℕ, zero, suc, ◌<◌, ◌^◌, ◌&&◌, List, [], ◌∷◌, Bool, true, false}
-use Rattle.std.proofs.Common.{rules, arith, Option, Some, None, length, Result, Ok, Err, refl, sym}
-use Rattle.std.proofs.Common.{IsUtf8, if◌then◌else◌, ltb, ap, ◌∙◌, get_or}
+use Rattle.std.proofs.Common.{rules, arith, Some, None, length, Result, Ok, Err, refl, sym}
+use Rattle.std.proofs.Common.{IsUtf8, if◌then◌else◌, ap, get_or}
 use Rattle.std.proofs.lemmas.Bool.{lt-ltb}
 use Rattle.std.proofs.lemmas.Str.{IsUtf8-from_ascii}
 use Rattle.std.proofs.lemmas.Str.Parse.{IsNumeralModel, numerals_by_value}
@@ -9,7 +9,6 @@ use borrow.Author.Tests.{ltb-true, tests}
 use Rattle.std.specs.Char.{is_ascii_digit}
 use Rattle.std.specs.List.{list_all}
 use Rattle.std.specs.Result.{OkIff, result_ok}
-use Rattle.std.specs.Str.{IsAscii}
 use Rattle.std.specs.Str.Parse.{digits_value}
 use Rattle.h2_files.specs.Ranges.{number_of_digits}
 

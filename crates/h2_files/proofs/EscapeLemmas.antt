@@ -1,5 +1,5 @@
 -- Escapes, one octet after another.
-use Rattle.std.proofs.Common.{◌≡◌, ◌≢◌, ℕ, zero, suc, ◌<◌, ◌-◌, ◌∷◌, Bool, true, false, List, refl}
+use Rattle.std.proofs.Common.{◌≡◌, ◌≢◌, ℕ, zero, suc, ◌<◌, ◌-◌, ◌∷◌, true, false, List, refl}
 use Rattle.std.proofs.Common.{arith, eqb, ap}
 use Rattle.std.proofs.lemmas.Bool.{eqb-true, false_from_ne_true}
 use Rattle.std.specs.Char.{is_ascii_hexdigit}

@@ -1,5 +1,5 @@
 -- What a result is, once it is known whether it is one.
-use Rattle.std.proofs.Common.{◌≡◌, Bool, true, false, List, ℕ, Option, Some, Result, Ok, Err, IfOk}
+use Rattle.std.proofs.Common.{◌≡◌, List, ℕ, Some, Result, Ok, Err, IfOk}
 use Rattle.std.proofs.Common.{Bor, IsUtf8, MatchResult, None, sym}
 use Rattle.std.specs.Result.{result_ok}
 

@@ -1,7 +1,7 @@
 -- The names that the path of a request gives a file below a root (RFC 9113, section 8.3.1; RFC
 -- 3986, sections 2.1, 3.3 and 3.4).
 use Rattle.std.specs.Prelude.{◌≡◌, ◌≢◌, ◌==◌, ◌&&◌, ◌||◌, ℕ, zero, suc, Bool, true, false}
-use Rattle.std.specs.Prelude.{nat_lt, if◌then◌else◌, List, [], ◌∷◌, length, codes}
+use Rattle.std.specs.Prelude.{nat_lt, if◌then◌else◌, List, [], ◌∷◌, ◌++◌, length, codes}
 use Rattle.std.specs.Prelude.{Result, Ok, Err, Option, Some, None, Contains, string_bytes, map, String}
 use Rattle.std.specs.Char.{is_ascii_control, is_ascii_hexdigit}
 use Rattle.std.specs.List.{list_any, before_first, slice_split}
@@ -112,6 +112,11 @@ pub record StaysInFolder (name : List ℕ) : Type 0 where
   pub no_parent : name ≢ codes ".."
   pub no_slash : Contains name (byte "/") → ⊥
   pub no_nul : Contains name 0 → ⊥
+
+-- the path of names: a slash before each
+abbrev pub below : List (List ℕ) → List ℕ
+below [] = []
+below (name ∷ names) = byte "/" ∷ (name ++ below names)
 
 -- the octets of strings
 abbrev pub texts : {Z : Type 0} → List (String Z) → List (List ℕ)

@@ -33,7 +33,7 @@ unfoldable pub spec_of : (text : List ℕ) → Option RangeSpec
 spec_of text =
     if nat_lt (position_or_len (is_octet (byte "-")) text) (length text)
     then spec_of_texts (before_first (is_octet (byte "-")) text)
-        (after_first (is_octet (byte "-")) text)
+    (after_first (is_octet (byte "-")) text)
     else None
 
 -- the text after the unit `bytes` and its sign, whose case doesn't matter (14.1)

@@ -1,13 +1,14 @@
 //! The names that the path of a request gives a file below a root.
 
-ghost use Rattle.std.specs.Prelude.{◌≡◌, All, IfOk, string_bytes};
-ghost use Rattle.h2_files.specs.Paths.{GivesUnlessMemory, StaysInFolder, names_of, names_of_path};
-ghost use Rattle.h2_files.specs.Paths.{names_of_segments, path_part, segments, texts};
+ghost use Rattle.std.specs.Prelude.{◌≡◌, ◌++◌, All, IfOk, string_bytes};
+ghost use Rattle.h2_files.specs.Paths.{GivesUnlessMemory, StaysInFolder, below, names_of};
+ghost use Rattle.h2_files.specs.Paths.{names_of_path, names_of_segments, path_part, segments};
+ghost use Rattle.h2_files.specs.Paths.{texts};
 
 use crate::cut::divide;
 use crate::fault::PathFault;
 use crate::segments::{last_name_of, name_of_segment};
-use std::alloc::Global;
+use std::alloc::{AllocError, Global};
 
 /// The most octets of a path, without its query.
 pub const MAX_PATH: usize = 4096;
@@ -15,17 +16,35 @@ pub const MAX_PATH: usize = 4096;
 /// The names below a root that a `:path` gives, folders first (RFC 9113, section 8.3.1).
 ///
 /// Its query is dropped, and each segment's escapes are decoded once. A path that ends with a slash
-/// gives the folder's `index.html`. None of the names leaves its folder: see [`path_below`].
+/// gives the folder's `index.html`. No name leaves its folder: see [`path_below`].
 ///
 /// # Errors
 ///
 /// The [`PathFault`] of the path, or of the first name that is not served.
 pub fn file_names(alloc: Global, path: &[u8]) -> Result<Vec<String>, PathFault>
     ensures exact { GivesUnlessMemory (λ names. texts names.items) result (names_of path.now) }
-    ensures below { IfOk result
-        (λ names. All (λ name. StaysInFolder (string_bytes name)) names.items) }
+    ensures below { IfOk result (λ names. All StaysInFolder (texts names.items)) }
 {
     names_of_path(alloc, before_query(path))
+}
+
+/// The path of names below a root: the root, and a slash before each name.
+///
+/// With the names of [`file_names`] it stays below the root: its segments after the root are these
+/// names (the law [`segments_are_names`](crate::segments_are_names)), and none of them is `..`.
+///
+/// # Errors
+///
+/// Where memory is missing.
+pub fn path_below(alloc: Global, root: &str, names: &[String]) -> Result<String, AllocError>
+    ensures { IfOk result (λ path. string_bytes path ≡ root.now ++ below (texts names.now)) }
+{
+    let mut path = String::from_str(alloc, root)?;
+    for name in names {
+        path.push('/')?;
+        path.push_str(name.as_str())?;
+    }
+    Ok(path)
 }
 
 /// What stands before the query (RFC 3986, section 3.4).

@@ -1,6 +1,5 @@
 -- Paths of requests: the names that each gives, or why it is refused.
-use Rattle.std.specs.Prelude.{◌≡◌, ℕ, List, [], ◌∷◌, ◌++◌, map, codes, replicate, Result, Ok, Err, refl}
-use Rattle.h2_files.specs.declared.fault.PathFault.{PathFault}
+use Rattle.std.specs.Prelude.{◌≡◌, [], ◌∷◌, ◌++◌, map, codes, replicate, Ok, Err, refl}
 use Rattle.h2_files.specs.declared.fault.PathFault.TheVariants as faults
 use Rattle.h2_files.specs.Paths.{names_of}
 use Rattle.h2_files.proofs.examples.Computing.{computing}

@@ -1,5 +1,5 @@
 -- What fields `range` ask for (RFC 9110, section 14.1.2).
-use Rattle.std.specs.Prelude.{◌≡◌, [], ◌∷◌, ◌++◌, map, codes, replicate, refl}
+use Rattle.std.specs.Prelude.{◌≡◌, [], ◌∷◌, map, codes, replicate, refl}
 use Rattle.h2_files.specs.declared.range.Ranged.TheVariants.{Ignored, Part, Unsatisfiable}
 use Rattle.h2_files.specs.Ranges.{content_range, range_of, unsatisfied_range}
 use Rattle.h2_files.proofs.examples.Computing.{computing}

@@ -1,4 +1,4 @@
-use Rattle.std.proofs.Common.{◌≡◌, ℕ, length}
+use Rattle.std.proofs.Common.{◌≡◌, length}
 use Rattle.h2_files.specs.Paths.{names_of_segments, segments, texts}
 use Rattle.h2_files.proofs.SegmentLemmas.{with_front}
 use Rattle.h2_files.proofs.names.names_of_segments.Given as goal

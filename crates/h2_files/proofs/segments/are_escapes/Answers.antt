@@ -1,5 +1,5 @@
 -- One octet more: a digit that is due, a `%`, or another one.
-use Rattle.std.proofs.Common.{◌≡◌, ◌∷◌, ◌+◌, ◌<◌, drop, get_or, sym, ap, ◌∙◌, arith}
+use Rattle.std.proofs.Common.{◌≡◌, ◌∷◌, ◌+◌, drop, get_or, sym, ap, ◌∙◌, arith}
 use Rattle.std.proofs.lemmas.List.{drop_more}
 use Rattle.h2_files.specs.Paths.{are_escapes}
 use Rattle.h2_files.proofs.EscapeLemmas.{digit_due, no_percent, percent}
@@ -22,9 +22,9 @@ loop-octet-preserved c =
       | then-due-gt0+else-not-is_ascii_hexdigit w ↦ (
         omega arith,
         rw w.due-is
-        (sym (digit_due c.loop-octet.due octet rest w.if-due-gt0.true
-        (sym w.is_ascii_hexdigit.ensures.value ∙ w.if-not-is_ascii_hexdigit.false))
-        ∙ before),
+            (sym (digit_due c.loop-octet.due octet rest w.if-due-gt0.true
+            (sym w.is_ascii_hexdigit.ensures.value ∙ w.if-not-is_ascii_hexdigit.false))
+            ∙ before),
       )
       | else-due-gt0+then-octet-eq37 w ↦
           let none : c.loop-octet.due ≡ 0 = omega arith in (
@@ -35,6 +35,6 @@ loop-octet-preserved c =
           let none : c.loop-octet.due ≡ 0 = omega arith in (
             omega arith,
             rw (w.due-is, none)
-            (sym (no_percent octet rest w.if-octet-eq37.false) ∙ (rw none at before)),
+                (sym (no_percent octet rest w.if-octet-eq37.false) ∙ (rw none at before)),
           )
     ]

@@ -8,6 +8,6 @@ pub returns : goal.returns
 returns c = (
   c.in_ok-date.date,
   holds_of (λ date. unix_secs date ≡ c.args.self.now.modified) c.from_unix_secs.result
-  c.in_ok-date.date c.from_unix_secs.ensures.value (sym c.in_ok-date.ensures.value),
+      c.in_ok-date.date c.from_unix_secs.ensures.value (sym c.in_ok-date.ensures.value),
   c.to_bytes.ensures,
 )
