@@ -3,5 +3,6 @@
 pub mod Computing
 pub mod Conditions
 pub mod MediaTypes
+pub mod Methods
 pub mod Paths
 pub mod Ranges

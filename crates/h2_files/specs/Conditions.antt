@@ -100,6 +100,7 @@ asked_of conditions = record {
 }
 
 -- Which answer a request has, in the order of section 13.2.2.
+-- rule: HTTP 13.2.2 Conditions are evaluated in one order, before a range
 abbrev pub file_answer : Validators → Method → Asked → Answer
 file_answer version method asked =
     if not (passes_first version asked.if_match asked.if_unmodified_since)

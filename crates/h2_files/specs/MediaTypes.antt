@@ -8,6 +8,7 @@ abbrev pub any_octets : List ℕ
 any_octets = codes "application/octet-stream"
 
 -- the type by the extension of a name; texts have the charset UTF-8
+-- rule: files (own) The type of a file goes by the extension of its name
 unfoldable pub type_of_extension : (extension : List ℕ) → List ℕ
 type_of_extension e =
     if bytes_eq e (codes "html") || bytes_eq e (codes "htm") then codes "text/html; charset=utf-8"

@@ -43,6 +43,7 @@ begins_with_dot (first ∷ rest) = first == byte "."
 
 -- Why a name is not served, but for what is no text: the first reason. NUL, which ends a name for
 -- the system, is a control character.
+-- rule: files (own) A name that leaves its folder, or is hidden, is refused
 unfoldable pub name_fault : List ℕ → Option PathFault
 name_fault name =
     if length name == 0 then Some faults.Empty
@@ -66,6 +67,7 @@ unfoldable pub checked_name : List ℕ → Result (List ℕ) PathFault
 checked_name name = text_unless (name_fault name) name
 
 -- The name of a segment: its escapes are replaced by their octets, once (RFC 3986, section 2.4).
+-- rule: files (own) A path is cut at its slashes, and a segment decoded once
 unfoldable pub name_of_segment : (segment : List ℕ) → Result (List ℕ) PathFault
 name_of_segment segment =
     if are_escapes 0 segment then checked_name (percent_decode segment) else Err faults.BadEscape
@@ -82,6 +84,7 @@ with_name (Ok name) (Err fault) = Err fault
 with_name (Err fault) names = Err fault
 
 -- the names of segments, or the first fault
+-- rule: files (own) A path is cut at its slashes, and a segment decoded once
 abbrev pub names_of_segments : List (List ℕ) → Result (List (List ℕ)) PathFault
 names_of_segments [] = Ok []
 names_of_segments (segment ∷ []) = with_name (last_name_of segment) (Ok [])
@@ -106,6 +109,7 @@ names_of target = names_of_path (path_part target)
 
 -- A name that stays in its folder: it is not empty, is neither `.` nor `..`, and has neither a
 -- slash nor a NUL.
+-- rule: files (own) A name that leaves its folder, or is hidden, is refused
 pub record StaysInFolder (name : List ℕ) : Type 0 where
   pub some : name ≢ []
   pub no_dot : name ≢ codes "."

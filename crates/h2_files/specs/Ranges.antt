@@ -47,6 +47,7 @@ after_unit value =
 -- one beyond the end can't be satisfied, and a last octet beyond the end is the end; a suffix of no
 -- octets can't be satisfied, and one that is too long is all. Of an empty file a suffix is ignored,
 -- since no `content-range` says so (own).
+-- rule: HTTP 14.2 One range gives octets of the file, is ignored, or has 416
 unfoldable pub octets_of_range : RangeSpec → (length : ℕ) → Ranged
 octets_of_range (specs.From first) length =
     if nat_lt first length then ranges.Part first (length - 1) else ranges.Unsatisfiable
@@ -65,6 +66,7 @@ octets_or_ignored None length = ranges.Ignored
 octets_or_ignored (Some spec) length = octets_of_range spec length
 
 -- what a field `range` asks for of so many octets
+-- rule: HTTP 14.2 One range gives octets of the file, is ignored, or has 416
 abbrev pub range_of : (value : List ℕ) → (length : ℕ) → Ranged
 range_of value length = octets_or_ignored (option_and_then spec_of (after_unit value)) length
 

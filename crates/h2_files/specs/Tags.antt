@@ -56,10 +56,12 @@ trimmed octets =
     take (length from - suffix_len is_ascii_whitespace from) from
 
 -- Both tags are strong, and the same (8.8.3.2).
+-- rule: HTTP 8.8.3 A tag means a version by the strong or the weak comparison
 abbrev pub is_strongly : Validators → (tag : List ℕ) → Bool
 is_strongly version tag = not version.weak && bytes_eq tag version.opaque
 
 -- The opaque parts are the same, whether the tags are weak or not (8.8.3.2).
+-- rule: HTTP 8.8.3 A tag means a version by the strong or the weak comparison
 abbrev pub is_weakly : Validators → (tag : List ℕ) → Bool
 is_weakly version tag = bytes_eq (opaque_part tag) version.opaque
 

@@ -68,6 +68,9 @@ impl Conditions<'_> {
     ghost use Rattle.h2_files.specs.Conditions.{passes_second, range_answer};
     ghost use Rattle.h2_files.specs.Tags.{validators_of};
 
+    // contract: HTTP 8.8.3 A tag means a version by the strong or the weak comparison
+    // rule: HTTP 13.2.2 Conditions are evaluated in one order, before a range
+    // contract: HTTP 13.2.2 Conditions are evaluated in one order, before a range
     /// Which answer a request for this version has (RFC 9110, section 13.2.2).
     pub fn answer(&self, method: Method, version: &Version) -> Answer
         ensures { result ≡ file_answer (validators_of version.now) method (asked_of self.now) }

@@ -8,6 +8,8 @@ use std::path::Path;
 /// The type of octets of which nothing is known.
 const ANY_OCTETS: &str = "application/octet-stream";
 
+// contract: files (own) The type of a file goes by the extension of its name
+// rule: files (own) The type of a file goes by the extension of its name
 /// The value of a field `content-type` by what stands after the name's last dot, in lower case (RFC
 /// 9110, section 8.3); `application/octet-stream` where that says nothing. Texts have the charset
 /// UTF-8.

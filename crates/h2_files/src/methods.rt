@@ -17,6 +17,8 @@ pub enum Method {
 }
 
 impl Method {
+    // rule: HTTP 15.5.6 GET and HEAD are served, and another method has 405
+    // contract: HTTP 15.5.6 GET and HEAD are served, and another method has 405
     /// The method of a `:method`, whose case matters (RFC 9110, section 9.1).
     ///
     /// None is answered with 405 and the field `allow` of [`ALLOW`].

@@ -13,6 +13,8 @@ use std::alloc::{AllocError, Global};
 /// The most octets of a path, without its query.
 pub const MAX_PATH: usize = 4096;
 
+// contract: files (own) A path is cut at its slashes, and a segment decoded once
+// contract: files (own) A name that leaves its folder, or is hidden, is refused
 /// The names below a root that a `:path` gives, folders first (RFC 9113, section 8.3.1).
 ///
 /// Its query is dropped, and each segment's escapes are decoded once. A path that ends with a slash

@@ -37,6 +37,7 @@ pub(crate) enum RangeSpec {
     Suffix(u64),
 }
 
+// contract: HTTP 14.2 One range gives octets of the file, is ignored, or has 416
 /// What the value of a field `range` asks for of a file of so many octets.
 ///
 /// It is ignored where it is malformed, has another unit than `bytes`, several ranges, or a number
@@ -81,6 +82,7 @@ pub fn unsatisfied_range(alloc: Global, length: u64) -> Result<String, AllocErro
 }
 
 impl RangeSpec {
+    // rule: HTTP 14.2 One range gives octets of the file, is ignored, or has 416
     /// Which octets it means of a file of so many.
     #[tactic(auto, unfolding(crate::specs::Ranges::octets_of_range))]
     fn octets_of_range(self, length: u64) -> Ranged

@@ -14,6 +14,7 @@ use std::alloc::Global;
 /// The most octets of a name.
 pub const MAX_NAME: usize = 255;
 
+// rule: files (own) A path is cut at its slashes, and a segment decoded once
 /// The name that a segment gives: its escapes are decoded once.
 #[tactic(auto, unfolding(crate::specs::Paths::name_of_segment))]
 pub(crate) fn name_of_segment(alloc: Global, segment: &[u8]) -> Result<String, PathFault>
@@ -59,6 +60,7 @@ fn text_of(octets: Vec<u8>) -> Result<String, PathFault>
     }
 }
 
+// rule: files (own) A name that leaves its folder, or is hidden, is refused
 /// Why a name is not served, but for what is no text: the first reason.
 #[tactic(auto, unfolding(crate::specs::Paths::name_fault))]
 fn name_fault(name: &[u8]) -> Option<PathFault>

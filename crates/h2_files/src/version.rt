@@ -102,6 +102,7 @@ impl Version {
         tag == b"*".as_slice() || self.is_weakly(tag)
     }
 
+    // rule: HTTP 8.8.3 A tag means a version by the strong or the weak comparison
     /// Whether a tag and this version's are strong and the same (RFC 9110, section 8.8.3.2).
     pub(crate) fn is_strongly(&self, tag: &[u8]) -> bool
         ensures { result ≡ is_strongly (validators_of self.now) tag.now }
@@ -109,6 +110,7 @@ impl Version {
         !self.weak && tag == self.opaque.as_bytes()
     }
 
+    // rule: HTTP 8.8.3 A tag means a version by the strong or the weak comparison
     /// Whether a tag and this version's have the same opaque part (RFC 9110, section 8.8.3.2).
     fn is_weakly(&self, tag: &[u8]) -> bool
         ensures { result ≡ is_weakly (validators_of self.now) tag.now }

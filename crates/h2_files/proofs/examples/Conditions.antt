@@ -26,6 +26,7 @@ unfolding computing
 tags = refl
 
 -- `if-match` compares strongly: the tag, in a list, and any; not another one, a weak one, nor nothing.
+-- rule: HTTP 8.8.3 A tag means a version by the strong or the weak comparison
 matches :
     (map (holds_match strong) (codes "\"784111777-10\"" ∷ codes "\"a\" , \"784111777-10\"" ∷
     codes "*" ∷ codes " *" ∷ [])
@@ -40,6 +41,7 @@ unfolding computing
 matches = (refl, refl, refl)
 
 -- `if-none-match` compares weakly.
+-- rule: HTTP 8.8.3 A tag means a version by the strong or the weak comparison
 none_matches :
     (map (holds_none_match strong) (codes "\"784111777-10\"" ∷ codes "W/\"784111777-10\"" ∷
     codes "\"a\",,\"784111777-10\"" ∷ codes "*" ∷ [])
@@ -102,6 +104,7 @@ unfolding computing
 without_conditions = refl
 
 -- The first two steps go before the next two, and these before a range; a tag goes before a date.
+-- rule: HTTP 13.2.2 Conditions are evaluated in one order, before a range
 orders :
     map (file_answer strong Get) (
     record two { if_match = Some (codes "\"a\""); if_none_match = Some (codes "*") }
@@ -124,6 +127,7 @@ orders = refl
 
 -- Another tag is no reason for 304; a range goes where `if-range` holds, and without a range that
 -- says nothing.
+-- rule: HTTP 13.2.2 Conditions are evaluated in one order, before a range
 ranges_of_versions :
     map (file_answer strong Get) (
     record plain { if_none_match = Some (codes "\"a\"") }

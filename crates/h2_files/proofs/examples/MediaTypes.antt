@@ -4,6 +4,7 @@ use Rattle.h2_files.specs.MediaTypes.{any_octets, media_type}
 use Rattle.h2_files.proofs.examples.Computing.{computing}
 
 -- Texts have their charset, others have none.
+-- rule: files (own) The type of a file goes by the extension of its name
 types :
     map media_type (codes "index.html" ∷ codes "a.b.css" ∷ codes "a.svg" ∷ codes "b.json" ∷ [])
     ≡ codes "text/html; charset=utf-8" ∷ codes "text/css; charset=utf-8"

@@ -5,6 +5,7 @@ use Rattle.h2_files.specs.Paths.{names_of}
 use Rattle.h2_files.proofs.examples.Computing.{computing}
 
 -- A file, one in a folder, and the index of a folder and of the root.
+-- rule: files (own) A path is cut at its slashes, and a segment decoded once
 files :
     map names_of (codes "/a" ∷ codes "/b/a.txt" ∷ codes "/b/" ∷ codes "/" ∷ [])
     ≡ Ok (codes "a" ∷ []) ∷ Ok (codes "b" ∷ codes "a.txt" ∷ [])
@@ -21,6 +22,7 @@ unfolding computing
 queries = refl
 
 -- Escapes are decoded once, in any case: what comes out of one is no escape.
+-- rule: files (own) A path is cut at its slashes, and a segment decoded once
 escapes :
     map names_of (codes "/%61" ∷ codes "/%4a%4A" ∷ codes "/a%20b" ∷ codes "/%2561" ∷
     codes "/%252e%252e/a" ∷ codes "/a+b" ∷ codes "/%C3%A9" ∷ [])
@@ -40,6 +42,7 @@ bad_escapes = refl
 
 -- Names that begin with a dot, by themselves or out of escapes, in any place; one in a name does not
 -- matter.
+-- rule: files (own) A name that leaves its folder, or is hidden, is refused
 dots :
     (map names_of (codes "/." ∷ codes "/.." ∷ codes "/../a" ∷ codes "/a/../b" ∷ codes "/a/.." ∷
     codes "/%2e%2e/a" ∷ codes "/%2E./a" ∷ codes "/a/%2e" ∷ codes "/.git/config" ∷
@@ -51,6 +54,7 @@ unfolding computing
 dots = (refl, refl)
 
 -- Slashes out of escapes, and backslashes.
+-- rule: files (own) A name that leaves its folder, or is hidden, is refused
 separators :
     map names_of (codes "/a%2Fb" ∷ codes "/a%2fb" ∷ codes "/%2f" ∷ codes "/a\\b" ∷ codes "/a%5Cb" ∷
     codes "/a%5c..%5cb" ∷ [])

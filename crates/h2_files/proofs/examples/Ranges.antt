@@ -5,6 +5,7 @@ use Rattle.h2_files.specs.Ranges.{content_range, range_of, unsatisfied_range}
 use Rattle.h2_files.proofs.examples.Computing.{computing}
 
 -- Of 10,000 octets: the section's own examples.
+-- rule: HTTP 14.2 One range gives octets of the file, is ignored, or has 416
 of_ten_thousand :
     map (λ value. range_of value 10000) (codes "bytes=0-499" ∷ codes "bytes=500-999" ∷
     codes "bytes=-500" ∷ codes "bytes=9500-" ∷ codes "bytes=0-0" ∷ codes "bytes=-1" ∷ [])
@@ -15,6 +16,7 @@ of_ten_thousand = refl
 
 -- The end: a last octet at it and beyond it, a first octet at the last and after it, suffixes that
 -- are as long as the file, longer, and empty.
+-- rule: HTTP 14.2 One range gives octets of the file, is ignored, or has 416
 at_the_end :
     map (λ value. range_of value 10) (codes "bytes=0-" ∷ codes "bytes=0-9" ∷ codes "bytes=0-10" ∷
     codes "bytes=9-" ∷ codes "bytes=10-" ∷ codes "bytes=10-11" ∷ codes "bytes=-10" ∷
@@ -32,6 +34,7 @@ unfolding computing
 of_nothing = refl
 
 -- What is ignored: another unit, none, several ranges, blanks, signs, a first octet after the last.
+-- rule: HTTP 14.2 One range gives octets of the file, is ignored, or has 416
 ignored :
     map (λ value. range_of value 10) (
     [] ∷ codes "bytes" ∷ codes "bytes=" ∷ codes "bytes=-" ∷ codes "lines=0-1" ∷ codes "0-1" ∷
