@@ -44,6 +44,7 @@ pub number_from : {E : Type 0} (ds : List ℕ) (r : Result ℕ E) → list_all i
     → result_ok r ≡ number_of_digits ds
 unfolding number_of_digits
 number_from ds (Ok x) all (within, is) =
-    rw (all, lt-ltb 0 (length ds) within.0, lt-ltb (digits_value 10 ds) (2 ^ 64) within.1) (ap Some is)
+    rw (all, lt-ltb 0 (length ds) within.0, lt-ltb (digits_value 10 ds) (2 ^ 64) within.1)
+    (ap Some is)
 number_from ds (Err e) all none =
     rw all (sym (both _ _ _ (λ some small. none (ltb-true _ _ some, ltb-true _ _ small))))

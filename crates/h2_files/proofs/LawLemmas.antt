@@ -8,7 +8,8 @@ use Rattle.h2_files.specs.Cuts.{is_octet}
 use Rattle.h2_files.specs.Paths.{StaysInFolder, below, segments}
 
 -- No octet of a name without a slash is one.
-no_slash_in : (name : List ℕ) → (Contains name 47 → ⊥) → All (λ octet. is_octet 47 octet ≡ false) name
+no_slash_in : (name : List ℕ) → (Contains name 47 → ⊥)
+    → All (λ octet. is_octet 47 octet ≡ false) name
 no_slash_in name none =
     All-weaker (Contains name) _
     (λ octet has. false_from_ne_true (eqb octet 47)

@@ -1,5 +1,6 @@
 -- The segments of a path, one after another.
-use Rattle.std.proofs.Common.{◌≡◌, ℕ, ◌<◌, ◌+◌, Bool, true, false, List, [], ◌∷◌, ◌++◌, length, not}
+use Rattle.std.proofs.Common.{◌≡◌, ℕ, ◌<◌, ◌+◌, Bool, true, false, List, [], ◌∷◌, ◌++◌, length}
+use Rattle.std.proofs.Common.{not}
 use Rattle.std.proofs.Common.{Result, Ok, Err, refl, sym, ap, ◌∙◌, arith, append_assoc, cond}
 use Rattle.std.proofs.lemmas.List.Splits.{length-slice_split, slice_split_first}
 use Rattle.std.specs.List.{before_first, after_first, position_or_len, slice_split}

@@ -69,7 +69,8 @@ text_stays : (fault : Option PathFault) (octets name : List ℕ)
     → text_unless fault octets ≡ Ok name → (fault ≡ None) × (octets ≡ name)
 text_stays (Some fault) octets name read = absurd (cc)
 text_stays None octets name read =
-    let same : Ok octets ≡ Ok name = accepted (is_utf8 octets) _ (Ok octets) name read in (refl, cc)
+    let same : Ok octets ≡ Ok name = accepted (is_utf8 octets) _ (Ok octets) name read in
+    (refl, cc)
 
 -- A name that is answered stays in its folder.
 name_stays : (segment name : List ℕ) → name_of_segment segment ≡ Ok name → StaysInFolder name

@@ -1,5 +1,7 @@
--- Which answer a request for a file has, by its conditions and its range (RFC 9110, section 13.2.2).
-use Rattle.std.specs.Prelude.{◌==◌, ◌&&◌, ◌||◌, ℕ, nat_le, Bool, true, false, not, if◌then◌else◌, List}
+-- Which answer a request for a file has, by its conditions and its range (RFC 9110, section
+-- 13.2.2).
+use Rattle.std.specs.Prelude.{◌==◌, ◌&&◌, ◌||◌, ℕ, nat_le, Bool, true, false, not, if◌then◌else◌}
+use Rattle.std.specs.Prelude.{List}
 use Rattle.std.specs.Prelude.{Option, Some, None, option_copied}
 use Rattle.httpdate.specs.Date.{parse_secs}
 use Rattle.h2_files.specs.Ranges.{range_of}
@@ -43,8 +45,8 @@ abbrev pub is_at : Validators → Option ℕ → Bool
 is_at version None = false
 is_at version (Some seconds) = version.modified == seconds
 
--- `if-range` holds (13.1.5): its tag is that of the version by the strong comparison, or its date is
--- exactly that of the version, and that is a strong validator
+-- `if-range` holds (13.1.5): its tag is that of the version by the strong comparison, or its date
+-- is exactly that of the version, and that is a strong validator
 abbrev pub holds_range : Validators → (value : List ℕ) → Bool
 holds_range version value =
     is_strongly version value || (not version.weak && is_at version (parse_secs value))

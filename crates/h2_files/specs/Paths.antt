@@ -2,7 +2,8 @@
 -- 3986, sections 2.1, 3.3 and 3.4).
 use Rattle.std.specs.Prelude.{◌≡◌, ◌≢◌, ◌==◌, ◌&&◌, ◌||◌, ℕ, zero, suc, Bool, true, false}
 use Rattle.std.specs.Prelude.{nat_lt, if◌then◌else◌, List, [], ◌∷◌, ◌++◌, length, codes}
-use Rattle.std.specs.Prelude.{Result, Ok, Err, Option, Some, None, Contains, string_bytes, map, String}
+use Rattle.std.specs.Prelude.{Result, Ok, Err, Option, Some, None, Contains, string_bytes, map}
+use Rattle.std.specs.Prelude.{String}
 use Rattle.std.specs.Char.{is_ascii_control, is_ascii_hexdigit}
 use Rattle.std.specs.List.{list_any, before_first, slice_split}
 use Rattle.std.specs.Str.{byte, is_utf8}
@@ -54,13 +55,13 @@ name_fault name =
     else None
 
 -- octets that are UTF-8
-abbrev pub text_of : List ℕ → Result (List ℕ) PathFault
-text_of octets = if is_utf8 octets then Ok octets else Err faults.NotText
+abbrev pub text_of_octets : List ℕ → Result (List ℕ) PathFault
+text_of_octets octets = if is_utf8 octets then Ok octets else Err faults.NotText
 
 -- octets that are UTF-8, unless there is a fault
 abbrev pub text_unless : Option PathFault → List ℕ → Result (List ℕ) PathFault
 text_unless (Some fault) octets = Err fault
-text_unless None octets = text_of octets
+text_unless None octets = text_of_octets octets
 
 -- A name that is served, or the first reason why it isn't.
 unfoldable pub checked_name : List ℕ → Result (List ℕ) PathFault
@@ -74,7 +75,8 @@ name_of_segment segment =
 
 -- the name of the last segment: an empty one, after a last slash, means the folder's index
 unfoldable pub last_name_of : (segment : List ℕ) → Result (List ℕ) PathFault
-last_name_of segment = if length segment == 0 then Ok (codes "index.html") else name_of_segment segment
+last_name_of segment =
+    if length segment == 0 then Ok (codes "index.html") else name_of_segment segment
 
 -- a name and those after it, or the first fault
 abbrev pub with_name :
@@ -91,7 +93,8 @@ names_of_segments (segment ∷ []) = with_name (last_name_of segment) (Ok [])
 names_of_segments (segment ∷ next ∷ more) =
     with_name (name_of_segment segment) (names_of_segments (next ∷ more))
 
--- the segments of an absolute path: what its slashes divide, after the first (RFC 3986, section 3.3)
+-- the segments of an absolute path: what its slashes divide, after the first (RFC 3986, section
+-- 3.3)
 abbrev pub segments : (rest : List ℕ) → List (List ℕ)
 segments rest = slice_split (is_octet (byte "/")) rest
 

@@ -12,7 +12,8 @@ use Rattle.h2_files.specs.declared.range.RangeSpec.TheVariants as specs
 use Rattle.h2_files.specs.declared.range.Ranged.{Ranged}
 use Rattle.h2_files.specs.declared.range.Ranged.TheVariants as ranges
 
--- the number of one or more digits, if it is below 2^64 (14.1.2: first-pos, last-pos, suffix-length)
+-- the number of one or more digits, if it is below 2^64 (14.1.2: first-pos, last-pos,
+-- suffix-length)
 unfoldable pub number_of_digits : (digits : List ℕ) → Option ℕ
 number_of_digits digits =
     if list_all is_ascii_digit digits && nat_lt 0 (length digits)
@@ -43,10 +44,10 @@ after_unit value =
     then Some (drop 6 value)
     else None
 
--- Which octets a range means of so many (14.1.2, 15.5.17): a first octet after the last is no range,
--- one beyond the end can't be satisfied, and a last octet beyond the end is the end; a suffix of no
--- octets can't be satisfied, and one that is too long is all. Of an empty file a suffix is ignored,
--- since no `content-range` says so (own).
+-- Which octets a range means of so many (14.1.2, 15.5.17): a first octet after the last is no
+-- range, one beyond the end can't be satisfied, and a last octet beyond the end is the end; a
+-- suffix of no octets can't be satisfied, and one that is too long is all. Of an empty file a
+-- suffix is ignored, since no `content-range` says so (own).
 -- rule: HTTP 14.2 One range gives octets of the file, is ignored, or has 416
 unfoldable pub octets_of_range : RangeSpec → (length : ℕ) → Ranged
 octets_of_range (specs.From first) length =

@@ -2,8 +2,8 @@
 //!
 //! [`file_names`] reads the path of a request as names below a root, and refuses what would leave
 //! it; [`path_below`] joins them. [`media_type`] is the type of a file by its name. [`Version`] is
-//! what a file's validators are made of, and [`Conditions::answer`] which of 200, 206, 304, 412 and
-//! 416 an answer has (RFC 9110, sections 13 and 14).
+//! what a file's validators are made of, and [`Conditions::answer`] which of 200, 206, 304, 412
+//! and 416 an answer has (RFC 9110, sections 13 and 14).
 #![tactic(auto)]
 
 mod conditions;

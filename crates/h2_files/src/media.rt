@@ -10,9 +10,9 @@ const ANY_OCTETS: &str = "application/octet-stream";
 
 // contract: files (own) The type of a file goes by the extension of its name
 // rule: files (own) The type of a file goes by the extension of its name
-/// The value of a field `content-type` by what stands after the name's last dot, in lower case (RFC
-/// 9110, section 8.3); `application/octet-stream` where that says nothing. Texts have the charset
-/// UTF-8.
+/// The value of a field `content-type` by what stands after the name's last dot, in lower case
+/// (RFC 9110, section 8.3); `application/octet-stream` where that says nothing. Texts have the
+/// charset UTF-8.
 pub fn media_type(name: &str) -> &'static str
     ensures { result.now ≡ media_type name.now }
 {

@@ -17,8 +17,8 @@ pub const MAX_PATH: usize = 4096;
 // contract: files (own) A name that leaves its folder, or is hidden, is refused
 /// The names below a root that a `:path` gives, folders first (RFC 9113, section 8.3.1).
 ///
-/// Its query is dropped, and each segment's escapes are decoded once. A path that ends with a slash
-/// gives the folder's `index.html`. No name leaves its folder: see [`path_below`].
+/// Its query is dropped, and each segment's escapes are decoded once. A path that ends with a
+/// slash gives the folder's `index.html`. No name leaves its folder: see [`path_below`].
 ///
 /// # Errors
 ///

@@ -5,7 +5,7 @@ ghost use Rattle.std.specs.Char.{is_ascii_control};
 ghost use Rattle.std.specs.List.{list_any};
 ghost use Rattle.h2_files.specs.Paths.{GivesUnlessMemory, are_escapes, begins_with_dot};
 ghost use Rattle.h2_files.specs.Paths.{checked_name, is_separator, last_name_of};
-ghost use Rattle.h2_files.specs.Paths.{name_fault, name_of_segment, text_of};
+ghost use Rattle.h2_files.specs.Paths.{name_fault, name_of_segment, text_of_octets};
 
 use crate::fault::PathFault;
 use percent_encoding::percent_decode;
@@ -46,13 +46,13 @@ fn checked_name(name: Vec<u8>) -> Result<String, PathFault>
 {
     match name_fault(name.as_slice()) {
         Some(fault) => Err(fault),
-        None => text_of(name),
+        None => text_of_octets(name),
     }
 }
 
 /// Octets as a text.
-fn text_of(octets: Vec<u8>) -> Result<String, PathFault>
-    ensures { GivesUnlessMemory string_bytes result (text_of octets.items) }
+fn text_of_octets(octets: Vec<u8>) -> Result<String, PathFault>
+    ensures { GivesUnlessMemory string_bytes result (text_of_octets octets.items) }
 {
     match String::from_utf8(octets) {
         Ok(text) => Ok(text),

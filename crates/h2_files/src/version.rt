@@ -33,7 +33,7 @@ impl Version {
     /// # Errors
     ///
     /// Where memory is missing.
-    pub fn new(alloc: Global, length: u64, modified: u64, weak: bool) -> Result<Version, AllocError>
+    pub fn new(alloc: Global, length: u64, modified: u64, weak: bool) -> Result<Self, AllocError>
         ensures { IfOk result
             (λ version. validators_of version ≡ validators length modified weak) }
     {

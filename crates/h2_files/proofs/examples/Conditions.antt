@@ -5,13 +5,14 @@ use Rattle.h2_files.specs.declared.conditions.Answer.TheVariants.{NotModified, P
 use Rattle.h2_files.specs.declared.conditions.Answer.TheVariants.{PreconditionFailed}
 use Rattle.h2_files.specs.declared.conditions.Answer.TheVariants.{Unsatisfiable, Whole}
 use Rattle.h2_files.specs.declared.methods.Method.TheVariants.{Get, Head}
-use Rattle.h2_files.specs.Conditions.{Asked, file_answer, holds_match, holds_none_match, holds_range}
+use Rattle.h2_files.specs.Conditions.{Asked, file_answer, holds_match, holds_none_match}
+use Rattle.h2_files.specs.Conditions.{holds_range}
 use Rattle.h2_files.specs.Conditions.{holds_modified_since, holds_unmodified_since}
 use Rattle.h2_files.specs.Tags.{Validators, entity_tag, validators}
 use Rattle.h2_files.proofs.examples.Computing.{computing}
 
--- A file of 10 octets that was modified at the second of section 5.6.7's dates: a strong version and
--- a weak one.
+-- A file of 10 octets that was modified at the second of section 5.6.7's dates: a strong version
+-- and a weak one.
 abbrev strong : Validators
 strong = validators 10 784111777 false
 
@@ -25,7 +26,8 @@ tags :
 unfolding computing
 tags = refl
 
--- `if-match` compares strongly: the tag, in a list, and any; not another one, a weak one, nor nothing.
+-- `if-match` compares strongly: the tag, in a list, and any; not another one, a weak one, nor
+-- nothing.
 -- rule: HTTP 8.8.3 A tag means a version by the strong or the weak comparison
 matches :
     (map (holds_match strong) (codes "\"784111777-10\"" ∷ codes "\"a\" , \"784111777-10\"" ∷

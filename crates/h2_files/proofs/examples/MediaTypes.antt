@@ -14,7 +14,8 @@ types = refl
 
 -- The last extension alone is seen, in lower case, and a name alone is none.
 others :
-    map media_type (codes "a" ∷ codes "html" ∷ codes "a.html.gz" ∷ codes "a.HTML" ∷ codes "a." ∷ [])
+    map media_type (
+    codes "a" ∷ codes "html" ∷ codes "a.html.gz" ∷ codes "a.HTML" ∷ codes "a." ∷ [])
     ≡ replicate 5 any_octets
 unfolding computing
 others = refl

@@ -40,8 +40,8 @@ bad_escapes :
 unfolding computing
 bad_escapes = refl
 
--- Names that begin with a dot, by themselves or out of escapes, in any place; one in a name does not
--- matter.
+-- Names that begin with a dot, by themselves or out of escapes, in any place; one in a name does
+-- not matter.
 -- rule: files (own) A name that leaves its folder, or is hidden, is refused
 dots :
     (map names_of (codes "/." ∷ codes "/.." ∷ codes "/../a" ∷ codes "/a/../b" ∷ codes "/a/.." ∷

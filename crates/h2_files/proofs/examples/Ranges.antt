@@ -33,7 +33,8 @@ of_nothing :
 unfolding computing
 of_nothing = refl
 
--- What is ignored: another unit, none, several ranges, blanks, signs, a first octet after the last.
+-- What is ignored: another unit, none, several ranges, blanks, signs, a first octet after the
+-- last.
 -- rule: HTTP 14.2 One range gives octets of the file, is ignored, or has 416
 ignored :
     map (λ value. range_of value 10) (
@@ -48,7 +49,8 @@ ignored = refl
 
 -- The unit in any case; leading zeros; numbers at 2^64, which is the first that is none.
 numbers :
-    map (λ value. range_of value 10) (codes "BYTES=1-2" ∷ codes "bytes=0000000000000000000000001-2" ∷
+    map (λ value. range_of value 10) (
+    codes "BYTES=1-2" ∷ codes "bytes=0000000000000000000000001-2" ∷
     codes "bytes=0-18446744073709551615" ∷ codes "bytes=18446744073709551615-" ∷
     codes "bytes=0-18446744073709551616" ∷ codes "bytes=99999999999999999999-" ∷ [])
     ≡ Part 1 2 ∷ Part 1 2 ∷ Part 0 9 ∷ Unsatisfiable ∷ Ignored ∷ Ignored ∷ []

@@ -4,4 +4,5 @@ use Rattle.h2_files.proofs.names.path_below.Given as goal
 
 abbrev pub invariant-loop-name : goal.invariant-loop-name
 invariant-loop-name l =
-    string_bytes l.path ++ below (texts (drop l.name-index l.names)) ≡ l.root ++ below (texts l.names)
+    string_bytes l.path ++ below (texts (drop l.name-index l.names))
+    ≡ l.root ++ below (texts l.names)

@@ -13,7 +13,10 @@ returns-in_err-first c =
     let ends : position_or_len (is_octet 45) text ≡ length text =
     rw c.in_err-first.was at c.divide.ensures in
     let least : length text ≤ position_or_len (is_octet 45) text = omega arith in
-    rw (c.from_residual.ensures, le-ltb (position_or_len (is_octet 45) text) (length text) least) refl
+    rw (
+      c.from_residual.ensures,
+      le-ltb (position_or_len (is_octet 45) text) (length text) least,
+    ) refl
 
 pub returns : goal.returns
 unfolding spec_of

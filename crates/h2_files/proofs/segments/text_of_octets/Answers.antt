@@ -1,9 +1,10 @@
 -- Octets are a text where they are UTF-8.
-use Rattle.std.proofs.Common.{◌≡◌, Global, true, false, true≢false, refl, sym, ap, Ok, string_bytes, rules}
+use Rattle.std.proofs.Common.{◌≡◌, Global, true, false, true≢false, refl, sym, ap, Ok}
+use Rattle.std.proofs.Common.{string_bytes, rules}
 use Rattle.std.proofs.lemmas.Bool.{false_from_ne_true}
 use Rattle.std.proofs.lemmas.Str.{IsUtf8-from_is_utf8, IsUtf8-string_bytes, is_utf8-from_IsUtf8}
 use Rattle.std.specs.Str.{is_utf8}
-use Rattle.h2_files.proofs.segments.text_of.Goals as goal
+use Rattle.h2_files.proofs.segments.text_of_octets.Goals as goal
 
 pub returns-in-Ok : goal.returns-in-Ok
 returns-in-Ok c =
