@@ -42,7 +42,7 @@ FAULT_DEFINITIONS = {(file, name) for file, names in FAULTS.items() for name in 
 EXEMPT = {"h2_spec_machine/specs/End.antt", "h2_spec_machine/specs/Machine.antt"}
 
 # Crates of tests and cases, whose calls are no use of a function.
-TESTS = {"h2_cases", "h2_case", "h2_case_conn", "h2_case_ends", "h2_test_ends", "h2_test_layers",
+TESTS = {"h2_cases", "h2_case", "h2_case_conn", "h2_case_ends", "h2_test_ends", "h2_test_files", "h2_test_layers",
          "h2_test_parts", "h2_test_scarce", "h2_test_tool"}
 TESTS |= {"h2_measure", "h2_uses"}
 
@@ -56,9 +56,14 @@ BY_NAME = {"main", "fmt", "from", "drop", "clone", "eq", "next", "debug", "displ
 WINDOWS = "an end keeps windows as differences from the initial one (docs/DECISIONS.md); for users that keep one of their own"
 JOINED = "users join two ends, which no end does"
 LINK = "a link in memory is for users' tests"
+FILES = "whoever serves a folder calls it, and h2 does not yet"
 TEXTS = "hpack reads into a text that it has, with the function that appends"
 API = {
     "h2_frame::FrameRef::payload_len": "an end counts the payload of DATA alone; for users that count any frame",
+    "h2_files::Conditions::answer": FILES,
+    "h2_files::Method::of": FILES,
+    "h2_files::file_names": FILES,
+    "h2_files::media_type": FILES,
     "h2_flow::Config::with_max_frame": "a program with larger frames configures its ends so",
     "h2_flow::StreamState::closed": "an end asks for both sides at once",
     "h2_flow::StreamState::end_in": "an end sets the side with the rest of its stream",
@@ -129,7 +134,11 @@ SECTIONS = {
     "8.6": "The Upgrade Header Field",
     "10.5": "Denial-of-Service Considerations",
     "10.5.1": "Limits on Field Block Size",
+    "HTTP 8.8.3": "ETag (RFC 9110)",
     "HTTP 9.3.2": "HEAD (RFC 9110)",
+    "HTTP 13.2.2": "Precedence of Preconditions (RFC 9110)",
+    "HTTP 14.2": "Range (RFC 9110)",
+    "HTTP 15.5.6": "405 Method Not Allowed (RFC 9110)",
     "HPACK 2.1": "Header List Ordering (RFC 7541)",
     "HPACK 2.3.2": "Dynamic Table (RFC 7541)",
     "HPACK 2.3.3": "Index Address Space (RFC 7541)",
@@ -152,6 +161,7 @@ SECTIONS = {
     "joined": "Two joined ends",
     "links": "Links",
     "engines": "Connections over links, and the program's h2 serve, get and loop",
+    "files": "Files of a folder",
     "show": "The program's h2 show",
     "follow": "The program's h2 show --follow",
     "replay": "A replay, and the program's h2 replay",

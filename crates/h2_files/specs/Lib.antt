@@ -1,0 +1,9 @@
+pub mod Conditions
+pub mod Cuts
+pub mod Dates
+pub mod Faults
+pub mod MediaTypes
+pub mod Methods
+pub mod Paths
+pub mod Ranges
+pub mod Tags
