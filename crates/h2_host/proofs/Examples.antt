@@ -119,7 +119,7 @@ not_the_second is =
 -- A queue in which no place waits twice, and one in which one does.
 waits_once : WaitOnce (4 ∷ 2 ∷ [])
 unfolding WaitOnce WaitsIn
-waits_once = ((λ there. elim there [ inl same ↦ cc | inr no ↦ no ]), (λ no. no), tt)
+waits_once = ((λ there. elim there [ inl same ↦ cc | inr none ↦ none ]), ((λ none. none), tt))
 
 waits_twice : WaitOnce (4 ∷ 2 ∷ 4 ∷ []) → ⊥
 unfolding WaitOnce WaitsIn
@@ -180,7 +180,10 @@ gets_late :
     GetsTurnBefore {P = ℕ} first third
     (replies.Turn (Some third) ∷ replies.Turn (Some first) ∷ []) → ⊥
 unfolding first third GetsTurnBefore
-gets_late is = elim is [ inl same ↦ cc | inr later ↦ later.0 refl ]
+gets_late is = elim is [
+  | inl same ↦ let places : 7 ≡ 0 = ap (λ (t : Token). t.place) same in cc
+  | inr later ↦ later.0 refl
+]
 
 -- A step that was not made takes nothing.
 takes_if_made :

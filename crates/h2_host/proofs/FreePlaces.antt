@@ -133,7 +133,7 @@ free_left slots free place slot next party are at taken short none fits =
             (ap (slot_at new) (sym (get_or_append_left free (place ∷ []) 0 i front)) ∙ there)
         | inr last ↦
             let at_place = ap (slot_at new) (sym (get_or_at free place [] 0 i (sym last)))
-                ∙ there in
+            ∙ there in
             let same : other ≡ next = cc in (
               ap (λ (s : Slot _). is_none s.party) same ∙ ap is_none none,
               subst (λ n. n < 2 ^ 32 - 1) (sym (ap (λ (s : Slot _). s.generation) same)) fits,

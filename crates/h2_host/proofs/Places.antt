@@ -112,14 +112,14 @@ free_kept slots free place slot next are at generation party = record {
       (are.within i is);
   empty = λ i other is there. elim (at_written slots place
       (get_or free i 0) slot next other at there) [
-    | inl (same, written) ↦
-        let was = are.empty i slot is (ap (slot_at slots) same ∙ at) in (
-          ap (λ (s : Slot _). is_none s.party) written ∙ (party ∙ was.0),
-          subst (λ n. n < 2 ^ 32 - 1) (sym (ap (λ (s : Slot _). s.generation) written
-              ∙ generation)) was.1,
-        )
-    | inr (differs, unwritten) ↦ are.empty i other is unwritten
-  ];
+        | inl (same, written) ↦
+            let was = are.empty i slot is (ap (slot_at slots) same ∙ at) in (
+              ap (λ (s : Slot _). is_none s.party) written ∙ (party ∙ was.0),
+              subst (λ n. n < 2 ^ 32 - 1) (sym (ap (λ (s : Slot _). s.generation) written
+                  ∙ generation)) was.1,
+            )
+        | inr (differs, unwritten) ↦ are.empty i other is unwritten
+      ];
   once = are.once;
 }
 

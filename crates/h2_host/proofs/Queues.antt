@@ -9,7 +9,8 @@ use Rattle.std.proofs.lemmas.List.Sums.{sum_by_push}
 use Rattle.h2_host.specs.declared.table.Slot.{Slot}
 use Rattle.h2_host.specs.declared.token.Token.{Token}
 use Rattle.h2_host.specs.Tokens.{slot_at}
-use Rattle.h2_host.specs.Turns.{HasTurn, IsQueueOf, ReadyWait, WaitOnce, WaitsIn, is_due, is_ready_slot}
+use Rattle.h2_host.specs.Turns.{HasTurn, IsQueueOf, ReadyWait, WaitOnce, WaitsIn, is_due}
+use Rattle.h2_host.specs.Turns.{is_ready_slot}
 use Rattle.h2_host.specs.Turns.{queue_more, slot_queued}
 use Rattle.h2_host.proofs.Places.{at_written, get_longer, get_unwritten, get_written}
 use Rattle.h2_host.proofs.Places.{longer_cases, one_slot}
@@ -64,7 +65,8 @@ queue_kept slots queue place slot next is at same = record {
       let was = is.marked other there in
       elim (cases_eq other place) [
         | inl here ↦
-            let old = one_slot slots place was.0 slot (ap (slot_at slots) (sym here) ∙ was.1) at in (
+            let old =
+            one_slot slots place was.0 slot (ap (slot_at slots) (sym here) ∙ was.1) at in (
               next,
               ap (slot_at (slice_set slots place next)) here
                   ∙ get_written slots place slot next at,
@@ -89,9 +91,9 @@ pub queue_put : {P : Type 0} (slots : List (Slot P)) (queue : List ℕ) (place :
     → IsQueueOf (slice_set slots place next) (queue ++ place ∷ [])
 queue_put slots queue place slot next is at never does =
     let not_there : WaitsIn place queue → ⊥ = λ there.
-        let was = is.marked place there in
-        let old = ap (λ (s : Slot _). s.queued) (one_slot slots place was.0 slot was.1 at) in
-        let contrary : true ≡ false = sym was.2 ∙ (old ∙ never) in cc in
+    let was = is.marked place there in
+    let old = ap (λ (s : Slot _). s.queued) (one_slot slots place was.0 slot was.1 at) in
+    let contrary : true ≡ false = sym was.2 ∙ (old ∙ never) in cc in
     record {
       once = once_more queue place is.once not_there;
       marked = λ other there. elim (cases_eq other place) [
@@ -212,7 +214,8 @@ ready_idle ready_of slots place slot next turn others at idle = λ other one the
     elim (at_written slots place other slot next one at there) [
       | inl (here, written) ↦
           let is = ap (λ (s : Slot _). is_ready_slot ready_of s) written in
-          let contrary : true ≡ false = sym ready ∙ (is ∙ idle) in absurd (let never = contrary in cc)
+          let contrary : true ≡ false = sym ready ∙ (is ∙ idle) in
+          absurd (let never = contrary in cc)
       | inr (differs, unwritten) ↦ others other one differs unwritten ready
     ]
 
@@ -230,7 +233,7 @@ queue_popped slots queue place slot next is at never =
     let once = is.once in
     let first = is.marked place (inl refl) in
     let does = ap (λ (s : Slot _). s.queued) (one_slot slots place slot first.0 at first.1)
-        ∙ first.2 in
+    ∙ first.2 in
     record {
       once = once.1;
       marked = λ other there. elim (cases_eq other place) [

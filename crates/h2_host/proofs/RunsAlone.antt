@@ -10,7 +10,8 @@ use Rattle.h2_host.specs.declared.token.Token.{Token}
 use Rattle.h2_host.specs.Tokens.{IsAt, is_same_token, slot_at}
 use Rattle.h2_host.proofs.Places.{one_at, one_slot}
 use Rattle.h2_host.specs.Isolation.{Move, MoveOf, moves_of, IsRunAlone, RunsAlone}
-use Rattle.h2_host.specs.Isolation.{KeepsOtherPlaces, StepsOne, OpensPlace, LeavesPlace, IsSameOfParties, HappensAt}
+use Rattle.h2_host.specs.Isolation.{KeepsOtherPlaces, StepsOne, OpensPlace, LeavesPlace}
+use Rattle.h2_host.specs.Isolation.{IsSameOfParties, HappensAt}
 use Rattle.h2_host.specs.Isolation.{nothing, moved, opened, left, noted}
 
 -- Tokens of one place and one generation are the same.

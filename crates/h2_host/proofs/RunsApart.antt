@@ -12,7 +12,8 @@ use Rattle.h2_host.specs.declared.state.HostState.{HostState}
 use Rattle.h2_host.specs.declared.token.Token.{Token}
 use Rattle.h2_host.specs.Isolation.{HappensAt, nothing, noted, MoveOf}
 use Rattle.h2_host.specs.Runs.{IsRunApart, RunsWhile, none_made, one_made}
-use Rattle.h2_host.specs.Steps.{AnswersStep, AnswersClosing, AnswersOpening, AnswersOwn, AnswersTime}
+use Rattle.h2_host.specs.Steps.{AnswersStep, AnswersClosing, AnswersOpening, AnswersOwn}
+use Rattle.h2_host.specs.Steps.{AnswersTime}
 use Rattle.h2_host.specs.Steps.{AnswersTurn, slots_of}
 use Rattle.h2_host.proofs.HappensMade.{happens_joined, steps_happen}
 use Rattle.h2_host.proofs.RunsAlone.{runs_alone}

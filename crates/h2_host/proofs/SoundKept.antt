@@ -180,7 +180,8 @@ module _ {P : Type 0} (held_of : P → ℕ) (ready_of : P → Bool) where
   same_queued old new place queues = elim (slice_get_cases (slots_of old) place).1 [
     | inr (past, none) ↦ subst (IsSameOfParties (slots_of old)) (sym (queues.none none).0)
         (same_itself (slots_of old))
-    | inl (slot, within, at, read) ↦ subst (IsSameOfParties (slots_of old)) (sym (queues.slots slot at).0)
+    | inl (slot, within, at, read) ↦
+        subst (IsSameOfParties (slots_of old)) (sym (queues.slots slot at).0)
         (same_written (slots_of old) place slot (slot_queued ready_of slot) at refl refl)
   ]
 

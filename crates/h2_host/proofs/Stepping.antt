@@ -1,5 +1,6 @@
 -- A step of one connection, where its turn allows it, and time that passes for all.
-use Rattle.std.specs.Prelude.{◌≡◌, ◌||◌, ◌+◌, nat_lt, ℕ, List, [], length, Bool, true, false, Option}
+use Rattle.std.specs.Prelude.{◌≡◌, ◌||◌, ◌+◌, nat_lt, ℕ, List, [], length, Bool, true, false}
+use Rattle.std.specs.Prelude.{Option}
 use Rattle.std.specs.Prelude.{Some, None}
 use Rattle.std.proofs.Common.{refl, sym, ap, subst, ◌∙◌}
 use Rattle.std.proofs.lemmas.List.{append-nil}

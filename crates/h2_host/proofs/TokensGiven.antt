@@ -14,7 +14,8 @@ use Rattle.h2_host.specs.declared.state.HostState.{HostState}
 use Rattle.h2_host.specs.declared.table.Slot.{Slot}
 use Rattle.h2_host.specs.declared.token.Token.{Token}
 use Rattle.h2_host.specs.Isolation.{HappensAt, nothing, moved, opened, left, noted, IsSameOfParties}
-use Rattle.h2_host.specs.Isolation.{KeepsOtherPlaces, LeavesPlace, MoveOf, Move, OpensPlace, StepsOne}
+use Rattle.h2_host.specs.Isolation.{KeepsOtherPlaces, LeavesPlace, MoveOf, Move, OpensPlace}
+use Rattle.h2_host.specs.Isolation.{StepsOne}
 use Rattle.h2_host.specs.Runs.{AreNew, RunsWhile, none_made, one_made, tokens_opened}
 use Rattle.h2_host.specs.Steps.{AnswersStep, slots_of}
 use Rattle.h2_host.specs.Tokens.{IsAt, IsNow, WasGiven, slot_at}
@@ -23,7 +24,8 @@ use Rattle.h2_host.proofs.RunsApart.{answers_happen}
 
 module _ {P : Type 0} where
   -- What was given of a place that is kept was given still.
-  given_kept : (old new : List (Slot P)) (place : ℕ) (token : Token) → KeepsOtherPlaces old new place
+  given_kept : (old new : List (Slot P)) (place : ℕ) (token : Token)
+      → KeepsOtherPlaces old new place
       → token.place ≢ place → WasGiven old token → WasGiven new token
   given_kept old new place token keeps differs given =
       let same = keeps token.place differs in

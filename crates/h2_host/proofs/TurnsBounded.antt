@@ -15,7 +15,8 @@ use Rattle.h2_host.specs.declared.party.Own.TheVariants as owns
 use Rattle.h2_host.specs.declared.state.HostState.{HostState}
 use Rattle.h2_host.specs.declared.token.Token.{Token}
 use Rattle.h2_host.specs.declared.turn.Turn.{Turn}
-use Rattle.h2_host.specs.Runs.{GivesNoTurn, RunsWhile, WithinOneTurn, given_by_step, given_in, none_made}
+use Rattle.h2_host.specs.Runs.{GivesNoTurn, RunsWhile, WithinOneTurn, given_by_step, given_in}
+use Rattle.h2_host.specs.Runs.{none_made}
 use Rattle.h2_host.specs.Runs.{one_made, taken_by_step, taken_in}
 use Rattle.h2_host.specs.Steps.{AnswersStep}
 use Rattle.h2_host.specs.Turns.{counted_in, has_turn, most_given, most_taken, turn_left}
@@ -57,7 +58,8 @@ pub record NotStopped {A : Type 0} (b : Bool) (value it : A) : Type 0 where
   pub stops : b ≡ false
   pub same : value ≡ it
 
-pub not_stopped : {A : Type 0} (b : Bool) (value it : A) → (if b then None else Some value) ≡ Some it
+pub not_stopped : {A : Type 0} (b : Bool) (value it : A)
+    → (if b then None else Some value) ≡ Some it
     → NotStopped b value it
 not_stopped true value it is = absurd (let no = is in cc)
 not_stopped false value it is = record { stops = refl; same = cc }
@@ -193,7 +195,8 @@ module _ {P : Type 0} (steps : P → Own → List ℕ → Answer → P → Type 
   -- A step of a host that gives no turn leaves less by what it takes and gives.
   step_less : (old new : HostState P) (step : Step P) (octets : List ℕ) (reply : Reply P)
       → AnswersStep steps held_of ready_of old new step octets reply → GivesNoTurn step
-      → LeavesLess old.turn new.turn (taken_by_step step (length octets) reply) (given_by_step step reply)
+      → LeavesLess old.turn new.turn (taken_by_step step (length octets) reply)
+      (given_by_step step reply)
   unfolding taken_by_step given_by_step GivesNoTurn
   step_less old new (host_steps.Opened party) octets (replies.Opened token) is not_turn =
       no_change old new is.3

@@ -7,7 +7,8 @@ ghost use Rattle.h2_host.specs.declared.state.HostState.{HostState};
 ghost use Rattle.h2_host.specs.declared.table.Slot.{Slot};
 ghost use Rattle.h2_host.specs.declared.token.Token.{Token};
 ghost use Rattle.h2_host.specs.Isolation.{HappensAt, MoveOf, RunsAlone};
-ghost use Rattle.h2_host.specs.Runs.{AreNew, GetsTurnBefore, IsReadyAt, IsRun, IsRunApart, RunsWhile};
+ghost use Rattle.h2_host.specs.Runs.{AreNew, GetsTurnBefore, IsReadyAt, IsRun, IsRunApart};
+ghost use Rattle.h2_host.specs.Runs.{RunsWhile};
 ghost use Rattle.h2_host.specs.Runs.{WithinOneTurn, given_in, taken_in, tokens_opened};
 ghost use Rattle.h2_host.specs.Sound.{IsSoundHost};
 ghost use Rattle.h2_host.specs.Steps.{GivesTurn};
@@ -20,8 +21,8 @@ use crate::party::Party;
 /// what its own moves make of it, one after another, with nothing beside it: and any steps of a
 /// host are such happenings.
 pub fn connections_run_alone<P: Party>()
-    ensures alone { (old new : List (Slot P)) (moves : List MoveOf) → HappensAt P.steps new old moves
-        → RunsAlone P.steps old new moves }
+    ensures alone { (old new : List (Slot P)) (moves : List MoveOf)
+        → HappensAt P.steps new old moves → RunsAlone P.steps old new moves }
     ensures apart { (old new : HostState P) (made : List (Made P)) (replies : List (Reply P))
         → IsRun P.steps P.held_of P.ready_of old new made replies
         → IsRunApart P.steps old new }

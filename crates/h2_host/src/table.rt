@@ -83,8 +83,8 @@ impl<P: Drop> Table<P> {
     // rule: hosts (own) No token is given twice, and an old one changes nothing
     /// Takes the free place that is given next; or hands the party back where none is free.
     pub(crate) fn take_place(&mut self, party: P) -> Result<Token, P>
-        ensures ok { IfOk result (λ token. TakesPlace self.old.slots.items self.new.slots.items token
-            party) }
+        ensures ok { IfOk result (λ token. TakesPlace self.old.slots.items
+            self.new.slots.items token party) }
         ensures err { IfErr result (λ back. back ≡ party) }
         ensures same { OnErr result (self.new.slots.items ≡ self.old.slots.items) }
     {

@@ -111,7 +111,8 @@ impl<P: Party> HostState<P> {
     /// Takes the first place from the queue.
     fn pop_place(&mut self) -> Option<u32>
         requires { IsSoundHost P.held_of P.ready_of self.old }
-        ensures { MatchOption result (IsEmptyQueue self.old self.new) (PopsPlace self.old self.new) }
+        ensures { MatchOption result (IsEmptyQueue self.old self.new)
+            (PopsPlace self.old self.new) }
     {
         if self.queue.is_empty() {
             return None;

@@ -45,7 +45,8 @@ fn takes_and_gives(alloc: Global) -> Option<bool> {
     let is_next = host.next_turn() == Some(token) && host.wants_input(token);
     let came = goes(&mut host, token, Own::Came, b"12345") && !host.wants_input(token);
     let again = is_not_now(&mut host, token, Own::Came, b"1");
-    let acts = goes(&mut host, token, Own::Turn, &[]) && is_not_now(&mut host, token, Own::Turn, &[]);
+    let acts = goes(&mut host, token, Own::Turn, &[])
+        && is_not_now(&mut host, token, Own::Turn, &[]);
     let went = goes(&mut host, token, Own::Went { count: 15 }, &[]);
     Some(is_next && came && again && acts && went && host.held() == 0 && host.next_turn().is_none())
 }
@@ -137,8 +138,18 @@ fn refusals(alloc: Global) -> Option<bool> {
     // One that holds more than 100 is refused itself.
     let again = host.next_turn() == Some(first) && host.next_turn() == Some(second);
     let came = goes(&mut host, second, Own::Came, &[0u8; 41]);
-    Some(too_much && full && turn && goes_on && one && sum && again && came
-        && kept(&host, second) == Some(0) && host.held() == 40)
+    Some(
+        too_much
+            && full
+            && turn
+            && goes_on
+            && one
+            && sum
+            && again
+            && came
+            && kept(&host, second) == Some(0)
+            && host.held() == 40,
+    )
 }
 
 // rule (best): hosts (own) Who holds most is refused until all hold what they may
@@ -155,7 +166,13 @@ fn time_passes(alloc: Global) -> Option<bool> {
     let seen = host.party(token)?.seen == 7 && host.now() == 7;
     let own = is_not_now(&mut host, token, Own::Passed { now: 9 }, &[]);
     let bound = Bound::Memory;
-    let refused = host.step(Step::Own { token, own: Own::Refused { bound } }, &[]);
+    let refused = host.step(
+        Step::Own {
+            token,
+            own: Own::Refused { bound },
+        },
+        &[],
+    );
     Some(passed && seen && own && matches!(refused, Reply::Own(Answer::Over)) && !host.is_empty())
 }
 
@@ -169,17 +186,35 @@ fn runs(alloc: Global) -> Option<bool> {
     let mut steps = VecDeque::new(alloc);
     let party = Till::new(1, Vec::new(alloc));
     let opened = Step::Opened { party };
-    steps.push_back(Made { step: opened, octets: Vec::new(alloc) }).ok()?;
-    steps.push_back(Made { step: Step::NextTurn, octets: Vec::new(alloc) }).ok()?;
-    let token = Token { place: 0, generation: 0 };
-    let came = Step::Own { token, own: Own::Came };
+    steps
+        .push_back(Made {
+            step: opened,
+            octets: Vec::new(alloc),
+        })
+        .ok()?;
+    steps
+        .push_back(Made {
+            step: Step::NextTurn,
+            octets: Vec::new(alloc),
+        })
+        .ok()?;
+    let token = Token {
+        place: 0,
+        generation: 0,
+    };
+    let came = Step::Own {
+        token,
+        own: Own::Came,
+    };
     let octets = Vec::from_slice(alloc, b"123").ok()?;
     steps.push_back(Made { step: came, octets }).ok()?;
     let replies = host.run(alloc, steps).ok()?;
     let is = match replies.as_slice() {
-        [Reply::Opened(one), Reply::Turn(Some(two)), Reply::Own(Answer::Goes)] => {
-            *one == token && *two == token
-        }
+        [
+            Reply::Opened(one),
+            Reply::Turn(Some(two)),
+            Reply::Own(Answer::Goes),
+        ] => { *one == token && *two == token }
         _ => false,
     };
     Some(is && kept(&host, token) == Some(4))

@@ -53,7 +53,11 @@ impl Party for Till {
             }
             _ => {}
         }
-        if self.over { Answer::Over } else { Answer::Goes }
+        if self.over {
+            Answer::Over
+        } else {
+            Answer::Goes
+        }
     }
 
     fn held(&self) -> usize {

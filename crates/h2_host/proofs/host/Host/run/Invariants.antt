@@ -1,4 +1,3 @@
-use Rattle.std.proofs.Common.{length}
 use Rattle.std.specs.Vec.{vec_capacity, vec_len}
 use Rattle.std.specs.VecDeque.{deque_len}
 use Rattle.h2_host.proofs.RunsMade.{RunsSo}

@@ -19,9 +19,10 @@ overflow_sub-self g c =
     let same = c.held.ensures in omega (arith, within, same)
 
 pub returns-in_default-clause-answers : goal.returns-in_default-clause-answers
-returns-in_default-clause-answers g c =
-    (c.in_default.ensures.0,
-    ap (λ (t : Table _). record c.args.self.now { table = t }) c.in_default.ensures.1)
+returns-in_default-clause-answers g c = (
+  c.in_default.ensures.0,
+  ap (λ (t : Table _). record c.args.self.now { table = t }) c.in_default.ensures.1,
+)
 
 pub returns-in_default-clause-sound : goal.returns-in_default-clause-sound
 returns-in_default-clause-sound g c =

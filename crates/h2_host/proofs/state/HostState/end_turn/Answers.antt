@@ -1,4 +1,4 @@
-use Rattle.std.proofs.Common.{[], ap, refl, subst, sym, ◌∙◌, None}
+use Rattle.std.proofs.Common.{[], ap, refl, subst, sym, None}
 use Rattle.std.proofs.lemmas.List.{append-nil}
 use Rattle.h2_host.specs.declared.turn.Turn.{Turn}
 use Rattle.h2_host.specs.Steps.{slots_of}

@@ -1,4 +1,4 @@
-use Rattle.h2_host.proofs.FirstReady.{passing_begins, passing_found, passing_on, passing_over}
+use Rattle.h2_host.proofs.FirstReady.{passing_begins, passing_found, passing_on}
 use Rattle.h2_host.proofs.state.HostState.first_ready.Goals as goal
 
 pub loop-place-init : goal.loop-place-init

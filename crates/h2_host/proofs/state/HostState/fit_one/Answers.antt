@@ -1,4 +1,3 @@
-use Rattle.std.proofs.Common.{arith, ◌<◌}
 use Rattle.h2_host.proofs.Refusals.{each_kept, own_refused, refuses_none}
 use Rattle.h2_host.proofs.state.HostState.fit_one.Goals as goal
 

@@ -1,4 +1,5 @@
-use Rattle.std.proofs.Common.{arith, ap, is_none, length, refl, rules, slice_set, subst, sym, Some, ◌≡◌}
+use Rattle.std.proofs.Common.{arith, ap, is_none, length, refl, rules, slice_set, subst, sym, Some}
+use Rattle.std.proofs.Common.{◌≡◌}
 use Rattle.std.proofs.Common.{◌∙◌, ◌<◌, ◌^◌}
 use Rattle.std.specs.VecDeque.{deque_capacity}
 use Rattle.h2_host.specs.declared.table.Slot.{Slot}

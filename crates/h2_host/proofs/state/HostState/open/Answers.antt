@@ -17,7 +17,8 @@ returns-then-held-most-clause-answers g c =
       record { limits = refl; added = []; queue = sym (append-nil host.queue.items) },
     )
 
-pub returns-then-in_all-most_in_all-clause-answers : goal.returns-then-in_all-most_in_all-clause-answers
+pub returns-then-in_all-most_in_all-clause-answers :
+    goal.returns-then-in_all-most_in_all-clause-answers
 returns-then-in_all-most_in_all-clause-answers g c =
     let host = c.args.self.now in (
       refl,

@@ -1,4 +1,4 @@
-use Rattle.std.proofs.Common.{length, refl, sym, ◌∙◌}
+use Rattle.std.proofs.Common.{length, refl, sym}
 use Rattle.h2_host.proofs.Stepping.{own_answered, sound_turned, turn_kept}
 use Rattle.h2_host.proofs.state.HostState.step_of.Goals as goal
 

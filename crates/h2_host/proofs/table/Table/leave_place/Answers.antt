@@ -1,5 +1,5 @@
-use Rattle.std.proofs.Common.{[], ◌∷◌, ◌++◌, is_ok, refl, rules, sym, ap, subst, arith}
-use Rattle.std.proofs.Common.{slice_set, Some, None, false, is_none, ◌≡◌, ◌<◌, ◌∙◌, ◌-◌, ◌^◌}
+use Rattle.std.proofs.Common.{is_ok, rules, sym, ap, subst, arith}
+use Rattle.std.proofs.Common.{slice_set, Some, None, is_none, ◌≡◌}
 use Rattle.h2_host.specs.Openings.{EmptiesPlace}
 use Rattle.h2_host.proofs.FreePlaces.{free_others, free_pushed, next_left}
 use Rattle.h2_host.proofs.Places.{generation_read, slot_read}

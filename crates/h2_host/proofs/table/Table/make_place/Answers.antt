@@ -1,4 +1,4 @@
-use Rattle.std.proofs.Common.{[], ◌∷◌, ap, arith, inr, length, rules, ◌<◌, ◌^◌, ◌∙◌}
+use Rattle.std.proofs.Common.{ap, arith, inr, length, rules, ◌<◌, ◌^◌, ◌∙◌}
 use Rattle.std.proofs.lemmas.List.{length-append}
 use Rattle.h2_host.proofs.table.Table.make_place.Goals as goal
 
