@@ -181,7 +181,8 @@ gets_late :
     (replies.Turn (Some third) ∷ replies.Turn (Some first) ∷ []) → ⊥
 unfolding first third GetsTurnBefore
 gets_late is = elim is [
-  | inl same ↦ let places : 7 ≡ 0 = ap (λ (t : Token). t.place) same in cc
+  | inl same ↦
+      let places : ◌≡◌ {A = ℕ} 7 0 = ap (λ (t : Token). t.place) same in omega (arith, places)
   | inr later ↦ later.0 refl
 ]
 
