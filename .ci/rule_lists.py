@@ -42,8 +42,8 @@ FAULT_DEFINITIONS = {(file, name) for file, names in FAULTS.items() for name in 
 EXEMPT = {"h2_spec_machine/specs/End.antt", "h2_spec_machine/specs/Machine.antt"}
 
 # Crates of tests and cases, whose calls are no use of a function.
-TESTS = {"h2_cases", "h2_case", "h2_case_conn", "h2_case_ends", "h2_test_ends", "h2_test_files", "h2_test_layers",
-         "h2_test_parts", "h2_test_scarce", "h2_test_tool"}
+TESTS = {"h2_cases", "h2_case", "h2_case_conn", "h2_case_ends", "h2_test_ends", "h2_test_files", "h2_test_host",
+         "h2_test_layers", "h2_test_parts", "h2_test_scarce", "h2_test_tool"}
 TESTS |= {"h2_measure", "h2_uses"}
 
 # Crates whose functions C calls, and how the names of those begin.
@@ -73,6 +73,9 @@ API = {
     "h2_flow::Window::shift": WINDOWS,
     "h2_flow::Window::take": WINDOWS,
     "h2_flow::Window::value": WINDOWS,
+    "h2_host::Host::run": "for tests of a driver, which makes steps one by one",
+    "h2_times::Budget::above": "for drivers of a host, which count what a peer sends",
+    "h2_times::Times::overdue": "for drivers of a host, which have a clock",
     "h2_joined::Joined::quiet": JOINED,
     "h2_joined::run": JOINED,
     "h2_link::MemoryLink::failing_after": LINK,
@@ -162,6 +165,7 @@ SECTIONS = {
     "links": "Links",
     "engines": "Connections over links, and the program's h2 serve, get and loop",
     "files": "Files of a folder",
+    "hosts": "Many connections: a host, times and budgets",
     "show": "The program's h2 show",
     "follow": "The program's h2 show --follow",
     "replay": "A replay, and the program's h2 replay",

@@ -1,0 +1,11 @@
+pub mod Tokens
+pub mod Openings
+pub mod Parties
+pub mod Isolation
+pub mod Turns
+pub mod Bounds
+pub mod Sound
+pub mod Steps
+pub mod Moves
+pub mod Queueing
+pub mod Runs

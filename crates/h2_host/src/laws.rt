@@ -1,0 +1,59 @@
+//! Laws of hosts, over steps that were made one after another.
+
+ghost use Rattle.std.specs.Prelude.{◌≡◌, ◌≢◌, ◌≤◌, List, Option, Some};
+ghost use Rattle.h2_host.specs.declared.host.Made.{Made};
+ghost use Rattle.h2_host.specs.declared.host.Reply.{Reply};
+ghost use Rattle.h2_host.specs.declared.state.HostState.{HostState};
+ghost use Rattle.h2_host.specs.declared.table.Slot.{Slot};
+ghost use Rattle.h2_host.specs.declared.token.Token.{Token};
+ghost use Rattle.h2_host.specs.Isolation.{HappensAt, MoveOf, RunsAlone};
+ghost use Rattle.h2_host.specs.Runs.{AreNew, GetsTurnBefore, IsReadyAt, IsRun, IsRunApart};
+ghost use Rattle.h2_host.specs.Runs.{RunsWhile};
+ghost use Rattle.h2_host.specs.Runs.{WithinOneTurn, given_in, taken_in, tokens_opened};
+ghost use Rattle.h2_host.specs.Sound.{IsSoundHost};
+ghost use Rattle.h2_host.specs.Steps.{GivesTurn};
+ghost use Rattle.h2_host.specs.Turns.{most_given, most_taken};
+
+use crate::party::Party;
+
+// contract: hosts (own) A connection is what its own steps make of it
+/// Whatever happens at the places of a host, each connection that was there and is there still is
+/// what its own moves make of it, one after another, with nothing beside it: and any steps of a
+/// host are such happenings.
+pub fn connections_run_alone<P: Party>()
+    ensures alone { (old new : List (Slot P)) (moves : List MoveOf)
+        → HappensAt P.steps new old moves → RunsAlone P.steps old new moves }
+    ensures apart { (old new : HostState P) (made : List (Made P)) (replies : List (Reply P))
+        → IsRun P.steps P.held_of P.ready_of old new made replies
+        → IsRunApart P.steps old new }
+{}
+
+// contract: hosts (own) No token is given twice, and an old one changes nothing
+/// No token is given twice, and none that was given before.
+pub fn tokens_are_new<P: Party>()
+    ensures { (old new : HostState P) (made : List (Made P)) (replies : List (Reply P))
+        → IsRun P.steps P.held_of P.ready_of old new made replies
+        → AreNew old (tokens_opened replies) }
+{}
+
+// contract: hosts (own) All that are ready have a turn before any has a second
+/// Once a connection has got its turn, each other that is ready and stays so gets one before that
+/// one gets a second: all that are ready have one before any has a second.
+pub fn ready_ones_go_first<P: Party>()
+    ensures { (before old new : HostState P) (made : List (Made P)) (replies : List (Reply P))
+        (first other : Token) → IsSoundHost P.held_of P.ready_of old
+        → GivesTurn P.ready_of before old (Some other) → first.place ≢ other.place
+        → RunsWhile P.steps P.held_of P.ready_of (IsReadyAt P.ready_of first) new old made replies
+        → GetsTurnBefore first other replies }
+{}
+
+// contract: hosts (own) A turn takes 16,384 octets and gives 65,536 at most
+/// In one turn at most 16,384 octets are taken and at most 65,536 given, in all of its steps.
+pub fn turns_are_bounded<P: Party>()
+    ensures taken { (old new : HostState P) (made : List (Made P)) (replies : List (Reply P))
+        → IsRun P.steps P.held_of P.ready_of old new made replies → WithinOneTurn made
+        → taken_in made replies ≤ most_taken }
+    ensures given { (old new : HostState P) (made : List (Made P)) (replies : List (Reply P))
+        → IsRun P.steps P.held_of P.ready_of old new made replies → WithinOneTurn made
+        → given_in made replies ≤ most_given }
+{}
