@@ -8,6 +8,7 @@ use h2_case_conn::{conn, message};
 use h2_case_ends::{end, engine, pair};
 use std::alloc::Global;
 use std::net::Net;
+use std::rt::Files;
 
 /// A group of cases, whose files lie in the folder of its name.
 #[derive(Clone, Copy)]
@@ -91,7 +92,12 @@ impl Group {
 }
 
 /// The answers to a case's commands, up to the first that has none.
-pub(crate) fn run_case<R: Net>(rt: &R, alloc: Global, group: Group, case: &Case) -> Vec<Answer> {
+pub(crate) fn run_case<R: Net + Files>(
+    rt: &R,
+    alloc: Global,
+    group: Group,
+    case: &Case,
+) -> Vec<Answer> {
     match group {
         Group::Text => text::run_case(alloc, case),
         Group::Hpack => hpack_blocks::run_case(alloc, case),

@@ -28,6 +28,7 @@ use h2_net::exchange;
 use std::alloc::Global;
 use std::io::Read;
 use std::net::Net;
+use std::rt::Files;
 
 /// An input of more octets is not cut at each place.
 const MOST_CUT: usize = 400;
@@ -37,7 +38,7 @@ const MOST_EQUAL: usize = 1_000;
 
 /// The state of a case.
 #[derive(Drop)]
-struct Session<'a, N: Net> {
+struct Session<'a, N: Net + Files> {
     net: &'a N,
     alloc: Global,
     input: Option<Input>,
@@ -124,7 +125,7 @@ fn add_errors(text: &mut Text, errors: &str) {
 }
 
 // Runs the program, and returns its status. It has no contract, since no case needs one.
-fn run<N: Net, R: Read>(
+fn run<N: Net + Files, R: Read>(
     net: &N,
     alloc: Global,
     line: &[String],
@@ -148,7 +149,12 @@ fn add_printed(text: &mut Text, out: &[u8], err: &[u8], status: u8) {
 }
 
 // What the program prints with these words of an input, and its status.
-fn answer_of<N: Net, R: Read>(net: &N, alloc: Global, line: &[String], input: &mut R) -> Text {
+fn answer_of<N: Net + Files, R: Read>(
+    net: &N,
+    alloc: Global,
+    line: &[String],
+    input: &mut R,
+) -> Text {
     let (mut out, mut err) = (Vec::new(alloc), Vec::new(alloc));
     let mut text = Text::new(alloc);
     let status = run(net, alloc, line, input, &mut out, &mut err);
@@ -157,7 +163,7 @@ fn answer_of<N: Net, R: Read>(net: &N, alloc: Global, line: &[String], input: &m
 }
 
 // Adds the answer where no input was given.
-fn add_unread<N: Net>(net: &N, alloc: Global, line: &[String], text: &mut Text) {
+fn add_unread<N: Net + Files>(net: &N, alloc: Global, line: &[String], text: &mut Text) {
     let mut input = Unreadable { was_read: false };
     text.push_text(&answer_of(net, alloc, line, &mut input));
     if input.was_read {
@@ -166,7 +172,7 @@ fn add_unread<N: Net>(net: &N, alloc: Global, line: &[String], text: &mut Text) 
 }
 
 // Adds the answer to an input that is read in pieces, if it is another one than the first.
-fn add_other<N: Net>(
+fn add_other<N: Net + Files>(
     net: &N,
     alloc: Global,
     line: &[String],
@@ -182,7 +188,7 @@ fn add_other<N: Net>(
 }
 
 // Adds the answers that differ where octets are read in two pieces, cut at each place.
-fn add_cut<N: Net>(
+fn add_cut<N: Net + Files>(
     net: &N,
     alloc: Global,
     line: &[String],
@@ -198,7 +204,7 @@ fn add_cut<N: Net>(
 }
 
 // Adds the answer that differs where octets are read as hexadecimal text.
-fn add_hexadecimal<N: Net>(
+fn add_hexadecimal<N: Net + Files>(
     net: &N,
     alloc: Global,
     line: &[String],
@@ -218,7 +224,7 @@ fn add_hexadecimal<N: Net>(
 }
 
 // Adds the answer to words, and those that differ where the input is read otherwise.
-fn add_answers<N: Net>(
+fn add_answers<N: Net + Files>(
     net: &N,
     alloc: Global,
     input: &Input,
@@ -259,7 +265,7 @@ fn add_body(text: &mut Text, body: &[u8]) {
 }
 
 // Adds the response to a POST of `count` octets.
-fn add_exchange<N: Net>(net: &N, alloc: Global, count: u32, text: &mut Text) {
+fn add_exchange<N: Net + Files>(net: &N, alloc: Global, count: u32, text: &mut Text) {
     match exchange(net, alloc, count) {
         Ok(fetched) => {
             if !fetched.interims.is_empty() || fetched.trailers.is_some() {
@@ -272,7 +278,7 @@ fn add_exchange<N: Net>(net: &N, alloc: Global, count: u32, text: &mut Text) {
     }
 }
 
-impl<N: Net> Session<'_, N> {
+impl<N: Net + Files> Session<'_, N> {
     // Adds to the input.
     fn add_input(&mut self, words: &mut Words<'_>) {
         match &mut self.input {
@@ -294,7 +300,7 @@ impl<N: Net> Session<'_, N> {
     }
 }
 
-impl<N: Net> Driver for Session<'_, N> {
+impl<N: Net + Files> Driver for Session<'_, N> {
     fn answer(&mut self, name: &str, words: &mut Words<'_>, text: &mut Text) {
         match name {
             "input" => self.input = Some(Input::read(self.alloc, words)),
@@ -308,7 +314,7 @@ impl<N: Net> Driver for Session<'_, N> {
 }
 
 /// The answers to a case's commands, up to the first that has none.
-pub(crate) fn run_case<N: Net>(net: &N, alloc: Global, case: &Case) -> Vec<Answer> {
+pub(crate) fn run_case<N: Net + Files>(net: &N, alloc: Global, case: &Case) -> Vec<Answer> {
     let session = Session {
         net,
         alloc,

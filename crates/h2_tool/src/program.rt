@@ -18,6 +18,7 @@ use h2_show::{Hint, Shown};
 use std::alloc::Global;
 use std::io::{self, Read, Write};
 use std::net::Net;
+use std::rt::Files;
 
 // rule: show (own) The words choose the end and hexadecimal
 // contract: replay (own) The status is 0 only where an end took the whole input
@@ -25,7 +26,7 @@ use std::net::Net;
 /// Runs the program with the words after its name, and returns its exit status: that of the
 /// command, or for words without one [`Status::Good`] where they ask for help or the version and
 /// [`Status::Usage`] where they are wrong. Sockets are opened by the network alone.
-pub fn run<N: Net, R: Read, W: Write, E: Write>(
+pub fn run<N: Net + Files, R: Read, W: Write, E: Write>(
     net: &N,
     alloc: Global,
     words: &[String],

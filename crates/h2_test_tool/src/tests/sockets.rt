@@ -7,6 +7,7 @@ use h2_net::{LinkError, get_location, serve_port, target};
 use h2_tool::run;
 use std::alloc::Global;
 use std::net::{Ipv4Addr, Net, OpenListener, SocketAddr, TcpListener};
+use std::rt::Files;
 use std::test::Fail;
 
 /// What is reported where nothing listens at a port.
@@ -17,7 +18,7 @@ const IN_USE: &str = "N1 Device\nhint: the port is in use\n";
 
 /// Whether a line prints nothing and ends with N1, and with these lines on standard error. Nothing
 /// is read.
-fn fails<R: Net>(rt: &R, alloc: Global, line: &str, lines: &str) -> Result<bool, Fail> {
+fn fails<R: Net + Files>(rt: &R, alloc: Global, line: &str, lines: &str) -> Result<bool, Fail> {
     let words = words_of(alloc, line)?;
     let (mut out, mut err) = (Vec::new(alloc), Vec::new(alloc));
     let ended = run(rt, alloc, &words, &mut Failing, &mut out, &mut err);

@@ -6,6 +6,7 @@ use h2_tool::{cmd_show, no_words, run};
 use std::alloc::Global;
 use std::io::{self, ErrorKind};
 use std::net::Net;
+use std::rt::Files;
 use std::test::Fail;
 
 /// The words of a line, divided by one space.
@@ -20,7 +21,7 @@ pub(super) fn words_of(alloc: Global, line: &str) -> Result<Vec<String>, Fail> {
 }
 
 /// How the program ends that can neither read nor write.
-fn end_of<R: Net>(rt: &R, alloc: Global, line: &str) -> Result<Status, Fail> {
+fn end_of<R: Net + Files>(rt: &R, alloc: Global, line: &str) -> Result<Status, Fail> {
     let words = words_of(alloc, line)?;
     let status = run(rt, alloc, &words, &mut Failing, &mut Failing, &mut Failing);
     Ok(status)
