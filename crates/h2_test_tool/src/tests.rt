@@ -9,6 +9,7 @@ mod fetching;
 mod library;
 mod links;
 mod long;
+mod parts;
 mod recorder;
 mod replaying;
 mod serving;

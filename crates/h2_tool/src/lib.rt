@@ -12,6 +12,7 @@ mod program;
 mod replay;
 mod show;
 mod sockets;
+mod streaming;
 
 pub use get::cmd_get;
 pub use program::{no_words, run};
