@@ -5,6 +5,8 @@ use Rattle.hpack.proofs.Names.{static_entries, entry, EncoderState, empty_table,
 use Rattle.hpack.proofs.Names.{least_index, choice, encoding_of_fields, after_fields, size_updates}
 use Rattle.hpack.proofs.Names.{block_of, after_block}
 use Rattle.std.specs.Prelude.{◌≡◌, ℕ, List, [], ◌∷◌, true, false, refl, codes}
+use Rattle.hpack.specs.KeptOctets.{octets_kept}
+use Rattle.hpack.specs.declared.types.octets.Kept.TheVariants as kept
 use Rattle.hpack_text.specs.Bits.{bits_of, number_of_bits, octets_of_bits}
 use Rattle.hpack_text.specs.Huffman.{groups, code_in, code, huffman_bits}
 
@@ -122,3 +124,7 @@ limits_in_order : (updates_for_limits 4096 (0 ∷ 4096 ∷ []) ≡ 0 ∷ 4096 �
     × (updates_for_limits 4096 [] ≡ [])
 unfolding updates_for_limits
 limits_in_order = (refl, refl, refl, refl, refl, refl)
+
+-- a copy of few octets, which lie in place
+kept_in_place : octets_kept (kept.Short (codes "GET")) ≡ codes "GET"
+kept_in_place = refl

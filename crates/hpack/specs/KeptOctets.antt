@@ -8,3 +8,4 @@ use Rattle.hpack.specs.declared.types.octets.Kept.TheVariants as kept
 abbrev pub octets_kept : Kept → List ℕ
 octets_kept (kept.Owned octets) = octets.items
 octets_kept (kept.Static octets) = octets.now
+octets_kept (kept.Short octets) = octets

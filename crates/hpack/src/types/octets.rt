@@ -1,11 +1,14 @@
 //! Octets that contracts see as a list.
 
-ghost use Rattle.std.specs.Prelude.{◌≡◌, IfOk};
+ghost use Rattle.std.specs.Prelude.{◌≡◌, ◌≤◌, length, IfOk};
 
 use crate::types::shown::Shown;
 use std::alloc::{AllocError, Global};
 use std::fmt;
 use std::marker::Model;
+
+/// The most octets that are kept in place: as many as lie where a vector would.
+const MOST_IN_PLACE: usize = 30;
 
 /// Where the octets are.
 #[derive(Drop)]
@@ -14,10 +17,56 @@ pub(crate) enum Kept {
     Owned(Vec<u8>),
     /// In the program, for as long as it runs.
     Static(&'static [u8]),
+    /// In place, where they are few.
+    Short(ShortOctets),
+}
+
+/// At most 30 octets, in place.
+#[derive(Drop)]
+pub(crate) struct ShortOctets {
+    length: u8,
+    octets: [u8; MOST_IN_PLACE],
+}
+
+impl Model for ShortOctets {
+    ghost use Rattle.std.specs.Prelude.{List, ℕ, ◌≤◌, take};
+
+    ghost Value = { List ℕ };
+
+    ghost view = { λ short. take short.length short.octets };
+
+    ghost invariant = { λ short. short.length ≤ 30 };
+}
+
+impl ShortOctets {
+    // rule (contract): HPACK 2.1 (own) The octets of a name and a value are those that were given
+    /// A copy of the octets of a slice.
+    #[inline(always)]
+    fn copy_of(octets: &[u8]) -> ShortOctets
+        requires { length octets.now ≤ 30 }
+        ensures { result ≡ octets.now }
+    {
+        let mut copy = [0; MOST_IN_PLACE];
+        copy[..octets.len()].copy_from_slice(octets);
+        ShortOctets {
+            length: octets.len() as u8,
+            octets: copy,
+        }
+    }
+
+    // rule (contract): HPACK 2.1 (own) The octets of a name and a value are those that were given
+    /// The octets.
+    #[inline(always)]
+    fn as_slice(&self) -> &[u8]
+        ensures { result.now ≡ self.now }
+    {
+        &self.octets[..usize::from(self.length)]
+    }
 }
 
 /// The octets of a name or a value. It is made of a `Vec<u8>`, or of a text of the program, without
-/// taking memory. `{:?}` shows it as a byte string, as `b":path"`.
+/// taking memory, and a copy of at most 30 octets takes none either: they are kept in place.
+/// `{:?}` shows it as a byte string, as `b":path"`.
 #[derive(Drop)]
 pub struct Octets {
     kept: Kept,
@@ -56,7 +105,7 @@ impl Octets {
 
     // contract: HPACK 2.1 (own) The octets of a name and a value are those that were given
     // rule (contract): HPACK 2.1 (own) The octets of a name and a value are those that were given
-    /// A copy of the octets of a slice.
+    /// A copy of the octets of a slice. It takes no memory where they are at most 30.
     ///
     /// # Errors
     ///
@@ -64,6 +113,11 @@ impl Octets {
     pub fn copy_of(alloc: Global, octets: &[u8]) -> Result<Octets, AllocError>
         ensures { IfOk result (λ copy. copy ≡ octets.now) }
     {
+        if octets.len() <= MOST_IN_PLACE {
+            return Ok(Octets {
+                kept: Kept::Short(ShortOctets::copy_of(octets)),
+            });
+        }
         Ok(Octets::new(Vec::from_slice(alloc, octets)?))
     }
 
@@ -77,6 +131,7 @@ impl Octets {
         match &self.kept {
             Kept::Owned(octets) => octets.as_slice(),
             Kept::Static(octets) => octets,
+            Kept::Short(short) => short.as_slice(),
         }
     }
 }
