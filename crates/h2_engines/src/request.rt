@@ -11,8 +11,15 @@ ghost use Rattle.h2_engines.specs.PartialMessages.{AddsOctets, EndsKept, NotesHa
 use h2_ends::{EndEvent, Field, FieldList, Message};
 use h2_frame::limits::GREATEST_BODY;
 use hpack::Octets;
+use itoa::Buffer;
 use std::alloc::{AllocError, Global};
 use std::collections::BTreeMap;
+
+/// How many octets of a body are reserved with its head, at most.
+const FIRST_ROOM: usize = 16_384;
+
+/// How much is reserved later for octets that have yet to come, at most, in times of what has come.
+const MORE_ROOM: usize = 9;
 
 /// A request, as far as it has come.
 #[derive(Drop)]
@@ -21,6 +28,8 @@ pub(crate) struct Request {
     pub(crate) text: Vec<u8>,
     /// Where its body begins.
     pub(crate) start: usize,
+    /// How many octets of a body its head says, at most as many as a request may have.
+    pub(crate) announced: usize,
     /// Whether it asks with HEAD.
     pub(crate) to_head: bool,
 }
@@ -49,13 +58,15 @@ pub(crate) struct Requests {
 
 impl Request {
     // rule: engines (own) An answer to HEAD has neither body nor content-length
-    /// A request of which the head has come.
-    fn begin(alloc: Global, head: &FieldList) -> Result<Request, AllocError>
+    /// A request of which the head has come, with room for it and for a short body that follows.
+    fn begin(alloc: Global, head: &FieldList, end: bool) -> Result<Request, AllocError>
         ensures { IfOk result (λ request. IsRequest head.now [] request) }
     {
         let method = value_or_nothing(head, b":method");
         let path = value_or_nothing(head, b":path");
-        let room = method.len().saturating_add(path.len()).saturating_add(2);
+        let announced = announced_octets(head, end);
+        let line = method.len().saturating_add(path.len()).saturating_add(2);
+        let room = line.saturating_add(announced.min(FIRST_ROOM));
         let mut text = Vec::with_capacity(alloc, room)?;
         text.extend_from_slice(method)?;
         text.push(b' ')?;
@@ -64,8 +75,30 @@ impl Request {
         Ok(Request {
             start: text.len(),
             text,
+            announced,
             to_head: method == b"HEAD".as_slice(),
         })
+    }
+
+    /// Makes room for octets of a body, where there is too little, and for those that are to follow
+    /// them as its head says, but for at most ten times what is kept. Where that is no room for
+    /// these octets, or the head says nothing, none is made: then the room doubles as they are added.
+    fn make_room(&mut self, count: usize) -> Result<(), AllocError>
+        ensures text { self.new.text.items ≡ self.old.text.items }
+        ensures start { self.new.start ≡ self.old.start }
+        ensures to_head { self.new.to_head ≡ self.old.to_head }
+    {
+        let length = self.text.len();
+        if count <= self.text.capacity().saturating_sub(length) {
+            return Ok(());
+        }
+        let whole = self.start.saturating_add(self.announced);
+        let known = whole.saturating_sub(length);
+        let more = known.min(length.saturating_mul(MORE_ROOM));
+        if more < count {
+            return Ok(());
+        }
+        self.text.reserve_exact(more)
     }
 
     // rule: engines (own) An answer to HEAD has neither body nor content-length
@@ -87,8 +120,9 @@ impl Request {
                 trailers: None,
             });
         }
-        let length = self.text.len().to_string(alloc)?.into_bytes();
-        head.push(plain_field(b"content-length", Octets::new(length)))?;
+        let mut digits = Buffer::new();
+        let length = Octets::copy_of(alloc, digits.format(self.text.len()).as_bytes())?;
+        head.push(plain_field(b"content-length", length))?;
         Ok(Message {
             head,
             body: self.text,
@@ -131,7 +165,7 @@ impl Requests {
     {
         match event {
             EndEvent::Head { id, list, end } => {
-                let request = Request::begin(self.alloc, list)?;
+                let request = Request::begin(self.alloc, list, end)?;
                 if end {
                     self.kept.remove(&id);
                     return Ok(Next::Answer { id, request });
@@ -162,6 +196,7 @@ impl Requests {
             self.kept.remove(&id);
             return Ok(Next::Reset { id });
         }
+        request.make_room(bytes.len())?;
         request.text.extend_from_slice(bytes)?;
         if end {
             return Ok(self.end(id));
@@ -190,4 +225,18 @@ fn value_or_nothing<'a>(fields: &'a FieldList, name: &[u8]) -> &'a [u8]
         Some(value) => value,
         None => &[],
     }
+}
+
+/// How many octets of a body follow a head, as it says, but at most as many as a request may have; 0
+/// where it ends the request or says nothing.
+fn announced_octets(head: &FieldList, end: bool) -> usize {
+    if end {
+        return 0;
+    }
+    let mut octets = 0usize;
+    for digit in value_or_nothing(head, b"content-length") {
+        let units = usize::from(digit.wrapping_sub(b'0'));
+        octets = octets.saturating_mul(10).saturating_add(units);
+    }
+    octets.min(GREATEST_BODY)
 }

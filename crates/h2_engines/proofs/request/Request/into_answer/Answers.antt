@@ -22,9 +22,9 @@ unfolding answer_with
 returns c =
     let same : vec_len c.args.self.text ≡ length c.args.self.text.items =
     omega (arith, c.args.self.text.ok.0) in
-    let told : c.new-2.result ≡ decimal (length c.args.self.text.items) =
-    c.new-2.ensures ∙ ap (λ octets. octets.items) c.into_bytes-length.ensures.value
-    ∙ c.in_ok-to_string.ensures.ok ∙ ap decimal (c.len.ensures ∙ same) in
+    let told : c.in_ok-length.length ≡ decimal (length c.args.self.text.items) =
+    c.in_ok-length.ensures ∙ c.as_bytes.ensures.value ∙ c.format.ensures.text
+    ∙ ap decimal (c.len.ensures ∙ same) in
     rw (
       c.if-self.false,
       c.in_ok-push-2.ensures.items,

@@ -1,6 +1,7 @@
 -- The octets are added to what is kept.
 use Rattle.h2_engines.proofs.Names.{◌≡◌, ℕ, ap, sym, Some, None, refl, inl, inr, arith, Request}
-use Rattle.h2_engines.proofs.Names.{body_room, AddsOctets, EndsRequest, Requests}
+use Rattle.h2_engines.proofs.Names.{body_room, AddsOctets, EndsRequest, Requests, IsLonger, List}
+use Rattle.h2_engines.proofs.Names.{◌∙◌, ◌++◌}
 use Rattle.std.specs.BTreeMap.{BTreeMap}
 use Rattle.std.specs.Option.{is_some}
 use Rattle.h2_engines.proofs.RequestTable.{adds_last, changes_one, changes_none, changes_twice}
@@ -36,11 +37,18 @@ pub returns-then-end : goal.returns-then-end
 returns-then-end c =
     let request = c.in-Some.request.now in
     let found = sym c.in-Some.ensures.value in
-    let longer : Request = record request { text = c.extend_from_slice.new.self } in
+    let longer : Request = record c.make_room.new.self { text = c.extend_from_slice.new.self } in
+    let more : IsLonger request c.args.bytes.now longer =
+    record {
+      text = c.in_ok-extend_from_slice.ensures.items
+          ∙ ap (λ (items : List ℕ). items ++ c.args.bytes.now) c.make_room.ensures.text;
+      start = c.make_room.ensures.start;
+      to_head = c.make_room.ensures.to_head;
+    } in
     let next : Requests = record c.args.self.now { kept = c.get_mut.follows.lender longer } in
     let room : c.saturating_sub.result ≡ body_room request = omega (arith, request.text.ok.0) in
     rw c.if-end.true (adds_last _ c.args.bytes.now request c.end.result found (omega (arith, room))
-    (record { text = c.in_ok-extend_from_slice.ensures.items; start = refl; to_head = refl })
+    more
     (changes_one c.args.self.now next c.args.id (Some longer)
     ((c.get_mut.follows.holds longer).3 (ap is_some found)).0) c.end.ensures)
 
@@ -49,14 +57,21 @@ unfolding AddsOctets EndsRequest
 returns c =
     let request = c.in-Some.request.now in
     let found = sym c.in-Some.ensures.value in
-    let longer : Request = record request { text = c.extend_from_slice.new.self } in
+    let longer : Request = record c.make_room.new.self { text = c.extend_from_slice.new.self } in
+    let more : IsLonger request c.args.bytes.now longer =
+    record {
+      text = c.in_ok-extend_from_slice.ensures.items
+          ∙ ap (λ (items : List ℕ). items ++ c.args.bytes.now) c.make_room.ensures.text;
+      start = c.make_room.ensures.start;
+      to_head = c.make_room.ensures.to_head;
+    } in
     let next : Requests = record c.args.self.now { kept = c.get_mut.follows.lender longer } in
     let room : c.saturating_sub.result ≡ body_room request = omega (arith, request.text.ok.0) in
     rw (c.if-end.false, found) (inr (
       omega (arith, room),
       (
         longer,
-        record { text = c.in_ok-extend_from_slice.ensures.items; start = refl; to_head = refl },
+        more,
         (
           refl,
           changes_one c.args.self.now next c.args.id (Some longer)
