@@ -10,3 +10,4 @@ pub mod Serves
 pub mod ServerSteps
 pub mod Machines
 pub mod WithoutLink
+pub mod Rooms

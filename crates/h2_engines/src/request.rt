@@ -1,12 +1,15 @@
 //! Requests, as far as they have come.
 
-ghost use Rattle.std.specs.Prelude.{◌≡◌, [], IfOk};
+ghost use Rattle.std.specs.Prelude.{◌≡◌, ◌≤◌, [], IfOk, OnOk, length, true};
+ghost use Rattle.std.specs.Vec.{vec_capacity};
 ghost use Rattle.h2_message.specs.Fields.{value_or_nothing};
 ghost use Rattle.h2_message.specs.Messages.{plain_field};
 ghost use Rattle.h2_message.specs.Values.{message_value};
 ghost use Rattle.h2_ends.specs.Loans.{event_handed};
 ghost use Rattle.h2_engines.specs.Answers.{IsRequest, answer_with};
-ghost use Rattle.h2_engines.specs.PartialMessages.{AddsOctets, EndsKept, NotesHanded, request_at};
+ghost use Rattle.h2_engines.specs.PartialMessages.{AddsOctets, EndsKept, IsLonger, NotesHanded};
+ghost use Rattle.h2_engines.specs.PartialMessages.{body_room, request_at};
+ghost use Rattle.h2_engines.specs.Rooms.{most_room};
 
 use h2_ends::{EndEvent, Field, FieldList, Message};
 use h2_frame::limits::GREATEST_BODY;
@@ -80,13 +83,33 @@ impl Request {
         })
     }
 
+    // rule: engines (own) A request of more than 1,048,576 octets is ENHANCE_YOUR_CALM
+    /// How many octets of its body may follow.
+    fn room(&self) -> usize
+        ensures { result ≡ body_room self.now }
+    {
+        let body = self.text.len().saturating_sub(self.start);
+        GREATEST_BODY.saturating_sub(body)
+    }
+
+    /// Adds octets of its body.
+    fn extend(&mut self, bytes: &[u8]) -> Result<(), AllocError>
+        ensures { OnOk result (IsLonger self.old bytes.now self.new) }
+    {
+        self.make_room(bytes.len())?;
+        self.text.extend_from_slice(bytes)
+    }
+
+    // rule: engines (own) What is reserved for a body is at most ten times what is kept
     /// Makes room for octets of a body, where there is too little, and for those that are to follow
     /// them as its head says, but for at most ten times what is kept. Where that is no room for
-    /// these octets, or the head says nothing, none is made: then the room doubles as they are added.
+    /// these octets, or the head says nothing, none is made: then it doubles as they are added.
     fn make_room(&mut self, count: usize) -> Result<(), AllocError>
         ensures text { self.new.text.items ≡ self.old.text.items }
         ensures start { self.new.start ≡ self.old.start }
         ensures to_head { self.new.to_head ≡ self.old.to_head }
+        ensures bound { vec_capacity self.new.text
+            ≤ most_room (vec_capacity self.old.text) (length self.old.text.items) }
     {
         let length = self.text.len();
         if count <= self.text.capacity().saturating_sub(length) {
@@ -188,20 +211,34 @@ impl Requests {
         ensures { IfOk result (λ next. AddsOctets self.old self.new id bytes.now end
             (request_at id self.old) next) }
     {
+        if end {
+            return self.add_last(id, bytes);
+        }
         let Some(request) = self.kept.get_mut(&id) else {
             return Ok(Next::Again);
         };
-        let body = request.text.len().saturating_sub(request.start);
-        if bytes.len() > GREATEST_BODY.saturating_sub(body) {
+        if bytes.len() > request.room() {
             self.kept.remove(&id);
             return Ok(Next::Reset { id });
         }
-        request.make_room(bytes.len())?;
-        request.text.extend_from_slice(bytes)?;
-        if end {
-            return Ok(self.end(id));
-        }
+        request.extend(bytes)?;
         Ok(Next::Again)
+    }
+
+    // rule: engines (own) A request that is whole is answered once, by method, path and body
+    /// Adds the last octets to the body of a request, which is taken out.
+    fn add_last(&mut self, id: u32, bytes: &[u8]) -> Result<Next, AllocError>
+        ensures { IfOk result (λ next. AddsOctets self.old self.new id bytes.now true
+            (request_at id self.old) next) }
+    {
+        let Some(mut request) = self.kept.remove(&id) else {
+            return Ok(Next::Again);
+        };
+        if bytes.len() > request.room() {
+            return Ok(Next::Reset { id });
+        }
+        request.extend(bytes)?;
+        Ok(Next::Answer { id, request })
     }
 
     // rule: engines (own) A request that is whole is answered once, by method, path and body
@@ -229,7 +266,9 @@ fn value_or_nothing<'a>(fields: &'a FieldList, name: &[u8]) -> &'a [u8]
 
 /// How many octets of a body follow a head, as it says, but at most as many as a request may have; 0
 /// where it ends the request or says nothing.
-fn announced_octets(head: &FieldList, end: bool) -> usize {
+fn announced_octets(head: &FieldList, end: bool) -> usize
+    ensures { result ≤ 1048576 }
+{
     if end {
         return 0;
     }
