@@ -1,7 +1,7 @@
 //! Lines as JSON objects.
 
 ghost use Rattle.std.specs.Prelude.{◌≡◌, ℕ, ◌++◌, [], ◌∷◌, codes, decimal, map};
-ghost use Rattle.std.specs.Prelude.{OnOk, option_map};
+ghost use Rattle.std.specs.Prelude.{OnOk, Some, option_map};
 ghost use Rattle.hex.specs.Hex.{encode_lower};
 ghost use Rattle.std.specs.Io.KnownBytes.{Appends};
 ghost use Rattle.json.specs.Json as json;
@@ -81,8 +81,25 @@ fn write_too_large<W: Write>(
         (too_large_text at (decoded_listing decoded _list.now))) }
 {
     match decoded {
-        Some(Decoded::TooLarge) => write_json_line(alloc, at, "list too large", out),
-        Some(Decoded::Whole) | None => Ok(()),
+        Some(ended) => write_ended(alloc, at, ended, _list, out),
+        None => Ok(()),
+    }
+}
+
+// The same of a block that has ended.
+fn write_ended<W: Write>(
+    alloc: Global,
+    at: u64,
+    ended: Decoded,
+    _list: &FieldList,
+    out: &mut W,
+) -> io::Result<()>
+    ensures { OnOk result (Appends (W.contents out.old) (W.contents out.new)
+        (too_large_text at (decoded_listing (Some ended) _list.now))) }
+{
+    match ended {
+        Decoded::TooLarge => write_json_line(alloc, at, "list too large", out),
+        Decoded::Whole => Ok(()),
     }
 }
 
