@@ -21,7 +21,7 @@ use std::collections::BTreeMap;
 /// How many octets of a body are reserved with its head, at most.
 const FIRST_ROOM: usize = 16_384;
 
-/// How much is reserved later for octets that have yet to come, at most, in times of what has come.
+/// So many times what is kept is reserved later for octets that have yet to come, at most.
 const MORE_ROOM: usize = 9;
 
 /// A request, as far as it has come.
@@ -264,8 +264,8 @@ fn value_or_nothing<'a>(fields: &'a FieldList, name: &[u8]) -> &'a [u8]
     }
 }
 
-/// How many octets of a body follow a head, as it says, but at most as many as a request may have; 0
-/// where it ends the request or says nothing.
+/// How many octets of a body follow a head, as it says, but at most as many as a request may have;
+/// 0 where it ends the request or says nothing.
 fn announced_octets(head: &FieldList, end: bool) -> usize
     ensures { result ≤ 1048576 }
 {
