@@ -1,20 +1,23 @@
 -- The tokens of objects and arrays are those of their members and values.
 use Rattle.h2_show.proofs.Names.{◌≡◌, ℕ, ◌+◌, List, [], ◌∷◌, ◌++◌, take, map, flat_map, refl, ap, sym}
 use Rattle.h2_show.proofs.Names.{◌∙◌, append_assoc, append-nil, flat_map-append, map-append, Some}
-use Rattle.h2_show.proofs.Names.{Field, Result, on_ok_weaker, Bool, true, false, codes, if◌then◌else◌}
-use Rattle.std.proofs.Common.{get_or}
+use Rattle.h2_show.proofs.Names.{Field, Option, subst, Frame, Listing, length, Result, on_ok_weaker, Bool, true, false, codes, if◌then◌else◌}
+use Rattle.std.proofs.Common.{get_or, decimal}
 use Rattle.std.proofs.lemmas.List.{take_more}
 use Rattle.std.proofs.lemmas.Option.{slice_get_within, get_or_from_slice_get}
 use Rattle.std.specs.List.{slice_get}
 use Rattle.hex.specs.Hex.{encode_lower}
 use Rattle.std.specs.Str.{is_utf8}
 use Rattle.json.specs.Json as json
+use Rattle.json.specs.Print.{print}
 use Rattle.json.specs.Token.{Token}
 use Rattle.json.specs.Written.{Written, Writes}
 use Rattle.json.specs.Tree.{items_tokens, json_tokens, members_tokens}
 use Rattle.h2_show.specs.JsonLines.{array_of, field_json, object_of}
 use Rattle.h2_show.specs.JsonLines.{JsonMember, json_items, member_tokens, members_of}
-use Rattle.h2_show.specs.JsonLines.{octets_member}
+use Rattle.h2_frame.specs.Encoding.{kind_of_frame, payload_of, stream_of}
+use Rattle.h2_show.specs.JsonLines.{first_members, frame_json, json_text, listing_members}
+use Rattle.h2_show.specs.JsonLines.{more_members, number_of_json, octets_member, type_name}
 use Rattle.h2_show.specs.JsonLines.{members_written, WritesTokens}
 
 -- the members of an object, and its end
@@ -47,6 +50,12 @@ written_then result old mid new first second tokens before last = record {
       ∙ append_assoc old.tokens first second) last.ok;
   before = last.before ∙ before;
 }
+
+-- the same of two that have succeeded
+pub tokens_then : (old mid new first second : List Token) → mid ≡ old ++ first
+    → new ≡ mid ++ second → new ≡ old ++ (first ++ second)
+tokens_then old mid new first second one two =
+    two ∙ ap (λ (some : List Token). some ++ second) one ∙ append_assoc old first second
 
 -- one token that was written
 pub token_written : {E : Type 0} (result : Result (Unit {0}) E) (old new : Written) (token : Token)
@@ -128,3 +137,46 @@ octets_as_hex key hex_key octets named is =
     ap (λ (text : Bool). member_tokens (if text then (key, json.string octets)
     else (key ++ codes "_hex", json.string (encode_lower octets)))) is
     ∙ ap (λ (name : List ℕ). Token.key name ∷ Token.string (encode_lower octets) ∷ []) (sym named)
+
+-- a member that is a number
+abbrev number_written : (key : List ℕ) → ℕ → List Token
+number_written key count = Token.key key ∷ Token.number (decimal count) ∷ []
+
+-- the line of a frame, by the tokens after each step
+pub json_frame_line : (at : ℕ) (frame : Frame) (listing : Option Listing) (name : List ℕ)
+    (stream size : ℕ) (empty one two three four five : List Token) → empty ≡ []
+    → one ≡ empty ++ (Token.begin_object ∷ members_written (first_members at name))
+    → two ≡ one ++ number_written (codes "stream") stream
+    → three ≡ two ++ number_written (codes "length") size
+    → four ≡ three ++ members_written (more_members frame)
+    → five ≡ four ++ members_written (listing_members listing)
+    → name ≡ type_name (kind_of_frame frame) → stream ≡ stream_of frame
+    → size ≡ length (payload_of frame)
+    → print (five ++ Token.end_object ∷ []) ++ codes "\n" ≡ json_text (frame_json at frame listing)
+json_frame_line at frame listing name stream size empty one two three four five none a b c d e named
+    streamed sized =
+    let more : List Token = members_written (more_members frame) in
+    let last : List Token = members_written (listing_members listing) in
+    let head : List ℕ → ℕ → ℕ → List Token = λ called number count.
+    ((Token.begin_object ∷ members_written (first_members at called))
+    ++ number_written (codes "stream") number) ++ number_written (codes "length") count in
+    let members : List JsonMember = first_members at (type_name (kind_of_frame frame))
+    ++ ((codes "stream", number_of_json (stream_of frame))
+    ∷ (codes "length", number_of_json (length (payload_of frame))) ∷ [])
+    ++ more_members frame ++ listing_members listing in
+    let begun : three ≡ head name stream size =
+    c ∙ ap (λ (some : List Token). some ++ number_written (codes "length") size)
+    (b ∙ ap (λ (some : List Token). some ++ number_written (codes "stream") stream)
+    (a ∙ ap (λ (some : List Token).
+    some ++ (Token.begin_object ∷ members_written (first_members at name))) none)) in
+    let all : five ≡ (head name stream size ++ more) ++ last =
+    e ∙ ap (λ (some : List Token). some ++ last)
+    (d ∙ ap (λ (some : List Token). some ++ more) begun) in
+    let known : five ≡ Token.begin_object ∷ members_written members =
+    all ∙ (λ i. (head (named i) (streamed i) (sized i) ++ more) ++ last)
+    ∙ ap (λ (some : List Token). head (type_name (kind_of_frame frame)) (stream_of frame)
+    (length (payload_of frame)) ++ some)
+    (sym (members_append (more_members frame) (listing_members listing))) in
+    ap (λ (some : List Token). print (some ++ Token.end_object ∷ []) ++ codes "\n") known
+    ∙ ap (λ (some : List Token). print (Token.begin_object ∷ some) ++ codes "\n")
+    (sym (object_tokens members))

@@ -5,6 +5,9 @@ use Rattle.h2_show.proofs.Names.{Appends-nil, Style, ShowLine, text_from, places
 use Rattle.h2_show.proofs.Names.{AppendsLines, due_line, rules}
 use Rattle.h2_show.proofs.Names.{◌-◌, codes, drop, length, take, take_rest}
 use Rattle.h2_show.specs.StyledLines.{first_in_bold, first_length, look_if}
+use Rattle.h2_show.proofs.Names.{arith, false}
+use Rattle.std.specs.Prelude.{replicate}
+use Rattle.std.specs.Fmt.{char_count, format_spec, padded_integral}
 use Rattle.h2_show.specs.Styles.{line_text, place_past}
 
 -- the text of lines and of others after them
@@ -109,3 +112,13 @@ bold_written colors words end start one two three ended is a b c d =
     ++ drop count words)) is
     (four_written start one two three ended _ (take end words) _ (drop end words) a b c
     (subst (λ (text : List ℕ). Appends three ended text) (take_rest words end) d))
+
+-- what `{:010}` writes: zeros before the digits
+pub padded_place : (numeral : List ℕ)
+    → padded_integral (format_spec 32 0 4 10 18446744073709551615) false [] numeral
+    ≡ replicate (10 - length numeral) 48 ++ numeral
+unfolding padded_integral char_count
+padded_place numeral =
+    let short : 10 - length numeral - 0 - 0 ≡ 10 - length numeral = omega arith in
+    ap (λ (count : ℕ). replicate count 48 ++ (numeral ++ [])) short
+    ∙ ap (λ (rest : List ℕ). replicate (10 - length numeral) 48 ++ rest) (append-nil numeral)

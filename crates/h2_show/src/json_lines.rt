@@ -66,9 +66,23 @@ pub(crate) fn write_json_frame<W: Write>(
     frame_members(alloc, &mut writer, frame)?;
     list_members(alloc, &mut writer, decoded, list)?;
     end_line(writer, out)?;
+    write_too_large(alloc, at, decoded, list, out)
+}
+
+// Prints the object of a list that is too large, after that of the frame that ends its block.
+fn write_too_large<W: Write>(
+    alloc: Global,
+    at: u64,
+    decoded: Option<Decoded>,
+    _list: &FieldList,
+    out: &mut W,
+) -> io::Result<()>
+    ensures { OnOk result (Appends (W.contents out.old) (W.contents out.new)
+        (too_large_text at (decoded_listing decoded _list.now))) }
+{
     match decoded {
         Some(Decoded::TooLarge) => write_json_line(alloc, at, "list too large", out),
-        _ => Ok(()),
+        Some(Decoded::Whole) | None => Ok(()),
     }
 }
 

@@ -8,7 +8,7 @@ ghost use Rattle.h2_frame.specs.Frames.{frame_of, GoAway, Reset, Settings};
 ghost use Rattle.h2_frame.specs.Pairs.{lent_pairs};
 ghost use Rattle.hpack.specs.FieldLists.{field_lent};
 ghost use Rattle.h2_show.specs.ShownLines.{decoded_listing, fault_shown, frame_shown};
-ghost use Rattle.h2_show.specs.ShownLines.{preface_shown, rest_shown, unfinished_shown};
+ghost use Rattle.h2_show.specs.ShownLines.{preface_shown, rest_shown, too_large, unfinished_shown};
 ghost use Rattle.h2_show.specs.StyledLines.{field_words, first_in_bold, first_length};
 ghost use Rattle.h2_show.specs.StyledLines.{name_word, named_words, place_word, styled_field};
 ghost use Rattle.h2_show.specs.StyledLines.{setting_word, styled_line, styled_listing};
@@ -62,11 +62,24 @@ pub(crate) fn write_styled_frame<W: Write>(
         (frame_shown (frame_of frame.entry) (decoded_listing decoded list.now)))) }
 {
     write_place(style.places, at, out)?;
-    let mut words = Vec::new(alloc);
-    write_words(style.names, frame, &mut words)?;
-    write_bold(style.colors, &words, out)?;
+    write_frame_words(alloc, style, frame, out)?;
     out.write_all(b"\n")?;
     write_styled_list(style.colors, decoded, list, out)
+}
+
+// Prints the words of a frame, the first of which is bold where there are colors.
+fn write_frame_words<W: Write>(
+    alloc: Global,
+    style: TextStyle,
+    frame: FrameRef<'_>,
+    out: &mut W,
+) -> io::Result<()>
+    ensures { OnOk result (Appends (W.contents out.old) (W.contents out.new)
+        (first_in_bold style.colors (styled_words style.names (frame_of frame.entry)))) }
+{
+    let mut words = Vec::new(alloc);
+    write_words(style.names, frame, &mut words)?;
+    write_bold(style.colors, &words, out)
 }
 
 /// Prints the line of a fault, at the octet with this number.
@@ -276,14 +289,20 @@ fn write_styled_list<W: Write>(
 {
     match decoded {
         Some(Decoded::Whole) => write_styled_fields(colors, list, out),
-        Some(Decoded::TooLarge) => {
-            write_if(colors, FAINT, out)?;
-            out.write_all(b"  list too large")?;
-            write_if(colors, RESET, out)?;
-            out.write_all(b"\n")
-        }
+        Some(Decoded::TooLarge) => write_styled_too_large(colors, out),
         None => Ok(()),
     }
+}
+
+// Prints the line that a list is too large.
+fn write_styled_too_large<W: Write>(colors: bool, out: &mut W) -> io::Result<()>
+    ensures { OnOk result (Appends (W.contents out.old) (W.contents out.new)
+        (styled_listing colors (Some too_large))) }
+{
+    write_if(colors, FAINT, out)?;
+    out.write_all(b"  list too large")?;
+    write_if(colors, RESET, out)?;
+    out.write_all(b"\n")
 }
 
 // Prints the lines of the fields of a list.

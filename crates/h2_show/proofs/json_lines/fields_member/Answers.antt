@@ -28,3 +28,16 @@ loop-place-preserved c =
           let above : length list ≤ place = w.in_default.ensures in
           absurd (omega arith)
     ]
+
+pub returns : goal.returns
+returns c =
+    let list = c.args.list.now in
+    let above : length list ≤ c.loop-place.place =
+    rw c.len-place-end.ensures at c.loop-place-test.false in
+    array_written c.end_array.result c.args.writer.now c.key.new.self c.begin_array.new.self
+    c.loop-place.writer c.end_array.new.self _ (map field_json list) c.in_ok-key.ensures.ok
+    c.in_ok-key.ensures.room.0 c.in_ok-begin_array.ensures.ok c.in_ok-begin_array.ensures.room.0
+    (c.loop-place.invariant.tokens ∙ ap (λ (shown : List Field).
+    c.begin_array.new.self.tokens ++ flat_map json_tokens (map field_json shown))
+    (take_all c.loop-place.place list above))
+    c.loop-place.invariant.before c.end_array.ensures

@@ -15,9 +15,10 @@ returns c =
     ∙ ap (λ (left : List (ℕ × ℕ)). c.loop-id.yielded ++ left) (sym c.in-None.ensures.steps.0)
     ∙ c.loop-id.invariant.left ∙ ap pairs_left c.into_iter-id-iterator.ensures.into_iter_gives
     ∙ c.iter-id-items.ensures in
-    written_then c.end_array.result _ _ _ _ _ c.in_ok-flag_member.ensures.ok
-    c.in_ok-flag_member.ensures.before
-    (array_written c.end_array.result _ _ _ _ _ _ (map pair_json pairs) c.in_ok-key.ensures.ok
+    written_then c.end_array.result c.args.writer.now c.flag_member.new.writer c.end_array.new.self _
+    _ c.in_ok-flag_member.ensures.ok c.in_ok-flag_member.ensures.before
+    (array_written c.end_array.result c.flag_member.new.writer c.key.new.self c.begin_array.new.self
+    c.loop-id.writer c.end_array.new.self _ (map pair_json pairs) c.in_ok-key.ensures.ok
     c.in_ok-key.ensures.room.0 c.in_ok-begin_array.ensures.ok c.in_ok-begin_array.ensures.room.0
     (c.loop-id.invariant.tokens ∙ ap (λ (shown : List (ℕ × ℕ)).
     c.begin_array.new.self.tokens ++ flat_map json_tokens (map pair_json shown)) all)

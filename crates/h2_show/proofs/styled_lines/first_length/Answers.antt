@@ -1,5 +1,5 @@
 -- The first space ends the first word.
-use Rattle.h2_show.proofs.Names.{ℕ, ap, length, ◌∙◌, Option}
+use Rattle.h2_show.proofs.Names.{ℕ, ap, length, Option}
 use Rattle.std.specs.Prelude.{unwrap_or}
 use Rattle.h2_show.proofs.styled_lines.first_length.Goals as goal
 
@@ -9,5 +9,4 @@ returns-in-Some-clause-value c =
 
 pub returns-in-None-clause-value : goal.returns-in-None-clause-value
 returns-in-None-clause-value c =
-    c.len.ensures
-    ∙ ap (λ (found : Option ℕ). unwrap_or found (length c.args.words.now)) c.in-None.ensures
+    ap (λ (found : Option ℕ). unwrap_or found (length c.args.words.now)) c.in-None.ensures

@@ -95,18 +95,18 @@ loop-done-preserved g c =
           c.args.piece.now c.loop-done.done c.in_ok-cut.cut c.in-Some.frame
           c.loop-done.invariant.shown c.in-Some.is
           (rw c.in_ok-cut.was at c.cut.follows.holds-at-none) c.in_ok-decoded.ensures.ok;
-      style = ap (λ (printer : Printer). printer.style) c.frame.ensures.same
-          ∙ c.advance-2.ensures.same ∙ c.loop-done.invariant.style;
+      style = ap (λ (printer : Printer). printer.style) c.in_ok-frame.ensures.same
+          ∙ c.in_ok-advance-2.ensures.same ∙ c.loop-done.invariant.style;
       printed = let (printed, written, prints) = c.loop-done.invariant.printed in (
         _,
         frame_written _ _ _ _ _ _ _ _ _ _ _ c.loop-done.self.printer.is_due printed _
-            c.loop-done.invariant.style c.advance-2.ensures.same written
+            c.loop-done.invariant.style c.in_ok-advance-2.ensures.same written
             c.in_ok-advance-2.ensures.line (rw c.list.ensures at c.in_ok-frame.ensures.line),
         prints_frame _ c.loop-done.self.cutter _ _ c.loop-done.self.blocks _ _
             c.loop-done.self.printer.is_due _ c.args.piece.now c.loop-done.done
             c.in_ok-cut.cut c.in-Some.frame printed _ prints c.in-Some.is
             (rw c.in_ok-cut.was at c.cut.follows.holds-at-none)
-            (ap (λ (printer : Printer). printer.is_due) c.frame.ensures.same
+            (ap (λ (printer : Printer). printer.is_due) c.in_ok-frame.ensures.same
             ∙ c.in_ok-advance-2.ensures.due) c.in_ok-decoded.ensures.shown,
       );
     }
