@@ -7,7 +7,6 @@ use Rattle.h2_show.specs.Styles.{text_from}
 use Rattle.h2_follow.proofs.SideLemmas.{goes_part, take_kept}
 use Rattle.h2_follow.proofs.one_side.OneSide.show_part.Goals as goal
 use Rattle.h2_follow.proofs.one_side.OneSide.show_part.Goals.{else-ends_block-via-else-ends_block}
-use Rattle.h2_follow.proofs.one_side.OneSide.show_part.Goals.{}
 use Rattle.h2_follow.proofs.one_side.OneSide.show_part.Goals.{else-ends_block-via-then-ends_block+else-table_maximum-table}
 
 pub returns-in_ok-add_table_fault-in-Ok-clause-part :
