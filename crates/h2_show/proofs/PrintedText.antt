@@ -93,4 +93,4 @@ pub printed_none : (viewer : Viewer) (options : ShowOptions)
     → viewer.printer.style ≡ options.style → viewer.printer.next ≡ 1
     → ViewerHasPrinted viewer options [] []
 printed_none viewer options shows styled placed =
-    record { lines = []; shows = shows; styled = styled; placed = placed; all = refl; }
+    record { lines = []; shows = shows; styled = styled; placed = placed; all = refl }

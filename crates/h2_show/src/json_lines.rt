@@ -285,7 +285,12 @@ fn headers_members(
     pad_member(writer, pad)
 }
 
-fn ping_members(alloc: Global, writer: &mut Writer, ack: bool, octets: [u8; 8]) -> Result<(), AllocError>
+fn ping_members(
+    alloc: Global,
+    writer: &mut Writer,
+    ack: bool,
+    octets: [u8; 8],
+) -> Result<(), AllocError>
     ensures { WritesTokens result writer.old writer.new
         (members_written ((codes "ack", json.boolean ack)
         ∷ (codes "octets", json.string (encode_lower octets)) ∷ [])) }
@@ -295,7 +300,12 @@ fn ping_members(alloc: Global, writer: &mut Writer, ack: bool, octets: [u8; 8]) 
 }
 
 // Octets in hexadecimal.
-fn hex_member(alloc: Global, writer: &mut Writer, name: &str, octets: &[u8]) -> Result<(), AllocError>
+fn hex_member(
+    alloc: Global,
+    writer: &mut Writer,
+    name: &str,
+    octets: &[u8],
+) -> Result<(), AllocError>
     ensures { WritesTokens result writer.old writer.new
         (key name.now ∷ string (encode_lower octets.now) ∷ []) }
 {
@@ -361,7 +371,11 @@ fn fields_member(alloc: Global, writer: &mut Writer, list: &FieldList) -> Result
 }
 
 // An object of a field.
-fn write_json_field(alloc: Global, writer: &mut Writer, field: FieldRef<'_>) -> Result<(), AllocError>
+fn write_json_field(
+    alloc: Global,
+    writer: &mut Writer,
+    field: FieldRef<'_>,
+) -> Result<(), AllocError>
     ensures { WritesTokens result writer.old writer.new
         (json_tokens (field_json (field_lent field.entry))) }
 {

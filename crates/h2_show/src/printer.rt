@@ -14,8 +14,10 @@ ghost use Rattle.h2_show.specs.Styles.{AppendsLines, text_from};
 use crate::json_lines::{write_json_fault, write_json_frame, write_json_line, write_json_rest};
 use crate::lines::{write_frame, write_list};
 use crate::options::{ShowOptions, Style};
-use crate::styled_lines::{write_styled_fault, write_styled_frame, write_styled_preface};
-use crate::styled_lines::{write_styled_rest, write_styled_unfinished};
+use crate::styled_lines::{
+    write_styled_fault, write_styled_frame, write_styled_preface, write_styled_rest,
+    write_styled_unfinished,
+};
 use h2_frame::{Code, FrameRef, HEAD_LEN};
 use hpack::{Decoded, FieldList};
 use std::alloc::Global;

@@ -25,8 +25,11 @@ use std::io::{self, Write};
 
 // What a terminal takes: bold, faint, red, and as before (ECMA-48, SGR).
 const BOLD: &[u8] = b"\x1b[1m";
+
 const FAINT: &[u8] = b"\x1b[2m";
+
 const RED: &[u8] = b"\x1b[31m";
+
 const RESET: &[u8] = b"\x1b[0m";
 
 /// Prints the line of the preface, whose first octet stands at `at`.
@@ -256,7 +259,10 @@ fn write_named_goaway<W: fmt::Write>(
     let length = goaway_length(debug);
     let name = Name(code_name(code));
     let count = debug.len();
-    write!(f, "GOAWAY 0 {length} last={last} code={code}{name} debug={count}")
+    write!(
+        f,
+        "GOAWAY 0 {length} last={last} code={code}{name} debug={count}"
+    )
 }
 
 // rule: show (own) Settings and error codes have their names where words ask for them

@@ -119,7 +119,13 @@ fn failing_reads(rt: HostRuntime) {
 // Each line is written for itself.
 #[test]
 fn failing_writes(rt: HostRuntime) {
-    for (stream, lines) in [(OPENING, 3), (FAULT, 2), (INSIDE, 2), (STYLED, 3), (JSON, 2)] {
+    for (stream, lines) in [
+        (OPENING, 3),
+        (FAULT, 2),
+        (INSIDE, 2),
+        (STYLED, 3),
+        (JSON, 2),
+    ] {
         for writes in 0..=lines {
             let is_shown = shows(rt.alloc(), stream, usize::MAX, writes, writes == lines);
             assert!(rt; is_shown, "{writes} writes of {lines}");
@@ -160,7 +166,13 @@ fn fills(alloc: Global, stream: &Stream, hex: bool, room: usize) -> bool {
         octets.as_slice()
     };
     let mut out = Full::new(alloc, room);
-    let ended = show(alloc, stream.style, hex, &mut Pieces::new(given, 5), &mut out);
+    let ended = show(
+        alloc,
+        stream.style,
+        hex,
+        &mut Pieces::new(given, 5),
+        &mut out,
+    );
     let is_full = out.octets.len() == room;
     is_full && is_printed(stream, &out.octets, ended, room == stream.lines.len())
 }

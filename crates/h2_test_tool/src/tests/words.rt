@@ -72,7 +72,14 @@ fn shown<F: Files>(
 ) -> Result<(Vec<u8>, Status), Fail> {
     let words = words_of(alloc, line)?;
     let mut out = Vec::new(alloc);
-    let status = cmd_show(files, alloc, &words, &mut text.as_bytes(), &mut out, &mut Failing);
+    let status = cmd_show(
+        files,
+        alloc,
+        &words,
+        &mut text.as_bytes(),
+        &mut out,
+        &mut Failing,
+    );
     Ok((out, status))
 }
 

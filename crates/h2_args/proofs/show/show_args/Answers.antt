@@ -26,9 +26,9 @@ limit c =
 -- what is asked for in equal words is equal
 same_asked : {options options_now : ShowOptions} {file file_now : Option Text}
     → options ≡ options_now → file ≡ file_now
-    → ◌≡◌ {A = ShowAsked} (record { options = options; file = file; })
-    (record { options = options_now; file = file_now; })
-same_asked a b = λ i. record { options = a i; file = b i; }
+    → ◌≡◌ {A = ShowAsked} (record { options = options; file = file })
+    (record { options = options_now; file = file_now })
+same_asked a b = λ i. record { options = a i; file = b i }
 
 pub returns-clause-ok : goal.returns-clause-ok
 returns-clause-ok c =
