@@ -7,7 +7,8 @@ use Rattle.h2_follow.proofs.Names.{ViewerShows, error_lines, end_lines, begins_w
 use Rattle.h2_follow.proofs.Names.{ShowLine, Style, Viewer, styled_text, text_from}
 use Rattle.h2_follow.proofs.Names.{OneSide, EndsSide, SideShows, Result, Ok, Err, IfOk, OnOk, None}
 use Rattle.h2_follow.proofs.Names.{Side, Frame, Stretches, Stretch, Bound, inl, inr, ◌⊎◌}
-use Rattle.h2_follow.proofs.Names.{take, arith, common_steps, ViewerPrints}
+use Rattle.h2_follow.proofs.Names.{take, arith, common_steps, ViewerPrints, ViewerFailsWith}
+use Rattle.h2_follow.proofs.Names.{IsStreamFault, Some, ShowError}
 use Rattle.std.proofs.Common.{min, MatchOption, Option, ◌≤◌, ◌<◌}
 use Rattle.std.proofs.lemmas.Bool.{false≢true}
 use Rattle.h2_frame.specs.declared.code.Code.TheVariants.{CompressionError}
@@ -20,7 +21,7 @@ use Rattle.h2_show.specs.Lines.{fault_line}
 use Rattle.h2_show.specs.Limited.{ViewerLimited}
 use Rattle.h2_show.specs.declared.options.Style.TheVariants.{Plain}
 use Rattle.h2_show.specs.Shown.{Shows}
-use Rattle.h2_show.specs.Styles.{places_past}
+use Rattle.h2_show.specs.Styles.{AppendsLines, places_past}
 use Rattle.h2_show.specs.Lines.{plain_line}
 use Rattle.h2_show.proofs.StyleLemmas.{text_append}
 use Rattle.h2_show.proofs.BlocksShown.{show_represents}
@@ -338,6 +339,56 @@ goes_part old new octets ends table lines is style prints keeps =
     MatchBool over (PartFails old octets printed ⊎ PartFailsByTable old octets ends table printed)
     (PartGoesOn old new octets ends table printed)) (sym is)
     (record { lines = lines; all = refl; style = style; prints = prints; keeps = keeps })
+
+-- a stretch that is at fault, as the viewer finds: after its lines that of the fault is printed
+pub fails_part : {E : Type 0} (result : Result (Unit {0}) E) (old new : OneSide) (after : Viewer)
+    (octets : List ℕ) (ends : Bool) (table : ℕ) (error : ShowError) (text mid ended : List ℕ)
+    → new.is_over ≡ true → OnOk result (IsStreamFault error)
+    → OnOk result (ended ≡ mid ++ text_from after.printer.style after.printer.next
+    (error_lines error after.cutter.place after.printer.is_due))
+    → after.printer.style ≡ old.viewer.printer.style
+    → (IsStreamFault error → (lines : List ShowLine)
+    × AppendsLines old.viewer.printer.style old.viewer.printer.next after.printer.next (Some text)
+    (Some mid) lines
+    × ViewerFailsWith old.viewer.cutter old.viewer.blocks old.viewer.printer.is_due octets error
+    after.cutter after.printer.is_due lines)
+    → OnOk result ((printed : List ℕ) × (ended ≡ text ++ printed) × (new.is_over ≡ true)
+    × ShowsPart old new octets ends table printed)
+fails_part (Err refused) old new after octets ends table error text mid ended over known last style
+    told = tt
+fails_part (Ok ok) old new after octets ends table error text mid ended over known last style told =
+    let (lines, appended, fails) = told known in
+    let first : List ℕ = text_from old.viewer.printer.style old.viewer.printer.next lines in
+    let second : List ℕ = text_from after.printer.style after.printer.next
+    (error_lines error after.cutter.place after.printer.is_due) in (
+      first ++ second,
+      last ∙ ap (λ (before : List ℕ). before ++ second) appended.0
+          ∙ append_assoc text first second,
+      over,
+      subst (λ (one : Bool). MatchBool one
+          (PartFails old octets (first ++ second)
+          ⊎ PartFailsByTable old octets ends table (first ++ second))
+          (PartGoesOn old new octets ends table (first ++ second))) (sym over)
+          (inl (record {
+            error = error;
+            after = after;
+            lines = lines;
+            all = refl;
+            style = style;
+            fails = fails;
+          })),
+    )
+
+-- the same of a side that may be over
+pub part_told : {E : Type 0} (result : Result (Unit {0}) E) (old new : OneSide) (octets : List ℕ)
+    (ends : Bool) (table : ℕ) (text ended : List ℕ)
+    → OnOk result ((printed : List ℕ) × (ended ≡ text ++ printed) × (new.is_over ≡ true)
+    × ShowsPart old new octets ends table printed)
+    → OnOk result ((printed : List ℕ) × (ended ≡ text ++ printed)
+    × (old.is_over ≡ false → ShowsPart old new octets ends table printed))
+part_told (Err refused) old new octets ends table text ended told = tt
+part_told (Ok ok) old new octets ends table text ended told =
+    let (printed, written, over, shows) = told in (printed, written, λ is. shows)
 
 -- what follows a text is dropped
 pub take_kept : (count : ℕ) (text more : List ℕ) → count ≡ length text

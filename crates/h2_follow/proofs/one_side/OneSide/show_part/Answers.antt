@@ -4,7 +4,7 @@ use Rattle.std.proofs.lemmas.Bool.{false≢true}
 use Rattle.h2_frame.specs.declared.code.Code.TheVariants.{CompressionError}
 use Rattle.h2_show.specs.Lines.{fault_line}
 use Rattle.h2_show.specs.Styles.{text_from}
-use Rattle.h2_follow.proofs.SideLemmas.{goes_part, take_kept}
+use Rattle.h2_follow.proofs.SideLemmas.{fails_part, goes_part, part_told, take_kept}
 use Rattle.h2_follow.proofs.one_side.OneSide.show_part.Goals as goal
 use Rattle.h2_follow.proofs.one_side.OneSide.show_part.Goals.{else-ends_block-via-else-ends_block}
 use Rattle.h2_follow.proofs.one_side.OneSide.show_part.Goals.{else-ends_block-via-then-ends_block+else-table_maximum-table}
@@ -46,3 +46,13 @@ returns-else-ends_block-clause-part c =
                 absurd (false≢true (sym w.if-ends_block.false ∙ ends))
           ]),
     )
+
+pub returns-in-Err-clause-part : goal.returns-in-Err-clause-part
+returns-in-Err-clause-part c =
+    part_told c.end_with.result c.args.self.now c.end_with.new.self c.args.octets.now
+    c.args.ends_block c.args.table c.args.text.now.items c.end_with.new.text.items
+    (fails_part c.end_with.result c.args.self.now c.end_with.new.self c.show_piece.new.self
+    c.args.octets.now c.args.ends_block c.args.table c.in-Err.error c.args.text.now.items
+    c.show_piece.new.out.items c.end_with.new.text.items c.end_with.ensures.over
+    c.end_with.ensures.fault c.end_with.ensures.lines c.show_piece.ensures.style
+    c.in-Err.ensures.fault)
