@@ -1,7 +1,7 @@
 -- A stream has one output and one status.
 use Rattle.std.proofs.Common.{◌≡◌, ◌⊎◌, ℕ, ◌≤◌, Bool, true, false, List, [], ◌∷◌, ◌++◌, length}
-use Rattle.std.proofs.Common.{take, drop, Option, Some, None, MatchBool, refl, sym, ◌∙◌, ap, inl, inr}
-use Rattle.std.proofs.Common.{subst, append-nil, rules}
+use Rattle.std.proofs.Common.{take, drop, Option, Some, None, MatchBool, refl, sym, ◌∙◌, ap}
+use Rattle.std.proofs.Common.{inl, inr, subst, append-nil, rules}
 use Rattle.std.proofs.lemmas.List.{take-append-drop}
 use Rattle.h2_frame.specs.declared.code.Code.{Code}
 use Rattle.h2_frame.specs.Frames.{Frame}
@@ -102,7 +102,8 @@ inside_frame_outcome expects limits stream status output frames (first ∷ other
 
 -- What is shown of a stream is one of the outcomes.
 outcome : (expects : Bool) (limits : Limits) (stream : List ℕ) (status : Status)
-    (output : List ShowLine) → Shows expects limits stream status output → Outcome expects limits stream status output
+    (output : List ShowLine) → Shows expects limits stream status output
+    → Outcome expects limits stream status output
 outcome expects limits stream status output (is_complete frames lines reading shown known all) =
     let line = all ∙ sym (append-nil (preface_lines expects stream ++ lines)) in search rules
 outcome expects limits stream status output

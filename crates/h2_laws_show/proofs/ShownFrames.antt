@@ -1,5 +1,5 @@
 -- Frames have one text that shows them, and one block that has begun.
-use Rattle.std.proofs.Common.{◌≡◌, ℕ, List, [], ◌∷◌, ◌++◌, Option, Some, None, refl, ap, sym, ◌∙◌}
+use Rattle.std.proofs.Common.{◌≡◌, List, [], ◌∷◌, ◌++◌, Option, Some, None, refl, ap, sym, ◌∙◌}
 use Rattle.std.proofs.Common.{append_assoc, length, drop, subst}
 use Rattle.std.proofs.Math.Seq.{drop-append_seam}
 use Rattle.hpack.specs.Tables.{Entries}
@@ -58,10 +58,11 @@ one_with_last (frame ∷ first) (next ∷ second) one other same =
     ((λ i. head i ∷ rest.0 i), rest.1)
 
 -- The same frames are shown, with the same lines, and the same follows them.
-record SameShown (frames others more beyond : List Frame) (lines texts : List ShowLine) : Type 0 where
-  framed : frames ≡ others
-  followed : more ≡ beyond
-  text : lines ≡ texts
+record SameShown (frames others more beyond : List Frame) (lines texts : List ShowLine) : Type 0
+  where
+    framed : frames ≡ others
+    followed : more ≡ beyond
+    text : lines ≡ texts
 
 -- Items are shown in one way.
 one_shown : (table after other : Entries) (items : List Item)
