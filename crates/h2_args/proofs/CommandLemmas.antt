@@ -61,7 +61,7 @@ pub get_is_alone : IsAlone get_app
 get_is_alone = record { ready = refl; leaves = refl; free = refl; negates = refl }
 
 -- the first argument of `get` alone is its URL
-only_url : (j : ℕ) (d : Rule) → j < 9
+only_url : (j : ℕ) (d : Rule) → j < 7
     → bytes_eq (slice_index_or get_app.top.rules j d).id (codes "URL") ≡ true → j ≡ 0
 only_url zero d lt same = refl
 only_url (suc zero) d lt same = cc
@@ -70,12 +70,10 @@ only_url (suc (suc (suc zero))) d lt same = cc
 only_url (suc (suc (suc (suc zero)))) d lt same = cc
 only_url (suc (suc (suc (suc (suc zero))))) d lt same = cc
 only_url (suc (suc (suc (suc (suc (suc zero)))))) d lt same = cc
-only_url (suc (suc (suc (suc (suc (suc (suc zero))))))) d lt same = cc
-only_url (suc (suc (suc (suc (suc (suc (suc (suc zero)))))))) d lt same = cc
-only_url (suc (suc (suc (suc (suc (suc (suc (suc (suc j))))))))) d lt same = absurd (omega arith)
+only_url (suc (suc (suc (suc (suc (suc (suc j))))))) d lt same = absurd (omega arith)
 
--- the seventh argument of `get` alone is its port
-only_get_port : (j : ℕ) (d : Rule) → j < 9
+-- the last argument of `get` alone is its port
+only_get_port : (j : ℕ) (d : Rule) → j < 7
     → bytes_eq (slice_index_or get_app.top.rules j d).id (codes "port") ≡ true → j ≡ 6
 only_get_port zero d lt same = cc
 only_get_port (suc zero) d lt same = cc
@@ -84,9 +82,7 @@ only_get_port (suc (suc (suc zero))) d lt same = cc
 only_get_port (suc (suc (suc (suc zero)))) d lt same = cc
 only_get_port (suc (suc (suc (suc (suc zero))))) d lt same = cc
 only_get_port (suc (suc (suc (suc (suc (suc zero)))))) d lt same = refl
-only_get_port (suc (suc (suc (suc (suc (suc (suc zero))))))) d lt same = cc
-only_get_port (suc (suc (suc (suc (suc (suc (suc (suc zero)))))))) d lt same = cc
-only_get_port (suc (suc (suc (suc (suc (suc (suc (suc (suc j))))))))) d lt same = absurd (omega arith)
+only_get_port (suc (suc (suc (suc (suc (suc (suc j))))))) d lt same = absurd (omega arith)
 
 pub get_wants_url : IsRequiredAt get_app 0 (required_rule (codes "URL"))
 get_wants_url = record {

@@ -9,7 +9,6 @@ use h2_case_ends::{end, engine, pair};
 use std::alloc::Global;
 use std::fs::Files;
 use std::net::Net;
-use std::rt::Files;
 
 /// A group of cases, whose files lie in the folder of its name.
 #[derive(Clone, Copy)]

@@ -29,7 +29,6 @@ use std::alloc::Global;
 use std::fs::Files;
 use std::io::Read;
 use std::net::Net;
-use std::rt::Files;
 
 /// An input of more octets is not cut at each place.
 const MOST_CUT: usize = 400;
@@ -266,7 +265,7 @@ fn add_body(text: &mut Text, body: &[u8]) {
 }
 
 // Adds the response to a POST of `count` octets.
-fn add_exchange<N: Net + Files>(net: &N, alloc: Global, count: u32, text: &mut Text) {
+fn add_exchange<N: Net>(net: &N, alloc: Global, count: u32, text: &mut Text) {
     match exchange(net, alloc, count) {
         Ok(fetched) => {
             if !fetched.interims.is_empty() || fetched.trailers.is_some() {

@@ -105,21 +105,6 @@ fn write_body<W: Write>(include: bool, fetched: &Fetched, out: &mut W) -> io::Re
     }
 }
 
-// rule: engines (own) get -o and --stream write the body as it comes, in order
-/// Prints the trailers of a body that was passed on, if it has any, where the options ask for
-/// fields.
-pub(crate) fn print_trailers<W: Write>(
-    include: bool,
-    trailers: &Option<Vec<Field>>,
-    out: &mut W,
-) -> io::Result<()> {
-    match trailers {
-        Some(fields) if include => write_trailers(fields, out)?,
-        _ => {}
-    }
-    out.flush()
-}
-
 // Prints trailers: a line end, and then their lines.
 fn write_trailers<W: Write>(fields: &[Field], out: &mut W) -> io::Result<()>
     ensures { OnOk result (Appends (W.contents out.old) (W.contents out.new)

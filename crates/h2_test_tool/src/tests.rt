@@ -9,7 +9,6 @@ mod fetching;
 mod library;
 mod links;
 mod long;
-mod parts;
 mod recorder;
 mod replaying;
 mod serving;

@@ -1,6 +1,6 @@
 -- How `get` ends.
-use Rattle.std.proofs.Common.{inl, inr, ℕ, Bool, true, false, List, Option, Result, Ok, Err}
-use Rattle.std.proofs.Common.{refl, subst, sym, MatchBool}
+use Rattle.std.proofs.Common.{inl, inr, ℕ, List, Option, Result, Ok, Err}
+use Rattle.std.proofs.Common.{refl, subst, sym}
 use Rattle.h2_cli.specs.declared.status.Status.{Status}
 use Rattle.h2_cli.specs.declared.status.Status.TheVariants.{Good, Fault, Usage, Device, Memory}
 use Rattle.h2_link.specs.declared.error.LinkError.{LinkError}
@@ -17,7 +17,6 @@ use Rattle.h2_get.specs.Ports.{NamesAtPort, IsRefusedAtPort}
 use Rattle.h2_get.specs.Requests.{IsRefusedRequest}
 use Rattle.h2_tool.specs.Commands.{EndsByRefusal, EndsWithFetch, GetsAsked, GetsSo, IsRefusedUrlOf}
 use Rattle.h2_tool.specs.Commands.{IsRefusedRequestOf, RefusesRequest, RefusesUrl}
-use Rattle.h2_tool.specs.Commands.{AsksInParts, StreamsSo}
 
 -- The URL was refused.
 url_refused : (words : GetWords) (before : Option (List ℕ)) (status : Status)
@@ -144,37 +143,3 @@ gets_so words before after (Ok fetched) Device gets so = inr (inr (inr (fetched,
 gets_so words before after (Ok fetched) Memory gets so = absurd (cc)
 gets_so words before after (Err error) status gets so =
     rw (so.0, so.1) (get_ends_early words before error gets)
-
--- The body is written as it comes, however that ends.
-pub streams_so : (words : GetWords) (before after : Option (List ℕ)) (status : Status)
-    → AsksInParts words → StreamsSo words before after status
-streams_so words before after Good asks = asks
-streams_so words before after Fault asks = asks
-streams_so words before after Usage asks = inr (inr asks)
-streams_so words before after Device asks = inr (inr asks)
-streams_so words before after Memory asks = tt
-
--- What holds of any `get` holds of such a one.
-asks_of : {words : GetWords} {result : Result Fetched LinkError} → GetsAsked words result
-    → AsksInParts words
-asks_of gets = record { location = gets.location; names = gets.names; asked = gets.asked }
-
-also_streams : (words : GetWords) (before after : Option (List ℕ)) (status : Status)
-    → GetsSo words before after status → StreamsSo words before after status
-also_streams words before after Good so = asks_of so.1
-also_streams words before after Fault (inl fails) = asks_of fails.got
-also_streams words before after Fault (inr so) = asks_of so.1
-also_streams words before after Usage (inl url) = inl url
-also_streams words before after Usage (inr (inl request)) = inr (inl request)
-also_streams words before after Usage (inr (inr fails)) = inr (inr (asks_of fails.got))
-also_streams words before after Device (inl url) = inl url
-also_streams words before after Device (inr (inl request)) = inr (inl request)
-also_streams words before after Device (inr (inr (inl fails))) = inr (inr (asks_of fails.got))
-also_streams words before after Device (inr (inr (inr so))) = inr (inr (asks_of so.1))
-also_streams words before after Memory so = tt
-
-pub gets_or_streams : (words : GetWords) (before after : Option (List ℕ)) (status : Status)
-    (parts : Bool) → GetsSo words before after status
-    → MatchBool parts (StreamsSo words before after status) (GetsSo words before after status)
-gets_or_streams words before after status true so = also_streams words before after status so
-gets_or_streams words before after status false so = so

@@ -1,7 +1,7 @@
 -- What the commands of `h2` do, by the words that follow their names and the status with which they
 -- end.
 use Rattle.std.specs.Prelude.{◌≡◌, ◌≢◌, ◌⊎◌, ℕ, Bool, true, false, List, [], ◌∷◌, Option, Some}
-use Rattle.std.specs.Prelude.{Result, Ok, Err, IfSome, MatchBool, MatchOption, codes, is_some, ◌||◌}
+use Rattle.std.specs.Prelude.{Result, Ok, Err, IfSome, MatchBool, MatchOption, codes}
 use Rattle.std.specs.Io.KnownBytes.{Appends}
 use Rattle.clap.specs.Words.{IsAmong, Kinds}
 use Rattle.clap.specs.declared.error.kind.ErrorKind.{ErrorKind}
@@ -395,43 +395,11 @@ GetsSo words before after Device = IsRefusedUrlOf words before after
     ⊎ ((fetched : Fetched) × GetsAsked words (Ok fetched))))
 GetsSo words before after Memory = after ≡ before
 
--- whether the words ask for the body as it comes
--- rule: engines (own) get -o and --stream write the body as it comes, in order
-abbrev pub is_in_parts : GetWords → Bool
-is_in_parts words = words.stream || is_some words.output
-
--- The location that the words name was asked for with the request that they ask for.
-pub record AsksInParts (words : GetWords) : Type 0 where
-  pub location : Location
-  pub names : NamesAtPort words.url words.port location
-  pub asked : IsAskable words location
-
--- How the fetch of a body that is written as it comes ends: `Usage` comes only where the URL can't
--- be fetched, no request can be made, or one was refused (N7), and with a refusal nothing was
--- printed. What was written is said of `pass_body`.
--- rule: engines (own) get -o and --stream write the body as it comes, in order
-abbrev pub StreamsSo : GetWords → (before after : Option (List ℕ)) → Status → Type 0
-StreamsSo words before after Good = AsksInParts words
-StreamsSo words before after Fault = AsksInParts words
-StreamsSo words before after Usage = IsRefusedUrlOf words before after
-    ⊎ (IsRefusedRequestOf words before after ⊎ AsksInParts words)
-StreamsSo words before after Device = IsRefusedUrlOf words before after
-    ⊎ (IsRefusedRequestOf words before after ⊎ AsksInParts words)
-StreamsSo words before after Memory = Unit {0}
-
--- How words that have no fault end, by whether they ask for the body as it comes.
--- rule: engines (own) serve, get and loop have their words
-abbrev pub GetsOrStreams : GetWords → (before after : Option (List ℕ)) → Status → Type 0
-GetsOrStreams words before after status =
-    MatchBool (is_in_parts words) (StreamsSo words before after status)
-    (GetsSo words before after status)
-
 -- How `h2 get` ends.
 -- rule: engines (own) serve, get and loop have their words
 abbrev pub EndsGet : (words : List (List ℕ)) → (before after : Option (List ℕ)) → Status → Type 0
 EndsGet words before after status =
-    ((asked : GetWords) × (get_words_of words ≡ Some asked)
-    × GetsOrStreams asked before after status)
+    ((asked : GetWords) × (get_words_of words ≡ Some asked) × GetsSo asked before after status)
     ⊎ EndsByWords (get_faults words) before after status
 
 -- The exchange has ended early, with an error of this status, and nothing was printed.

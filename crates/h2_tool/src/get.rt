@@ -2,21 +2,18 @@
 
 ghost use Rattle.std.specs.Prelude.{◌≡◌, Ok, if◌then◌else◌, is_ok, map, string_bytes};
 ghost use Rattle.h2_cli.specs.declared.status.Status.TheVariants.{Device, Usage};
-ghost use Rattle.h2_net.specs.Endings.{status_with, without_hint};
+ghost use Rattle.h2_net.specs.Endings.{without_hint};
 ghost use Rattle.h2_args.specs.Words.{asked_by};
 ghost use Rattle.h2_tool.specs.Commands.{EndsGet, EndsWithFetch, RefusesRequest, RefusesUrl};
-ghost use Rattle.h2_tool.specs.Commands.{is_in_parts};
 
 use crate::program::{answer, give_up};
-use crate::streaming::stream_get;
 use h2_args::{GetOptions, get_args};
 use h2_cli::{Failure, Status};
 use h2_get::{RequestFault, is_failure, location_at, print_asked, request_of, write_failure};
-use h2_net::{Ending, Fetched, LinkError, TargetFault, fetch_location, report};
+use h2_net::{Ending, Fetched, TargetFault, fetch_location, report};
 use std::alloc::Global;
 use std::io::{self, Write};
 use std::net::Net;
-use std::rt::Files;
 
 // contract: engines (own) The words of get make its request and say what is printed
 // rule: engines (own) The words of get make its request and say what is printed
@@ -28,7 +25,7 @@ use std::rt::Files;
 /// help; [`Status::Fault`] for a response that the words make a failure; [`Status::Usage`] for
 /// wrong words, a URL that can't be fetched and a request that breaks a rule; and else that of
 /// [`h2_net::status_of`].
-pub fn cmd_get<N: Net + Files, W: Write, E: Write>(
+pub fn cmd_get<N: Net, W: Write, E: Write>(
     net: &N,
     alloc: Global,
     words: &[String],
@@ -50,19 +47,8 @@ pub fn cmd_get<N: Net + Files, W: Write, E: Write>(
         Ok(message) => message,
         Err(fault) => return refuse_request(fault, err),
     };
-    if is_in_parts(&options) {
-        return stream_get(net, alloc, &options, &location, message, out, err);
-    }
     let got = fetch_location(net, alloc, &location, message);
     end_get(&options, got, out, err)
-}
-
-// rule: engines (own) get -o and --stream write the body as it comes, in order
-// Whether the options ask for the body as it comes.
-fn is_in_parts(options: &GetOptions<'_>) -> bool
-    ensures { result ≡ is_in_parts (asked_by options.now) }
-{
-    options.stream || options.output.is_some()
 }
 
 // rule: engines (own) N1 to N7 end a command with their statuses
@@ -78,22 +64,8 @@ fn end_get<W: Write, E: Write>(
 {
     match got {
         Ok(fetched) => end_fetched(options, &fetched, out, err),
-        Err(ending) => report_fetch(ending, err),
+        Err(ending) => report(ending, err),
     }
-}
-
-// rule: engines (own) N1 to N7 end a command with their statuses
-/// Prints on standard error how a fetch has ended early, and the hint that is known. A request that
-/// breaks no rule is refused only since its fields are too many.
-pub(crate) fn report_fetch<E: Write>(ending: Ending, err: &mut E) -> Status
-    ensures { result ≡ status_with ending.error }
-{
-    let status = report(ending, err);
-    if ending.error == LinkError::Refused {
-        // The status is that of the error, whether or not this write fails.
-        let _ = err.write_all(b"hint: the fields of the request are too many\n");
-    }
-    status
 }
 
 // rule: engines (own) With --fail a status of 400 or above ends get with status 1
@@ -124,10 +96,6 @@ fn refuse_url<E: Write>(fault: TargetFault, err: &mut E) -> Status
 {
     if fault == TargetFault::Memory {
         return give_up(Failure::Memory, err);
-    }
-    if fault == TargetFault::NoPort {
-        let named = "hint: --port names one where the URL has none";
-        return status_after(writeln!(err, "error: {fault}\n{named}"));
     }
     status_after(writeln!(err, "error: {fault}"))
 }

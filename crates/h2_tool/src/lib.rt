@@ -12,7 +12,6 @@ mod program;
 mod replay;
 mod show;
 mod sockets;
-mod streaming;
 
 pub use get::cmd_get;
 pub use program::{no_words, run};

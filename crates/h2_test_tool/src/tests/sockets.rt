@@ -8,7 +8,6 @@ use h2_tool::run;
 use std::alloc::Global;
 use std::fs::Files;
 use std::net::{Ipv4Addr, Net, OpenListener, SocketAddr, TcpListener};
-use std::rt::Files;
 use std::test::Fail;
 
 /// What is reported where nothing listens at a port.

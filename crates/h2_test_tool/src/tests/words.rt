@@ -7,7 +7,6 @@ use std::alloc::Global;
 use std::fs::Files;
 use std::io::{self, ErrorKind};
 use std::net::Net;
-use std::rt::Files;
 use std::test::Fail;
 
 /// The words of a line, divided by one space.

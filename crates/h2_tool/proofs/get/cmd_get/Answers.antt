@@ -1,14 +1,13 @@
 -- The words, the URL or the request are refused, or the fetch has ended.
-use Rattle.std.proofs.Common.{ℕ, List, subst, inl, inr, sym, ◌∙◌}
+use Rattle.std.proofs.Common.{ℕ, List, subst, inl, inr}
 use Rattle.h2_message.specs.Messages.{SentMessage}
 use Rattle.h2_net.specs.Endings.{without_hint}
 use Rattle.h2_net.specs.Fetching.{FetchesRequest}
 use Rattle.h2_args.specs.Words.{asked_by}
 use Rattle.h2_get.specs.Ports.{IsRefusedAtPort, NamesAtPort}
-use Rattle.h2_tool.specs.Commands.{AsksInParts, GetsAsked, is_in_parts}
+use Rattle.h2_tool.specs.Commands.{GetsAsked}
 use Rattle.h2_tool.proofs.WordLemmas.{ends_by_words}
-use Rattle.h2_tool.proofs.GetLemmas.{get_asks_nothing, get_refuses, gets_or_streams, gets_so}
-use Rattle.h2_tool.proofs.GetLemmas.{streams_so}
+use Rattle.h2_tool.proofs.GetLemmas.{get_asks_nothing, get_refuses, gets_so}
 use Rattle.h2_tool.proofs.get.cmd_get.Goals as goal
 
 pub returns-in-Err : goal.returns-in-Err
@@ -21,10 +20,9 @@ returns-in-Err-location_at g c =
     inl (
       words,
       c.in-Ok.ensures.ok,
-      gets_or_streams words _ _ c.refuse_url.result (is_in_parts words)
-          (get_refuses words _ c.in-Err-location_at.fault c.refuse_url.result
+      get_refuses words _ c.in-Err-location_at.fault c.refuse_url.result
           (subst (λ (url : List ℕ). IsRefusedAtPort url words.port c.in-Err-location_at.fault)
-          c.as_bytes.ensures.value c.in-Err-location_at.ensures.err) c.refuse_url.ensures),
+          c.as_bytes.ensures.value c.in-Err-location_at.ensures.err) c.refuse_url.ensures,
     )
 
 pub returns-in-Err-request_of : goal.returns-in-Err-request_of
@@ -33,28 +31,11 @@ returns-in-Err-request_of g c =
     inl (
       words,
       c.in-Ok.ensures.ok,
-      gets_or_streams words _ _ c.refuse_request.result (is_in_parts words)
-          (get_asks_nothing words _ c.in-Ok-location_at.location c.in-Err-request_of.fault
+      get_asks_nothing words _ c.in-Ok-location_at.location c.in-Err-request_of.fault
           c.refuse_request.result
           (subst (λ (url : List ℕ). NamesAtPort url words.port c.in-Ok-location_at.location)
           c.as_bytes.ensures.value c.in-Ok-location_at.ensures.ok)
-          c.in-Err-request_of.ensures.err c.refuse_request.ensures),
-    )
-
-pub returns-then-is_in_parts : goal.returns-then-is_in_parts
-returns-then-is_in_parts g c =
-    let words = asked_by c.in-Ok.options in
-    let asks : AsksInParts words = record {
-      location = c.in-Ok-location_at.location;
-      names = subst (λ (url : List ℕ). NamesAtPort url words.port c.in-Ok-location_at.location)
-          c.as_bytes.ensures.value c.in-Ok-location_at.ensures.ok;
-      asked = c.in-Ok-request_of.ensures.asked;
-    } in
-    inl (
-      words,
-      c.in-Ok.ensures.ok,
-      rw (sym c.is_in_parts.ensures ∙ c.if-is_in_parts.true)
-          (streams_so words _ _ c.stream_get.result asks),
+          c.in-Err-request_of.ensures.err c.refuse_request.ensures,
     )
 
 pub returns : goal.returns
@@ -72,7 +53,6 @@ returns g c =
     inl (
       words,
       c.in-Ok.ensures.ok,
-      gets_or_streams words _ _ c.end_get.result (is_in_parts words)
-          (gets_so words _ _ (without_hint c.fetch_location-got.result) c.end_get.result gets
-          c.end_get.ensures),
+      gets_so words _ _ (without_hint c.fetch_location-got.result) c.end_get.result gets
+          c.end_get.ensures,
     )
