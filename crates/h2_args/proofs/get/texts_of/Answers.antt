@@ -1,5 +1,5 @@
 -- The values are those of the row, or there are none.
-use Rattle.h2_args.proofs.Names.{◌≡◌, ◌∙◌, [], ap, sym, map, found_of, rows_of, List, Option, Some}
+use Rattle.h2_args.proofs.Names.{◌≡◌, ◌∙◌, [], ap, map, found_of, rows_of, List, Option}
 use Rattle.h2_args.proofs.Names.{None, Text, unwrap_or}
 use Rattle.std.proofs.lemmas.Result.{IfOk-weaker}
 use Rattle.clap.proofs.WalkLemmas.{raw_values-rows}

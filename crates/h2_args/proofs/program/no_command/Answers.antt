@@ -22,7 +22,8 @@ returns-in_err-command-clause-err c =
     let words = map string_bytes c.args.words.now in
     let fails : IfErr c.from_residual.result (HasKind (program_faults show_names sides words)) =
     search rules in
-    IfErr-weaker c.from_residual.result _ _ (λ e h. (show_names, sides, (refl, refl), refl, h)) fails
+    IfErr-weaker c.from_residual.result _ _ (λ e h. (show_names, sides, (refl, refl), refl, h))
+    fails
 
 pub returns-in_err-try_get_matches_from-clause-err
     : goal.returns-in_err-try_get_matches_from-clause-err

@@ -1,6 +1,5 @@
 -- The value is that of the row, or there is none.
-use Rattle.h2_args.proofs.Names.{◌≡◌, ◌∙◌, ap, codes, found_of, first_of, rows_of, first_value-rows}
-use Rattle.h2_args.proofs.Names.{Option, Text}
+use Rattle.h2_args.proofs.Names.{◌∙◌, ap, codes, found_of, first_value-rows}
 use Rattle.h2_args.specs.Words.{file_of}
 use Rattle.h2_args.proofs.show.file_of.Goals as goal
 

@@ -1,7 +1,9 @@
 use Rattle.h2_args.proofs.Names.{◌≡◌, ◌∙◌, ℕ, IfErr, map, string_bytes, refl, ap, sym, rules, Some}
 use Rattle.h2_args.proofs.Names.{arith, codes, IfErr-weaker, ExplainsUnsignedError}
 use Rattle.h2_args.proofs.Names.{HasUnsignedDigitsIfOk, ParsesUnsigned, HasKind, found_of, rows_of}
-use Rattle.h2_args.proofs.Names.{show_app, show_names, show_faults, Option, Text}
+use Rattle.h2_args.proofs.Names.{show_app, show_names, show_faults, Option, Text, App, fault_of}
+use Rattle.h2_args.proofs.Names.{is_simple_and_free, subst}
+use Rattle.std.proofs.lemmas.Result.{err_from_is_err_and}
 use Rattle.h2_show.specs.declared.options.ShowOptions.{ShowOptions}
 use Rattle.h2_args.specs.Words.{ShowAsked, show_asked_in, show_options_in}
 use Rattle.h2_args.proofs.CommandLemmas.{show_is_alone, show_names_limit}
@@ -63,13 +65,17 @@ returns-clause-most c =
 pub returns-in_err-command-clause-err : goal.returns-in_err-command-clause-err
 returns-in_err-command-clause-err c =
     let words = map string_bytes c.args.words.now in
-    let fails : IfErr c.from_residual.result (HasKind (show_faults show_names words)) = search rules in
+    let fails : IfErr c.from_residual.result (HasKind (show_faults show_names words)) =
+    search rules in
     IfErr-weaker c.from_residual.result _ _ (λ e h. (show_names, (refl, refl), h)) fails
 
 pub returns-in_err-matches-clause-err : goal.returns-in_err-matches-clause-err
 returns-in_err-matches-clause-err c =
     let is = c.in_ok-command.ensures in
     let words = map string_bytes c.args.words.now in
-    let fails : IfErr c.from_residual-in_err-matches.result (HasKind (show_faults is.0 words)) =
-    search rules in
-    IfErr-weaker c.from_residual-in_err-matches.result _ _ (λ e h. (is.0, is.1, h)) fails
+    let kinds = c.in_err-matches.ensures.kinds (ap is_simple_and_free is.2) in
+    let faults : HasKind (show_faults is.0 words) c.in_err-matches.field-0.0 =
+    subst (λ (a : App). HasKind (fault_of a words) c.in_err-matches.field-0.0) is.2 kinds in
+    let answer = err_from_is_err_and c.from_residual-in_err-matches.result
+    c.from_residual-in_err-matches.ensures.1 in
+    rw (answer.1, answer.2) (is.0, is.1, faults)
