@@ -16,3 +16,9 @@ returns-in-Ok-client c =
     (read_back c.make.type_inv) none
     (ap (λ (place : BjConn). place.held) c.is_held.ensures.same ∙ none)
     c.in-Ok.ensures.good c.in-Ok.ensures.values c.in-Ok-client.ensures.ok c.make.ensures
+
+pub make-requires : goal.make-requires
+make-requires c =
+    let none : c.args.conn.now.held ≡ None = none_since c.args.conn.now.held
+    (sym c.is_held.ensures.value ∙ c.if-is_held.false) in
+    ap (λ (place : BjConn). place.held) c.is_held.ensures.same ∙ none
