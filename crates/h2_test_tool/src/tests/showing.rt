@@ -14,10 +14,13 @@ struct Stream {
     status: Status,
 }
 
+/// The octets of an opening.
+const OPENING_TEXT: &str = "505249202a20485454502f322e300d0a0d0a534d0d0a0d0a\
+        00000c040000000000 000300000064 00f000000007 000004080000000000 3fff0001";
+
 /// 58 octets without a fault.
 const OPENING: &Stream = &Stream {
-    text: "505249202a20485454502f322e300d0a0d0a534d0d0a0d0a\
-        00000c040000000000 000300000064 00f000000007 000004080000000000 3fff0001",
+    text: OPENING_TEXT,
     style: Style::Plain,
     lines: "preface\nSETTINGS 0 12 3=100 240=7\nWINDOW_UPDATE 0 4 add=1073676289\n",
     status: Status::Good,
@@ -31,9 +34,12 @@ const FAULT: &Stream = &Stream {
     status: Status::Fault,
 };
 
+/// The octets of an input that ends inside a frame.
+const INSIDE_TEXT: &str = "505249202a20485454502f322e300d0a0d0a534d0d0a0d0a 000018";
+
 /// The end inside a frame.
 const INSIDE: &Stream = &Stream {
-    text: "505249202a20485454502f322e300d0a0d0a534d0d0a0d0a 000018",
+    text: INSIDE_TEXT,
     style: Style::Plain,
     lines: "preface\nrest 3\n",
     status: Status::Fault,
@@ -41,7 +47,7 @@ const INSIDE: &Stream = &Stream {
 
 /// The first of them by name, with places and colors.
 const STYLED: &Stream = &Stream {
-    text: OPENING.text,
+    text: OPENING_TEXT,
     style: Style::Text(TextStyle {
         names: true,
         places: true,
@@ -55,7 +61,7 @@ const STYLED: &Stream = &Stream {
 
 /// The last of them as JSON.
 const JSON: &Stream = &Stream {
-    text: INSIDE.text,
+    text: INSIDE_TEXT,
     style: Style::Json,
     lines: "{\"at\":1,\"type\":\"preface\"}\n{\"at\":25,\"type\":\"rest\",\"octets\":3}\n",
     status: Status::Fault,
