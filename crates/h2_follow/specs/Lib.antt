@@ -1,3 +1,4 @@
+pub mod Peaks
 pub mod FollowText
 pub mod InForce
 pub mod Stretches
