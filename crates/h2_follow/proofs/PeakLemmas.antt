@@ -1,10 +1,10 @@
 -- The peaks of a queue, as numbers come and go.
 use Rattle.std.proofs.Common.{◌≡◌, ◌∙◌, ◌++◌, ◌∷◌, ◌≤◌, ◌<◌, ◌⊎◌, ℕ, [], List, refl, sym, ap, subst, arith}
-use Rattle.std.proofs.Common.{true, false, Bool, Option, Some, None, option_to_list, max, inl, inr}
+use Rattle.std.proofs.Common.{true, false, Option, Some, None, option_to_list, max, inl, inr}
 use Rattle.std.proofs.Common.{nat_lt, if◌then◌else◌, length, ◌-◌, slice_index_or}
 use Rattle.std.proofs.lemmas.Grind.{common_steps}
 use Rattle.std.proofs.lemmas.Bool.{cases_lt}
-use Rattle.h2_follow.specs.Peaks.{ends_below, greatest_of, is_first, peaks_of, with_peak}
+use Rattle.h2_follow.specs.Peaks.{ends_below, greatest_of, peaks_of, with_peak}
 
 -- None of the numbers is above this one.
 abbrev AllUpTo : (most : ℕ) → List ℕ → Type 0

@@ -5,9 +5,12 @@ ghost use Rattle.h2_follow.specs.Peaks.{peaks_of};
 
 use crate::peaks::{greatest, pop_peak, push_peak};
 use h2_frame::Pairs;
-use h2_frame::limits::{FIRST_TABLE, LEAST_MAX_FRAME};
+use h2_frame::limits::{FIRST_TABLE, LEAST_MAX_FRAME, MOST_MAX_FRAME};
 use std::alloc::{AllocError, Global};
 use std::collections::VecDeque;
+
+/// The greatest table that is kept.
+const MOST_TABLE: u32 = 65_536;
 
 /// The settings of a side that limit what the other sends.
 #[derive(Clone, Copy, Debug, PartialEq, Eq)]
@@ -55,6 +58,7 @@ impl InForce {
     ghost use Rattle.h2_frame.specs.Pairs.{lent_pairs};
     ghost use Rattle.h2_follow.specs.InForce.{acknowledged, announced};
     ghost use Rattle.h2_follow.specs.InForce.{bound_of, first_bound, frame_bound, table_bound};
+    ghost use Rattle.h2_follow.specs.Unchecked.{allows_unread};
 
     /// No SETTINGS have come.
     pub(crate) fn new(alloc: Global) -> InForce
@@ -123,5 +127,13 @@ impl InForce {
         ensures { result ≡ table_bound (bound_of self.now) }
     {
         greatest(&self.tables, self.acknowledged.table)
+    }
+    // contract: follow (own) Where SETTINGS allow a side more than is read, a line says so once
+    // rule: follow (own) Where SETTINGS allow a side more than is read, a line says so once
+    /// Whether the side may use a greater table than is kept, or send longer frames than are taken.
+    pub(crate) fn allows_unread(&self) -> bool
+        ensures { result ≡ allows_unread (bound_of self.now) }
+    {
+        self.max_frame(0) > MOST_MAX_FRAME || self.table() > MOST_TABLE
     }
 }

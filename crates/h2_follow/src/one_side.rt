@@ -288,8 +288,6 @@ fn hint_of(error: &ShowError, allowed: u32) -> FollowHint {
 fn hint_of_length(allowed: u32) -> FollowHint {
     if allowed < MOST_MAX_FRAME {
         FollowHint::LongFrame
-    } else if allowed > MOST_MAX_FRAME {
-        FollowHint::NotChecked
     } else {
         FollowHint::Fault
     }

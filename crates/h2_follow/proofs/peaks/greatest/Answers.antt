@@ -1,5 +1,5 @@
 -- The first peak is the greatest number.
-use Rattle.std.proofs.Common.{arith, rules}
+use Rattle.std.proofs.Common.{arith}
 use Rattle.h2_follow.proofs.PeakLemmas.{greatest_lent, greatest_none}
 use Rattle.h2_follow.proofs.peaks.greatest.Goals as goal
 

@@ -1,5 +1,5 @@
 -- Peaks below the number are dropped, and it comes after the others.
-use Rattle.std.proofs.Common.{◌∙◌, rules, sym, arith}
+use Rattle.std.proofs.Common.{◌∙◌, rules, sym}
 use Rattle.h2_follow.proofs.PeakLemmas.{falls_popped, kept_popped, peaks_pushed}
 use Rattle.h2_follow.proofs.peaks.push_peak.Goals as goal
 

@@ -1,5 +1,5 @@
 -- The peaks that are left are those so far but for some below the number.
-use Rattle.std.proofs.Common.{◌≡◌, ◌≤◌, ◌<◌}
+use Rattle.std.proofs.Common.{◌≡◌, ◌<◌}
 use Rattle.std.specs.VecDeque.{deque_capacity, deque_len}
 use Rattle.h2_follow.proofs.PeakLemmas.{Falls, kept_from}
 use Rattle.h2_follow.proofs.peaks.push_peak.Given as goal
