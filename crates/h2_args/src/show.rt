@@ -212,6 +212,8 @@ that is not of tshark's text ends all with `bad hex`; the hint has its number.
 Frames and header tables are checked by the SETTINGS of the other side: a
 greater value is in force from them on, a smaller one from the ACK on. Frames
 of up to the octets of --max-frame are taken in any case.
+`> not checked` or `< not checked` says once that they allow that side a table
+above 65536 octets or frames above 1048576: a fault after it may be none.
 
 Example:
   $ echo 000004 08 00 00000000 0000000f | h2 show --hex --from server

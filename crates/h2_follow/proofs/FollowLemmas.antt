@@ -1,5 +1,5 @@
 -- What is shown of a text, by what was read of it.
-use Rattle.h2_follow.proofs.Names.{◌≡◌, ◌∙◌, ◌++◌, ◌∷◌, ◌+◌, ◌==◌, ℕ, [], List, refl, sym, ap}
+use Rattle.h2_follow.proofs.Names.{◌≡◌, ◌∙◌, ◌++◌, ◌∷◌, ◌+◌, ◌==◌, ℕ, [], List, refl, ap}
 use Rattle.h2_follow.proofs.Names.{subst}
 use Rattle.h2_follow.proofs.Names.{Stretches, output_of, length, if◌then◌else◌, Option, Some, None}
 use Rattle.h2_follow.proofs.Names.{Result, Ok}

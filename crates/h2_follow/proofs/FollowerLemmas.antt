@@ -1,7 +1,7 @@
 -- Both sides, as octets come.
-use Rattle.h2_follow.proofs.Names.{◌≡◌, ◌≢◌, ◌∙◌, ◌++◌, ◌∷◌, ◌⊎◌, ℕ, [], List, refl, sym, ap}
-use Rattle.h2_follow.proofs.Names.{subst}
-use Rattle.h2_follow.proofs.Names.{append-nil, inl, inr, true, MatchBool, Option, Some, None, Side}
+use Rattle.h2_follow.proofs.Names.{◌≡◌, ◌∙◌, ◌++◌, ◌∷◌, ◌⊎◌, ℕ, [], List, refl, sym, ap}
+use Rattle.h2_follow.proofs.Names.{subst, false}
+use Rattle.h2_follow.proofs.Names.{append-nil, inl, inr, true, Option, Some, None, Side}
 use Rattle.h2_follow.proofs.Names.{Client, Server, OneSide, SideShows, OfSide, Piece, Result, Ok}
 use Rattle.h2_follow.proofs.Names.{Err, OnOk, Appends, Node, marked_of, output_of, Follower}
 use Rattle.h2_follow.proofs.Names.{EndsSide}
@@ -119,10 +119,11 @@ take_told (Ok ok) old mid new client piece side octets before after chooses same
 
 -- before any octets have come
 pub none_taken : (follower : Follower) (least : ℕ) → follower.client ≡ None
+    → follower.is_client_noted ≡ false → follower.is_server_noted ≡ false
     → bound_of follower.client_bound ≡ first_bound → bound_of follower.server_bound ≡ first_bound
     → SideShows follower.client_side Client [] → SideShows follower.server_side Server []
     → follower.least ≡ least → FollowerShows follower least [] []
-none_taken follower least none_yet one two client server same = record {
+none_taken follower least none_yet no_client no_server one two client server same = record {
   knows = subst (λ (known : Option Node). KnowsClient known []) (sym none_yet) refl;
   parts = no_pieces [] [] refl refl;
   reads = record {
@@ -130,6 +131,8 @@ none_taken follower least none_yet one two client server same = record {
     server_may = two;
     client = client;
     server = server;
+    client_said = no_client;
+    server_said = no_server;
     is_log = tt;
   };
   same = same;

@@ -1,8 +1,10 @@
 mod FollowLemmas
 pub mod FollowerLemmas
+mod GreatestLemmas
 mod LinesLemmas
 pub mod StretchLemmas
 mod Names
+pub mod PeakLemmas
 pub mod SideLemmas
 mod TextLemmas
 pub mod examples

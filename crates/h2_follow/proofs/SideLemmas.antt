@@ -31,7 +31,7 @@ use Rattle.h2_follow.specs.Follower.{PartFails, PartFailsByTable, PartGoesOn, Sh
 use Rattle.h2_follow.specs.Follower.{SideGoesOn, stretch_of}
 use Rattle.h2_follow.specs.Follows.{SideEnds, as_shown, at_table}
 use Rattle.h2_follow.specs.InForce.{frame_bound, table_bound}
-use Rattle.h2_follow.specs.Stretches.{SideIsOver, SideIsRead, IsSoFar, KeepsTable, by_show}
+use Rattle.h2_follow.specs.Stretches.{SideIsOver, SideIsRead, IsSoFar, by_show}
 use Rattle.h2_follow.specs.Stretches.{ShowsPlain, by_table, is_at_fault}
 use Rattle.h2_follow.specs.Stretches.{is_sound, frames_read, last_ends, limits_in, lines_read}
 use Rattle.h2_follow.specs.Stretches.{octets_read}
@@ -152,12 +152,12 @@ pub reads_part : (old mid new : OneSide) (limited : CutterState) (least : ℕ) (
     → ends ≡ last_ends frames → ShowsPart mid new octets ends (table_bound bound) printed
     → SideReads old new least bound octets frames printed
 reads_part old mid new limited least bound octets frames ends printed is limit continues same
-    viewer_limit styled last shows from own before =
+    viewer_limit styled last shows from own notice before =
     let goes : SideGoesOn old from own = going old from own is before in
     let shown = viewer_limit (begins_with_preface from) (limits_in own) (octets_read own)
     goes.shown goes.viewer in
     let cut = continues.represents (begins_with_preface from)
-    (limits_in (stretch_of from least bound octets frames printed ∷ own)) (octets_read own)
+    (limits_in (stretch_of from least bound notice octets frames printed ∷ own)) (octets_read own)
     (frames_read own) (limit.represents (begins_with_preface from) (limits_in own) (octets_read own)
     (frames_read own) goes.scanner) in
     by new.is_over goes.shown shown (styled ∙ goes.plain) goes.text cut shows
@@ -165,40 +165,40 @@ reads_part old mid new limited least bound octets frames ends printed is limit c
     by : (over : Bool) (before_it : List ShowLine)
         → ViewerShows mid.viewer.cutter mid.viewer.blocks mid.viewer.printer.is_due
         (begins_with_preface from)
-        (limits_in (stretch_of from least bound octets frames printed ∷ own)) (octets_read own)
+        (limits_in (stretch_of from least bound notice octets frames printed ∷ own)) (octets_read own)
         before_it
         → mid.viewer.printer.style ≡ Plain → lines_read own ≡ styled_text Plain before_it
         → CutterRepresents mid.scanner (begins_with_preface from)
-        (limits_in (stretch_of from least bound octets frames printed ∷ own)) (octets_read own ++ octets)
+        (limits_in (stretch_of from least bound notice octets frames printed ∷ own)) (octets_read own ++ octets)
         (frames_read own ++ frames)
         → MatchBool over
         (PartFails mid octets printed ⊎ PartFailsByTable mid octets ends (table_bound bound) printed)
         (PartGoesOn mid new octets ends (table_bound bound) printed)
         → MatchBool over
-        (SideIsOver from (stretch_of from least bound octets frames printed ∷ own)
-        × SideIsRead from (stretch_of from least bound octets frames printed ∷ own))
-        (SideGoesOn new from (stretch_of from least bound octets frames printed ∷ own))
+        (SideIsOver from (stretch_of from least bound notice octets frames printed ∷ own)
+        × SideIsRead from (stretch_of from least bound notice octets frames printed ∷ own))
+        (SideGoesOn new from (stretch_of from least bound notice octets frames printed ∷ own))
     by true before_it shown plain text cut (inl fails) = (
-      show_over mid from own (stretch_of from least bound octets frames printed) printed before_it
+      show_over mid from own (stretch_of from least bound notice octets frames printed) printed before_it
           refl shown plain text fails,
       is_sound mid.scanner.unparsed cut.split,
     )
     by true before_it shown plain text cut (inr fails) = (
-      table_over mid from own (stretch_of from least bound octets frames printed) ends printed
+      table_over mid from own (stretch_of from least bound notice octets frames printed) ends printed
           before_it refl last shown fails,
       is_sound mid.scanner.unparsed cut.split,
     )
     by false before_it shown plain text cut goes = record {
       shown = before_it ++ goes.lines;
       viewer = goes.prints (begins_with_preface from)
-          (limits_in (stretch_of from least bound octets frames printed ∷ own)) (octets_read own)
+          (limits_in (stretch_of from least bound notice octets frames printed ∷ own)) (octets_read own)
           before_it shown;
       plain = goes.style ∙ plain;
       text = ap (λ (last : List ℕ). lines_read own ++ last) goes.all
           ∙ plain_goes_on mid.viewer.printer.style mid.viewer.printer.next (lines_read own)
           before_it goes.lines plain text;
       scanner = subst (λ (state : CutterState). CutterRepresents state (begins_with_preface from)
-          (limits_in (stretch_of from least bound octets frames printed ∷ own))
+          (limits_in (stretch_of from least bound notice octets frames printed ∷ own))
           (octets_read own ++ octets) (frames_read own ++ frames)) (sym same) cut;
       keeps = λ ended. goes.keeps (last ∙ ended);
     }
@@ -233,30 +233,30 @@ pub reads_fault : (old mid new : OneSide) (limited failed : CutterState) (least 
     → new.is_over ≡ true → ShowsPart mid new octets false 0 printed
     → SideReads old new least bound octets [] printed
 reads_fault old mid new limited failed least bound octets fault printed is limit other fails
-    viewer_limit styled over shows from own before =
+    viewer_limit styled over shows from own notice before =
     let goes : SideGoesOn old from own = going old from own is before in
     let shown = viewer_limit (begins_with_preface from) (limits_in own) (octets_read own)
     goes.shown goes.viewer in
     let cut = limit.represents (begins_with_preface from) (limits_in own) (octets_read own)
     (frames_read own) goes.scanner in
     let at = (found fault limited failed octets other fails cut.sound).at
-    (begins_with_preface from) (limits_in (stretch_of from least bound octets [] printed ∷ own))
+    (begins_with_preface from) (limits_in (stretch_of from least bound notice octets [] printed ∷ own))
     (octets_read own) (frames_read own) cut in
     over_now (
       by (fails_now shows) goes.shown shown (styled ∙ goes.plain) goes.text,
       is_at_fault at.0 fault (subst (λ (frames : List Frame).
           WireFaultAt (begins_with_preface from)
-          (limits_in (stretch_of from least bound octets [] printed ∷ own)) (octets_read own ++ octets) frames
+          (limits_in (stretch_of from least bound notice octets [] printed ∷ own)) (octets_read own ++ octets) frames
           at.0 fault) (sym (append-nil (frames_read own))) at.1),
     )
   where
-    over_now : SideIsOver from (stretch_of from least bound octets [] printed ∷ own)
-        × SideIsRead from (stretch_of from least bound octets [] printed ∷ own)
-        → SideShows new from (stretch_of from least bound octets [] printed ∷ own)
+    over_now : SideIsOver from (stretch_of from least bound notice octets [] printed ∷ own)
+        × SideIsRead from (stretch_of from least bound notice octets [] printed ∷ own)
+        → SideShows new from (stretch_of from least bound notice octets [] printed ∷ own)
     over_now both = subst (λ (one : Bool). MatchBool one
-        (SideIsOver from (stretch_of from least bound octets [] printed ∷ own)
-        × SideIsRead from (stretch_of from least bound octets [] printed ∷ own))
-        (SideGoesOn new from (stretch_of from least bound octets [] printed ∷ own))) (sym over) both
+        (SideIsOver from (stretch_of from least bound notice octets [] printed ∷ own)
+        × SideIsRead from (stretch_of from least bound notice octets [] printed ∷ own))
+        (SideGoesOn new from (stretch_of from least bound notice octets [] printed ∷ own))) (sym over) both
 
     fails_now : ShowsPart mid new octets false 0 printed
         → PartFails mid octets printed ⊎ PartFailsByTable mid octets false 0 printed
@@ -267,12 +267,12 @@ reads_fault old mid new limited failed least bound octets fault printed is limit
     by : PartFails mid octets printed ⊎ PartFailsByTable mid octets false 0 printed
         → (before_it : List ShowLine)
         → ViewerShows mid.viewer.cutter mid.viewer.blocks mid.viewer.printer.is_due
-        (begins_with_preface from) (limits_in (stretch_of from least bound octets [] printed ∷ own))
+        (begins_with_preface from) (limits_in (stretch_of from least bound notice octets [] printed ∷ own))
         (octets_read own) before_it
         → mid.viewer.printer.style ≡ Plain → lines_read own ≡ styled_text Plain before_it
-        → SideIsOver from (stretch_of from least bound octets [] printed ∷ own)
+        → SideIsOver from (stretch_of from least bound notice octets [] printed ∷ own)
     by (inl failed_so) before_it shown plain text =
-        show_over mid from own (stretch_of from least bound octets [] printed) printed before_it
+        show_over mid from own (stretch_of from least bound notice octets [] printed) printed before_it
         refl shown plain text failed_so
     by (inr by_table_so) before_it shown plain text = absurd (false≢true by_table_so.block)
 

@@ -1,6 +1,6 @@
 -- Parts that were read, and one more.
 use Rattle.h2_follow.proofs.Names.{◌≡◌, ◌∙◌, ◌++◌, ◌∷◌, ℕ, [], List, refl, sym, ap, subst, Side}
-use Rattle.h2_follow.proofs.Names.{Client}
+use Rattle.h2_follow.proofs.Names.{Client, Bool}
 use Rattle.h2_follow.proofs.Names.{◌≢◌, OneSide, SideShows, length, take, Server, Frame, Stretches}
 use Rattle.h2_follow.proofs.Names.{Stretch, Bound, append_assoc, append-nil}
 use Rattle.h2_follow.proofs.Names.{output_of, marked_of, Follower, FollowerReads, Appends, Option}
@@ -11,7 +11,7 @@ use Rattle.std.proofs.Common.{min, ◌<◌, ◌≤◌, ◌-◌, drop}
 use Rattle.std.proofs.lemmas.List.{take-append-drop}
 use Rattle.h2_show.proofs.ViewerLemmas.{prefix_append}
 use Rattle.std.proofs.KnownBytes.{Appends-trans}
-use Rattle.h2_follow.specs.Follower.{BothRead, FollowerReadsMore, IsOneOrNone, SideSteps}
+use Rattle.h2_follow.specs.Follower.{FollowerReadsMore, IsOneOrNone, SideSteps}
 use Rattle.h2_follow.specs.Follower.{after_all_others}
 use Rattle.h2_follow.specs.Follower.{FollowerAdvances, FollowerSteps, after_owns, one_of}
 use Rattle.h2_follow.specs.Follower.{stretch_of}
@@ -20,7 +20,10 @@ use Rattle.h2_follow.specs.InForce.{SentFrame, after_others, after_own, bound_of
 use Rattle.h2_follow.specs.InForce.{in_force}
 use Rattle.h2_follow.specs.InForce.{table_bound}
 use Rattle.h2_follow.specs.Stretches.{AreOf, HasLimits, AreFollowed, sent_in, sent_by, octets_read}
-use Rattle.h2_follow.specs.Stretches.{own_of}
+use Rattle.h2_follow.specs.Stretches.{own_of, was_noted}
+use Rattle.h2_follow.specs.Unchecked.{noted_with, unchecked_line}
+use Rattle.h2_follow.specs.Follower.{NotesUnchecked}
+use Rattle.std.proofs.Common.{Vec, Global}
 
 -- the octets of stretches, and of others before them
 pub octets_append : (newer older : Stretches)
@@ -35,8 +38,10 @@ pub output_append : (newer older : Stretches)
     → output_of (newer ++ older) ≡ output_of older ++ output_of newer
 output_append [] older = sym (append-nil (output_of older))
 output_append (stretch ∷ newer) older =
-    ap (λ (text : List ℕ). text ++ marked_of (stretch.side, stretch.lines)) (output_append newer older)
-    ∙ append_assoc (output_of older) (output_of newer) (marked_of (stretch.side, stretch.lines))
+    ap (λ (text : List ℕ). text ++ marked_of (stretch.side, stretch.notice ++ stretch.lines))
+    (output_append newer older)
+    ∙ append_assoc (output_of older) (output_of newer)
+    (marked_of (stretch.side, stretch.notice ++ stretch.lines))
 
 -- what is written of stretches, and of more
 pub written_append : (start middle ended : Option (List ℕ)) (older newer : Stretches)
@@ -72,22 +77,31 @@ server_next [] few items bound next is now = now ∙ is
 server_next (frame ∷ []) few items bound next is now = now ∙ ap (after_others frame) is
 server_next (frame ∷ second ∷ more) few items bound next is now = absurd few
 
--- the limits of a stretch are those in force before it
-limits_known : (side : Side) (least : ℕ) (bound : Bound) (octets lines : List ℕ)
+-- the limits of a stretch are those in force before it, and its notice is due by them
+limits_known : (side : Side) (least : ℕ) (bound : Bound) (noted : Bool) (octets lines : List ℕ)
     (frames : List Frame) (before : Stretches) → bound ≡ in_force side (sent_in before)
-    → HasLimits least (stretch_of side least bound octets frames lines) before
-limits_known side least bound octets lines frames before is = (
+    → noted ≡ was_noted side before
+    → HasLimits least (stretch_of side least bound (unchecked_line noted bound) octets frames lines)
+    before
+limits_known side least bound noted octets lines frames before is said = (
   ap (λ (some : Bound). min (frame_bound least some) 1048576) is,
   ap table_bound is,
+  ap (λ (some : Bool). unchecked_line some bound) said
+      ∙ ap (unchecked_line (was_noted side before)) is,
 )
 
 -- what the follower has read, after a stretch of the client
-client_reads : (old new : Follower) (octets : List ℕ) (used : ℕ)
-    → (steps : SideSteps Client old new octets used)
+client_reads : (old new : Follower) (text : Vec ℕ Global) (octets : List ℕ) (used : ℕ)
+    → (steps : SideSteps Client (record old {
+      text = text;
+      is_client_noted = noted_with old.is_client_noted (bound_of old.client_bound);
+    }) new octets used)
     → FollowerReadsMore old new (stretch_of Client old.least (bound_of old.client_bound)
-    (take used octets) steps.0.frames steps.0.lines ∷ [])
-client_reads old new octets used (advances, same, client, least, lines) log reads =
-    let shows = advances.reads Client (own_of Client log) reads.client in
+    (unchecked_line old.is_client_noted (bound_of old.client_bound)) (take used octets)
+    steps.0.frames steps.0.lines ∷ [])
+client_reads old new text octets used (advances, same, client, least, lines, one, two) log reads =
+    let notice : List ℕ = unchecked_line old.is_client_noted (bound_of old.client_bound) in
+    let shows = advances.reads Client (own_of Client log) notice reads.client in
     record {
       client_may = own_next Client advances.frames advances.few (sent_in log) _ _
           reads.client_may advances.own_next;
@@ -96,23 +110,34 @@ client_reads old new octets used (advances, same, client, least, lines) log read
       client = shows;
       server = subst (λ (one : OneSide). SideShows one Server (own_of Server log)) (sym same)
           reads.server;
+      client_said = one
+          ∙ ap (λ (some : Bool). noted_with some (bound_of old.client_bound)) reads.client_said
+          ∙ ap (noted_with (was_noted Client log)) reads.client_may;
+      server_said = two ∙ reads.server_said;
       is_log = subst (λ (some : ℕ). AreFollowed some (stretch_of Client old.least
-          (bound_of old.client_bound) (take used octets) advances.frames advances.lines ∷ log))
+          (bound_of old.client_bound) notice (take used octets) advances.frames
+          advances.lines ∷ log))
           (sym least) (
-            limits_known Client old.least (bound_of old.client_bound) (take used octets)
-                advances.lines advances.frames log reads.client_may,
+            limits_known Client old.least (bound_of old.client_bound) old.is_client_noted
+                (take used octets) advances.lines advances.frames log reads.client_may
+                reads.client_said,
             side_so_far new.client_side Client _ shows,
             reads.is_log,
           );
     }
 
 -- and after one of the server
-server_reads : (old new : Follower) (octets : List ℕ) (used : ℕ)
-    → (steps : SideSteps Server old new octets used)
+server_reads : (old new : Follower) (text : Vec ℕ Global) (octets : List ℕ) (used : ℕ)
+    → (steps : SideSteps Server (record old {
+      text = text;
+      is_server_noted = noted_with old.is_server_noted (bound_of old.server_bound);
+    }) new octets used)
     → FollowerReadsMore old new (stretch_of Server old.least (bound_of old.server_bound)
-    (take used octets) steps.0.frames steps.0.lines ∷ [])
-server_reads old new octets used (advances, same, client, least, lines) log reads =
-    let shows = advances.reads Server (own_of Server log) reads.server in
+    (unchecked_line old.is_server_noted (bound_of old.server_bound)) (take used octets)
+    steps.0.frames steps.0.lines ∷ [])
+server_reads old new text octets used (advances, same, client, least, lines, one, two) log reads =
+    let notice : List ℕ = unchecked_line old.is_server_noted (bound_of old.server_bound) in
+    let shows = advances.reads Server (own_of Server log) notice reads.server in
     record {
       client_may = client_next advances.frames advances.few (sent_in log) _ _
           reads.client_may advances.others_next;
@@ -121,78 +146,99 @@ server_reads old new octets used (advances, same, client, least, lines) log read
       client = subst (λ (one : OneSide). SideShows one Client (own_of Client log)) (sym same)
           reads.client;
       server = shows;
+      client_said = one ∙ reads.client_said;
+      server_said = two
+          ∙ ap (λ (some : Bool). noted_with some (bound_of old.server_bound)) reads.server_said
+          ∙ ap (noted_with (was_noted Server log)) reads.server_may;
       is_log = subst (λ (some : ℕ). AreFollowed some (stretch_of Server old.least
-          (bound_of old.server_bound) (take used octets) advances.frames advances.lines ∷ log))
+          (bound_of old.server_bound) notice (take used octets) advances.frames
+          advances.lines ∷ log))
           (sym least) (
-            limits_known Server old.least (bound_of old.server_bound) (take used octets)
-                advances.lines advances.frames log reads.server_may,
+            limits_known Server old.least (bound_of old.server_bound) old.is_server_noted
+                (take used octets) advances.lines advances.frames log reads.server_may
+                reads.server_said,
             side_so_far new.server_side Server _ shows,
             reads.is_log,
           );
     }
 
--- what was read where the text had been cleared
-pub step_told : (side : Side) (old new : Follower) (octets : List ℕ) (used : ℕ)
-    → old.text.items ≡ [] → SideSteps side old new octets used
+-- what was read where the text had been cleared and the notice, where it is due, was added
+pub step_told : (side : Side) (old noted new : Follower) (octets : List ℕ) (used : ℕ)
+    → old.text.items ≡ [] → NotesUnchecked side old noted → SideSteps side noted new octets used
     → (stretch : Stretch) × (stretch.side ≡ side) × (used ≤ length octets) × (octets ≢ [] → 0 < used)
-    × (stretch.octets ≡ take used octets) × (new.text.items ≡ stretch.lines)
+    × (stretch.octets ≡ take used octets) × (new.text.items ≡ stretch.notice ++ stretch.lines)
     × FollowerReadsMore old new (stretch ∷ []) × (new.client ≡ old.client)
     × (new.least ≡ old.least) × (new.lines.items ≡ old.lines.items)
-step_told Client old new octets used none steps = (
-  stretch_of Client old.least (bound_of old.client_bound) (take used octets) steps.0.frames
-      steps.0.lines,
-  refl,
-  steps.0.within,
-  steps.0.some,
-  refl,
-  steps.0.adds ∙ ap (λ (text : List ℕ). text ++ steps.0.lines) none,
-  client_reads old new octets used steps,
-  steps.2,
-  steps.3,
-  steps.4,
-)
-step_told Server old new octets used none steps = (
-  stretch_of Server old.least (bound_of old.server_bound) (take used octets) steps.0.frames
-      steps.0.lines,
-  refl,
-  steps.0.within,
-  steps.0.some,
-  refl,
-  steps.0.adds ∙ ap (λ (text : List ℕ). text ++ steps.0.lines) none,
-  server_reads old new octets used steps,
-  steps.2,
-  steps.3,
-  steps.4,
-)
+step_told Client old noted new octets used none (is, added) steps =
+    let known : SideSteps Client (record old {
+      text = noted.text;
+      is_client_noted = noted_with old.is_client_noted (bound_of old.client_bound);
+    }) new octets used = subst (λ (some : Follower). SideSteps Client some new octets used) is steps in (
+      stretch_of Client old.least (bound_of old.client_bound)
+          (unchecked_line old.is_client_noted (bound_of old.client_bound)) (take used octets)
+          known.0.frames known.0.lines,
+      refl,
+      known.0.within,
+      known.0.some,
+      refl,
+      known.0.adds ∙ ap (λ (text : List ℕ). text ++ known.0.lines)
+          (added ∙ ap (λ (text : List ℕ). text
+          ++ unchecked_line old.is_client_noted (bound_of old.client_bound)) none),
+      client_reads old new noted.text octets used known,
+      known.2,
+      known.3,
+      known.4,
+    )
+step_told Server old noted new octets used none (is, added) steps =
+    let known : SideSteps Server (record old {
+      text = noted.text;
+      is_server_noted = noted_with old.is_server_noted (bound_of old.server_bound);
+    }) new octets used = subst (λ (some : Follower). SideSteps Server some new octets used) is steps in (
+      stretch_of Server old.least (bound_of old.server_bound)
+          (unchecked_line old.is_server_noted (bound_of old.server_bound)) (take used octets)
+          known.0.frames known.0.lines,
+      refl,
+      known.0.within,
+      known.0.some,
+      refl,
+      known.0.adds ∙ ap (λ (text : List ℕ). text ++ known.0.lines)
+          (added ∙ ap (λ (text : List ℕ). text
+          ++ unchecked_line old.is_server_noted (bound_of old.server_bound)) none),
+      server_reads old new noted.text octets used known,
+      known.2,
+      known.3,
+      known.4,
+    )
 
--- the sides of two followers are the same
-one_same : (side : Side) (old new : Follower) → new.client_side ≡ old.client_side
-    → new.server_side ≡ old.server_side → one_of side new ≡ one_of side old
-one_same Client old new one two = one
-one_same Server old new one two = two
+-- whether a side is over is not changed by the notice
+over_same : (side : Side) (old noted : Follower) → NotesUnchecked side old noted
+    → (one_of side old).is_over ≡ false → (one_of side noted).is_over ≡ false
+over_same Client old noted (is, added) goes =
+    ap (λ (some : Follower). some.client_side.is_over) is ∙ goes
+over_same Server old noted (is, added) goes =
+    ap (λ (some : Follower). some.server_side.is_over) is ∙ goes
 
 -- what was read of octets, and its lines added after the mark
-pub part_told : {E : Type 0} (result : Result ℕ E) (old mid shown new : Follower) (side : Side)
-    (octets mark : List ℕ) → mid.text.items ≡ []
-    → ((log : Stretches) → FollowerReads old log → FollowerReads mid log)
+pub part_told : {E : Type 0} (result : Result ℕ E) (old noted shown new : Follower) (text : Vec ℕ Global)
+    (side : Side) (octets mark : List ℕ) → text.items ≡ []
+    → NotesUnchecked side (record old { text = text }) noted
     → ((log : Stretches) → FollowerReads shown log → FollowerReads new log)
-    → mid.client_side ≡ old.client_side → mid.server_side ≡ old.server_side
-    → mid.lines.items ≡ old.lines.items → mid.client ≡ old.client → mid.least ≡ old.least
     → new.client ≡ shown.client → new.least ≡ shown.least
-    → IfOk result (λ used. (one_of side mid).is_over ≡ false
-    → SideSteps side mid shown octets used)
+    → IfOk result (λ used. (one_of side noted).is_over ≡ false
+    → SideSteps side noted shown octets used)
     → new.lines.items ≡ shown.lines.items ++ marked mark true shown.text.items
     → mark ≡ mark_of side
     → IfOk result (λ used. (one_of side old).is_over ≡ false
     → FollowerSteps old new side octets used)
-part_told (Err error) old mid shown new side octets mark cleared before after one two lines client
-    least new_client new_least told written is = tt
-part_told (Ok used) old mid shown new side octets mark cleared before after one two lines client
-    least new_client new_least told written is = λ goes.
-    let over : (one_of side mid).is_over ≡ false =
-    ap (λ (some : OneSide). some.is_over) (one_same side old mid one two) ∙ goes in
+part_told (Err error) old noted shown new text side octets mark cleared notes after new_client
+    new_least told written is = tt
+part_told (Ok used) old noted shown new text side octets mark cleared notes after new_client
+    new_least told written is = λ goes.
+    let cleared_one : Follower = record old { text = text } in
+    let over : (one_of side noted).is_over ≡ false =
+    over_same side cleared_one noted notes (side_over side goes) in
     let (stretch, side_is, within, some, octets_are, text_is, reads, client_is, least_is, lines_are) =
-    step_told side mid shown octets used cleared (told over) in
+    step_told side cleared_one noted shown octets used cleared notes (told over) in
     record {
       stretch = stretch;
       of = side_is;
@@ -200,15 +246,20 @@ part_told (Ok used) old mid shown new side octets mark cleared before after one 
       some = some;
       octets_are = octets_are;
       written = written
-          ∙ ap (λ (text : List ℕ). text ++ marked mark true shown.text.items)
-          (lines_are ∙ lines)
+          ∙ ap (λ (before : List ℕ). before ++ marked mark true shown.text.items) lines_are
           ∙ ap (λ (text : List ℕ). old.lines.items ++ marked mark true text) text_is
-          ∙ ap (λ (text : List ℕ). old.lines.items ++ marked text true stretch.lines)
+          ∙ ap (λ (text : List ℕ). old.lines.items
+          ++ marked text true (stretch.notice ++ stretch.lines))
           (is ∙ ap mark_of (sym side_is));
-      reads = λ log known. after (stretch ∷ log) (reads log (before log known));
-      client = new_client ∙ client_is ∙ client;
-      least = new_least ∙ least_is ∙ least;
+      reads = λ log known. after (stretch ∷ log) (reads log known);
+      client = new_client ∙ client_is;
+      least = new_least ∙ least_is;
     }
+  where
+    side_over : (side : Side) → (one_of side old).is_over ≡ false
+        → (one_of side (record old { text = text })).is_over ≡ false
+    side_over Client goes = goes
+    side_over Server goes = goes
 
 -- Parts that were read, and one more of the octets that follow.
 pub read_next : (old mid new : Follower) (side : Side) (octets : List ℕ) (done used : ℕ)
@@ -225,9 +276,10 @@ read_next old mid new side octets done used (newer, of, taken, lines, reads) ste
       (drop done octets))) taken
       ∙ ap (λ (last : List ℕ). octets_read newer ++ last) (sym steps.octets_are),
   steps.written
-      ∙ ap (λ (text : List ℕ). text ++ marked_of (steps.stretch.side, steps.stretch.lines)) lines
+      ∙ ap (λ (text : List ℕ). text
+      ++ marked_of (steps.stretch.side, steps.stretch.notice ++ steps.stretch.lines)) lines
       ∙ append_assoc old.lines.items (output_of newer)
-      (marked_of (steps.stretch.side, steps.stretch.lines)),
+      (marked_of (steps.stretch.side, steps.stretch.notice ++ steps.stretch.lines)),
   λ log known. steps.reads (newer ++ log) (reads log known),
 )
 

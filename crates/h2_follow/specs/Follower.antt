@@ -1,5 +1,5 @@
 -- What both sides have printed so far, by the state of their viewers.
-use Rattle.std.specs.Prelude.{◌≡◌, ◌≢◌, ◌⊎◌, ℕ, ◌<◌, ◌≤◌, Bool, true, false, List, [], ◌∷◌, ◌++◌}
+use Rattle.std.specs.Prelude.{◌≡◌, ◌≢◌, ◌⊎◌, ℕ, ◌<◌, ◌≤◌, Bool, true, List, [], ◌∷◌, ◌++◌}
 use Rattle.std.specs.Prelude.{length, take, min, Option, Some, None, MatchBool}
 use Rattle.h2_frame.specs.Frames.{Frame}
 use Rattle.h2_frame.specs.declared.code.Code.TheVariants.{CompressionError}
@@ -20,17 +20,18 @@ use Rattle.h2_follow.specs.declared.text.Node.{Node}
 use Rattle.h2_follow.specs.declared.one_side.OneSide.{OneSide}
 use Rattle.h2_follow.specs.declared.one_side.Scanned.{Scanned}
 use Rattle.h2_follow.specs.declared.follower.Follower.{Follower}
-use Rattle.h2_follow.specs.FollowText.{BeginsWithLines, Line, OfSide, Piece, client_by}
+use Rattle.h2_follow.specs.FollowText.{BeginsWithLines, Line, Piece, client_by}
 use Rattle.h2_follow.specs.FollowText.{client_of, sided}
 use Rattle.h2_follow.specs.Follows.{SideEnds, marked_of, output_of}
 use Rattle.h2_follow.specs.InForce.{Bound, after_others, after_own, bound_of, frame_bound}
 use Rattle.h2_follow.specs.InForce.{in_force}
 use Rattle.h2_follow.specs.InForce.{table_bound}
-use Rattle.h2_follow.specs.Stretches.{AreOf, ArePieces, AreFollowed, SideIsOver, IsPiece}
+use Rattle.h2_follow.specs.Stretches.{AreOf, ArePieces, AreFollowed, SideIsOver}
 use Rattle.h2_follow.specs.Stretches.{SideIsRead, KeepsTable, Stretches}
 use Rattle.h2_follow.specs.Stretches.{last_ends}
 use Rattle.h2_follow.specs.Stretches.{Stretch, frames_read, sent_in, limits_in, lines_read}
-use Rattle.h2_follow.specs.Stretches.{octets_read, own_of}
+use Rattle.h2_follow.specs.Stretches.{octets_read, own_of, was_noted}
+use Rattle.h2_follow.specs.Unchecked.{noted_with, unchecked_line}
 
 -- No fault has ended the side, and its viewer and its scanner represent its octets so far.
 pub record SideGoesOn (one : OneSide) (from : Side) (own : Stretches) : Type 0 where
@@ -59,24 +60,25 @@ after_all_others [] bound = bound
 after_all_others (frame ∷ frames) bound = after_all_others frames (after_others frame bound)
 
 -- the stretch of octets that a side within these bounds has sent
-abbrev pub stretch_of : (from : Side) → (least : ℕ) → Bound → (octets : List ℕ) → List Frame
-    → (lines : List ℕ) → Stretch
-stretch_of from least bound octets frames lines = record {
+abbrev pub stretch_of : (from : Side) → (least : ℕ) → Bound → (notice octets : List ℕ)
+    → List Frame → (lines : List ℕ) → Stretch
+stretch_of from least bound notice octets frames lines = record {
   side = from;
   limit = min (frame_bound least bound) 1048576;
   table = table_bound bound;
   octets = octets;
   frames = frames;
+  notice = notice;
   lines = lines;
 }
 
 -- The side has read a stretch within these bounds, which ends with these frames, and printed these
--- lines of it.
+-- lines of it, whatever was printed before these.
 abbrev pub SideReads : (old new : OneSide) → (least : ℕ) → Bound → (octets : List ℕ) → List Frame
     → (lines : List ℕ) → Type 0
 SideReads old new least bound octets frames lines =
-    (from : Side) (own : Stretches) → SideShows old from own
-    → SideShows new from (stretch_of from least bound octets frames lines ∷ own)
+    (from : Side) (own : Stretches) (notice : List ℕ) → SideShows old from own
+    → SideShows new from (stretch_of from least bound notice octets frames lines ∷ own)
 
 -- One or no frame ends a stretch.
 abbrev pub IsOneOrNone : List Frame → Type 0
@@ -174,23 +176,44 @@ one_of Server follower = follower.server_side
 
 -- These stretches are all that both sides have read, which may send this.
 pub record BothRead (client_side server_side : OneSide) (client_bound server_bound : Bound)
-    (least : ℕ) (log : Stretches) : Type 0 where
+    (client_noted server_noted : Bool) (least : ℕ) (log : Stretches) : Type 0 where
   pub client_may : client_bound ≡ in_force Client (sent_in log)
   pub server_may : server_bound ≡ in_force Server (sent_in log)
   pub client : SideShows client_side Client (own_of Client log)
   pub server : SideShows server_side Server (own_of Server log)
+  pub client_said : client_noted ≡ was_noted Client log
+  pub server_said : server_noted ≡ was_noted Server log
   pub is_log : AreFollowed least log
 
 -- These stretches are all that the follower has read.
 abbrev pub FollowerReads : Follower → Stretches → Type 0
 FollowerReads follower log =
     BothRead follower.client_side follower.server_side (bound_of follower.client_bound)
-    (bound_of follower.server_bound) follower.least log
+    (bound_of follower.server_bound) follower.is_client_noted follower.is_server_noted follower.least
+    log
 
 -- The follower has read more stretches.
 abbrev pub FollowerReadsMore : (old new : Follower) → (newer : Stretches) → Type 0
 FollowerReadsMore old new newer =
     (log : Stretches) → FollowerReads old log → FollowerReads new (newer ++ log)
+
+-- A line says that a side isn't checked in whole, where that begins.
+-- rule: follow (own) Where SETTINGS allow a side more than is read, a line says so once
+abbrev pub NotesUnchecked : Side → (old new : Follower) → Type 0
+NotesUnchecked Client old new =
+    (new ≡ record old {
+      text = new.text;
+      is_client_noted = noted_with old.is_client_noted (bound_of old.client_bound);
+    })
+    × (new.text.items
+    ≡ old.text.items ++ unchecked_line old.is_client_noted (bound_of old.client_bound))
+NotesUnchecked Server old new =
+    (new ≡ record old {
+      text = new.text;
+      is_server_noted = noted_with old.is_server_noted (bound_of old.server_bound);
+    })
+    × (new.text.items
+    ≡ old.text.items ++ unchecked_line old.is_server_noted (bound_of old.server_bound))
 
 -- A side that no fault has ended has read the first octets of a piece; the other is as it was.
 abbrev pub SideSteps : Side → (old new : Follower) → (octets : List ℕ) → (used : ℕ) → Type 0
@@ -199,11 +222,13 @@ SideSteps Client old new octets used =
     new.client_bound old.server_bound new.server_bound old.text.items new.text.items
     × (new.server_side ≡ old.server_side) × (new.client ≡ old.client)
     × (new.least ≡ old.least) × (new.lines.items ≡ old.lines.items)
+    × (new.is_client_noted ≡ old.is_client_noted) × (new.is_server_noted ≡ old.is_server_noted)
 SideSteps Server old new octets used =
     SideAdvances old.server_side new.server_side old.least octets used old.server_bound
     new.server_bound old.client_bound new.client_bound old.text.items new.text.items
     × (new.client_side ≡ old.client_side) × (new.client ≡ old.client)
     × (new.least ≡ old.least) × (new.lines.items ≡ old.lines.items)
+    × (new.is_client_noted ≡ old.is_client_noted) × (new.is_server_noted ≡ old.is_server_noted)
 
 -- The follower has read one more stretch, the first octets of a piece.
 pub record FollowerSteps (old new : Follower) (side : Side) (octets : List ℕ) (used : ℕ) : Type 0
@@ -213,7 +238,8 @@ pub record FollowerSteps (old new : Follower) (side : Side) (octets : List ℕ) 
     pub within : used ≤ length octets
     pub some : octets ≢ [] → 0 < used
     pub octets_are : stretch.octets ≡ take used octets
-    pub written : new.lines.items ≡ old.lines.items ++ marked_of (stretch.side, stretch.lines)
+    pub written : new.lines.items
+        ≡ old.lines.items ++ marked_of (stretch.side, stretch.notice ++ stretch.lines)
     pub reads : FollowerReadsMore old new (stretch ∷ [])
     pub client : new.client ≡ old.client
     pub least : new.least ≡ old.least

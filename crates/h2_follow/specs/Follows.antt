@@ -1,6 +1,6 @@
 -- What `h2 show --follow` prints of both sides, and the status with it.
 -- contract: h2_follow::follow_input
-use Rattle.std.specs.Prelude.{◌≡◌, ℕ, ◌==◌, ◌&&◌, ◌||◌, Bool, true, false, if◌then◌else◌, List, []}
+use Rattle.std.specs.Prelude.{◌≡◌, ℕ, ◌==◌, ◌&&◌, ◌||◌, Bool, true, if◌then◌else◌, List, []}
 use Rattle.std.specs.Prelude.{◌∷◌, ◌++◌, drop, codes, Option, Some}
 use Rattle.h2_cli.specs.Hints.{begins_with, is_capture}
 use Rattle.h2_cli.specs.declared.status.Status.{Status}
@@ -43,9 +43,10 @@ status_of_both client server = Fault
 
 -- what is printed of the stretches, each line after its side's mark
 -- rule: follow (own) A line stands where the last octet of its frame came
+-- rule: follow (own) Where SETTINGS allow a side more than is read, a line says so once
 abbrev pub output_of : Stretches → List ℕ
 output_of [] = []
-output_of (part ∷ log) = output_of log ++ marked_of (part.side, part.lines)
+output_of (part ∷ log) = output_of log ++ marked_of (part.side, part.notice ++ part.lines)
 
 -- The end of a side's octets adds this to its lines, and the status of the side is this: what
 -- `h2 show` prints of the octets within the limits, or no more after the fault of a table.

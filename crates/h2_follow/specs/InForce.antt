@@ -3,8 +3,8 @@
 -- own acknowledgment on. So of the values that it acknowledged last and of those that were sent
 -- since, the greatest is in force.
 -- contract: h2_follow::follow_input
-use Rattle.std.specs.Prelude.{◌≡◌, ℕ, ◌==◌, max, min, Bool, true, false, if◌then◌else◌, List, []}
-use Rattle.std.specs.Prelude.{◌∷◌, ◌++◌, map}
+use Rattle.std.specs.Prelude.{ℕ, ◌==◌, max, true, false, if◌then◌else◌, List, []}
+use Rattle.std.specs.Prelude.{◌∷◌, ◌++◌}
 use Rattle.h2_frame.specs.Frames.{Frame, Settings}
 use Rattle.h2_show.specs.declared.options.Side.{Side}
 use Rattle.h2_show.specs.declared.options.Side.TheVariants.{Client, Server}

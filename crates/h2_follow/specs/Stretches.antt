@@ -1,7 +1,7 @@
 -- Both sides as they were read, stretch after stretch.
 -- contract: h2_follow::follow_input
 use Rattle.std.specs.Prelude.{◌≡◌, ◌⊎◌, ℕ, ◌<◌, ◌≤◌, min, nat_le, Bool, true, false, if◌then◌else◌}
-use Rattle.std.specs.Prelude.{List, [], ◌∷◌, ◌++◌, length, map, None, Some, Option}
+use Rattle.std.specs.Prelude.{List, [], ◌∷◌, ◌++◌, length, map, Option}
 use Rattle.hpack.specs.Tables.{Entries}
 use Rattle.h2_frame.specs.declared.code.Code.TheVariants.{CompressionError}
 use Rattle.h2_frame.specs.Frames.{Frame, Headers, Continuation}
@@ -21,7 +21,8 @@ use Rattle.h2_show.specs.ShownLines.{ShowLine}
 use Rattle.h2_show.specs.Styles.{styled_text}
 use Rattle.h2_show.specs.Shown.{Shows, ShowsFrames, preface_lines}
 use Rattle.h2_follow.specs.FollowText.{OfSide}
-use Rattle.h2_follow.specs.InForce.{SentFrame, frame_bound, in_force, table_bound}
+use Rattle.h2_follow.specs.InForce.{Bound, SentFrame, frame_bound, in_force, table_bound}
+use Rattle.h2_follow.specs.Unchecked.{noted_with, unchecked_line}
 
 -- Octets of one side that were read together, up to the end of a frame at most.
 pub record Stretch : Type 0 where
@@ -34,6 +35,8 @@ pub record Stretch : Type 0 where
   pub octets : List ℕ
   -- the frame that ends with them, if one does
   pub frames : List Frame
+  -- what is printed before their lines
+  pub notice : List ℕ
   -- what is printed of them
   pub lines : List ℕ
 
@@ -67,6 +70,13 @@ limits_in (stretch ∷ log) =
 abbrev pub sent_by : Side → List Frame → List SentFrame
 sent_by side frames = map (λ frame. (side, frame)) frames
 
+-- the same after a stretch of the side that sent it, before which the side may send this
+abbrev pub noted_by : (side sent : Side) → (noted : Bool) → Bound → Bool
+noted_by Client Client noted bound = noted_with noted bound
+noted_by Client Server noted bound = noted
+noted_by Server Client noted bound = noted
+noted_by Server Server noted bound = noted_with noted bound
+
 -- the frames of both sides, the newest first
 abbrev pub sent_in : Stretches → List SentFrame
 sent_in [] = []
@@ -78,6 +88,13 @@ with_own Client Client stretch log = stretch ∷ log
 with_own Client Server stretch log = log
 with_own Server Client stretch log = log
 with_own Server Server stretch log = stretch ∷ log
+
+-- whether a line said by then that the side isn't checked in whole
+-- rule: follow (own) Where SETTINGS allow a side more than is read, a line says so once
+abbrev pub was_noted : Side → Stretches → Bool
+was_noted side [] = false
+was_noted side (stretch ∷ log) = noted_by side stretch.side (was_noted side log)
+    (in_force side (sent_in log))
 
 -- the stretches of a side
 abbrev pub own_of : Side → Stretches → Stretches
@@ -168,12 +185,16 @@ abbrev pub IsSoFar : (from : Side) → (own : Stretches) → Type 0
 IsSoFar from own = SideIsRead from own × (SideIsShown from own ⊎ SideIsOver from own)
 
 -- The limits of a stretch are those in force for its side after the stretches before it: of
--- payloads, of which more than 1,048,576 octets are never read, and of tables.
+-- payloads, of which more than 1,048,576 octets are never read, and of tables. The first stretch for
+-- which they are above what is read has a line that says so.
 -- rule: follow (own) What a side may send follows the other's SETTINGS, and its own ACK
+-- rule: follow (own) Where SETTINGS allow a side more than is read, a line says so once
 abbrev pub HasLimits : (least : ℕ) → Stretch → (before : Stretches) → Type 0
 HasLimits least stretch before =
     (stretch.limit ≡ min (frame_bound least (in_force stretch.side (sent_in before))) 1048576)
     × (stretch.table ≡ table_bound (in_force stretch.side (sent_in before)))
+    × (stretch.notice ≡ unchecked_line (was_noted stretch.side before)
+    (in_force stretch.side (sent_in before)))
 
 -- After each stretch the lines of its side are those of its octets so far, within the limits in force.
 -- rule: follow (own) Each side has the lines that show prints of it, after its mark

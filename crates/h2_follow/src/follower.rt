@@ -6,10 +6,12 @@ ghost use Rattle.std.specs.Io.KnownBytes.{Appends};
 ghost use Rattle.h2_cli.specs.declared.status.Status.{Status as End};
 ghost use Rattle.h2_follow.specs.FollowText.{pieces_read};
 ghost use Rattle.h2_follow.specs.Follower.{ChoosesClient, EndsSide, FollowerAdvances};
-ghost use Rattle.h2_follow.specs.Follower.{FollowerShows};
+ghost use Rattle.h2_follow.specs.Follower.{FollowerShows, NotesUnchecked};
 ghost use Rattle.h2_follow.specs.Follower.{FollowerSteps, FollowerTakes, SideSteps, one_of};
 ghost use Rattle.h2_follow.specs.Follows.{marked_of, output_of, status_of_both};
+ghost use Rattle.h2_follow.specs.InForce.{bound_of};
 ghost use Rattle.h2_follow.specs.Stretches.{Stretches};
+ghost use Rattle.h2_follow.specs.Unchecked.{noted_with, unchecked_line};
 ghost use Rattle.h2_show.specs.declared.options.Side.TheVariants as sides;
 
 use crate::hint::FollowHint;
@@ -31,6 +33,9 @@ pub(crate) struct Follower {
     client_bound: InForce,
     // What the server may send.
     server_bound: InForce,
+    // Whether a line has said that the side isn't checked in whole.
+    is_client_noted: bool,
+    is_server_noted: bool,
     // The most octets of a payload that a side may send whatever SETTINGS say.
     least: u32,
     // The client's node, once octets have come.
@@ -57,6 +62,8 @@ impl Follower {
             server_side: OneSide::new(alloc, Side::Server)?,
             client_bound: InForce::new(alloc),
             server_bound: InForce::new(alloc),
+            is_client_noted: false,
+            is_server_noted: false,
             least,
             client: None,
             notice: None,
@@ -174,9 +181,30 @@ impl Follower {
             → FollowerSteps self.old self.new side octets.now used) }
     {
         self.text.clear();
+        self.note_unchecked(side)?;
         let shown = self.read_part(side, octets);
         mark_lines(&self.text, mark_of(side), &mut self.lines)?;
         shown
+    }
+
+    // contract: follow (own) Where SETTINGS allow a side more than is read, a line says so once
+    // rule: follow (own) Where SETTINGS allow a side more than is read, a line says so once
+    // Adds the line that a side isn't checked in whole to the text, where that begins.
+    fn note_unchecked(&mut self, side: Side) -> Result<(), AllocError>
+        ensures { OnOk result (NotesUnchecked side self.old self.new) }
+    {
+        match side {
+            Side::Client => add_unchecked(
+                &self.client_bound,
+                &mut self.is_client_noted,
+                &mut self.text,
+            ),
+            Side::Server => add_unchecked(
+                &self.server_bound,
+                &mut self.is_server_noted,
+                &mut self.text,
+            ),
+        }
     }
 
     // Adds the lines of the first octets of a side to the text.
@@ -246,13 +274,40 @@ impl Follower {
         if self.client.is_none() {
             return Some(FollowHint::NoOctets);
         }
-        let client = self.client_side.hint();
-        let server = self.server_side.hint();
+        let client = hint_with(self.client_side.hint(), self.is_client_noted);
+        let server = hint_with(self.server_side.hint(), self.is_server_noted);
         match client {
             // A fault says more.
-            Some(FollowHint::CutOff) => self.notice.or(server).or(client),
+            Some(FollowHint::CutOff | FollowHint::NotChecked) => {
+                self.notice.or(server).or(client)
+            }
             _ => self.notice.or(client).or(server),
         }
+    }
+}
+
+// contract: follow (own) Where SETTINGS allow a side more than is read, a line says so once
+// rule: follow (own) Where SETTINGS allow a side more than is read, a line says so once
+// Adds the line that a side isn't checked in whole, unless it was printed before.
+fn add_unchecked(bound: &InForce, is_noted: &mut bool, text: &mut Vec<u8>) -> Result<(), AllocError>
+    ensures noted { OnOk result (is_noted.new ≡ noted_with is_noted.old (bound_of bound.now)) }
+    ensures text { OnOk result (text.new.items
+        ≡ text.old.items ++ unchecked_line is_noted.old (bound_of bound.now)) }
+{
+    if !*is_noted && bound.allows_unread() {
+        text.extend_from_slice(b"not checked\n")?;
+        *is_noted = true;
+    }
+    Ok(())
+}
+
+// rule (tested): follow (own) A hint says why a side may be at fault, or which line is bad
+// The hint for a side, with a line that it isn't checked in whole: a fault of it may be none.
+fn hint_with(hint: Option<FollowHint>, is_noted: bool) -> Option<FollowHint> {
+    match hint {
+        Some(FollowHint::CutOff) => hint,
+        _ if is_noted => Some(FollowHint::NotChecked),
+        _ => hint,
     }
 }
 

@@ -17,7 +17,7 @@ pub enum FollowHint {
     NoPreface,
     /// A frame is longer than the limit, and a greater one can be given.
     LongFrame,
-    /// SETTINGS allow a side more than can be read, so that its fault may be none.
+    /// SETTINGS allow a side more than is read, so that a fault of it may be none.
     NotChecked,
     /// A block leaves a greater table than the SETTINGS of the other side allow.
     Table,

@@ -1,15 +1,16 @@
 //! What the SETTINGS of one side allow the other.
 
-ghost use Rattle.std.specs.Prelude.{◌≡◌, ℕ, List, [], ◌++◌, OnOk};
-ghost use Rattle.h2_frame.specs.Frames.{frame_of};
-ghost use Rattle.h2_frame.specs.Pairs.{lent_pairs};
-ghost use Rattle.h2_follow.specs.InForce.{acknowledged, after_others, after_own, announced};
-ghost use Rattle.h2_follow.specs.InForce.{bound_of, first_bound, frame_bound, table_bound};
-ghost use Rattle.h2_follow.specs.InForce.{with_pair, with_pairs};
+ghost use Rattle.std.specs.Prelude.{◌≡◌, map};
+ghost use Rattle.h2_follow.specs.Peaks.{peaks_of};
 
-use h2_frame::limits::{FIRST_TABLE, LEAST_MAX_FRAME};
-use h2_frame::{FrameRef, Pairs};
+use crate::peaks::{greatest, pop_peak, push_peak};
+use h2_frame::Pairs;
+use h2_frame::limits::{FIRST_TABLE, LEAST_MAX_FRAME, MOST_MAX_FRAME};
 use std::alloc::{AllocError, Global};
+use std::collections::VecDeque;
+
+/// The greatest table that is kept.
+const MOST_TABLE: u32 = 65_536;
 
 /// The settings of a side that limit what the other sends.
 #[derive(Clone, Copy, Debug, PartialEq, Eq)]
@@ -26,12 +27,19 @@ pub(crate) struct InForce {
     /// The values that the side acknowledged last, or the first ones.
     pub(crate) acknowledged: Values,
     /// The values of the SETTINGS that it hasn't acknowledged, in order.
-    pub(crate) waiting: Vec<Values>,
+    pub(crate) waiting: VecDeque<Values>,
     /// The values of the last SETTINGS.
     pub(crate) newest: Values,
+    // The peaks of the values that wait, so that the greatest is known however many do.
+    frames: VecDeque<u32>,
+    tables: VecDeque<u32>,
+    ghost frame_peaks: { frames.items ≡ peaks_of (map (λ values. values.max_frame) waiting.items) },
+    ghost table_peaks: { tables.items ≡ peaks_of (map (λ values. values.table) waiting.items) },
 }
 
 impl Values {
+    ghost use Rattle.h2_follow.specs.InForce.{with_pair};
+
     // rule: follow (own) What a side may send follows the other's SETTINGS, and its own ACK
     // The values after a pair of SETTINGS.
     fn set(&mut self, id: u16, value: u32)
@@ -46,6 +54,12 @@ impl Values {
 }
 
 impl InForce {
+    ghost use Rattle.std.specs.Prelude.{OnOk};
+    ghost use Rattle.h2_frame.specs.Pairs.{lent_pairs};
+    ghost use Rattle.h2_follow.specs.InForce.{acknowledged, announced};
+    ghost use Rattle.h2_follow.specs.InForce.{bound_of, first_bound, frame_bound, table_bound};
+    ghost use Rattle.h2_follow.specs.Unchecked.{allows_unread};
+
     /// No SETTINGS have come.
     pub(crate) fn new(alloc: Global) -> InForce
         ensures { bound_of result ≡ first_bound }
@@ -56,15 +70,17 @@ impl InForce {
         };
         InForce {
             acknowledged: first,
-            waiting: Vec::new(alloc),
+            waiting: VecDeque::new(alloc),
             newest: first,
+            frames: VecDeque::new(alloc),
+            tables: VecDeque::new(alloc),
         }
     }
 
     // contract: follow (own) What a side may send follows the other's SETTINGS, and its own ACK
     // rule: follow (own) What a side may send follows the other's SETTINGS, and its own ACK
     // The other side has sent SETTINGS with these pairs.
-    fn announce(&mut self, pairs: Pairs<'_>) -> Result<(), AllocError>
+    pub(crate) fn announce(&mut self, pairs: Pairs<'_>) -> Result<(), AllocError>
         ensures { OnOk result (bound_of self.new
             ≡ announced (lent_pairs pairs.entry) (bound_of self.old)) }
     {
@@ -72,7 +88,12 @@ impl InForce {
         for (id, value) in pairs.iter() {
             values.set(id, value);
         }
-        self.waiting.push(values)?;
+        self.waiting.reserve(1)?;
+        self.frames.reserve(1)?;
+        self.tables.reserve(1)?;
+        self.waiting.push_back_reserved(values);
+        push_peak(&mut self.frames, values.max_frame);
+        push_peak(&mut self.tables, values.table);
         self.newest = values;
         Ok(())
     }
@@ -80,11 +101,13 @@ impl InForce {
     // contract: follow (own) What a side may send follows the other's SETTINGS, and its own ACK
     // rule: follow (own) What a side may send follows the other's SETTINGS, and its own ACK
     // The side has acknowledged the first of the SETTINGS that wait.
-    fn acknowledge(&mut self)
+    pub(crate) fn acknowledge(&mut self)
         ensures { bound_of self.new ≡ acknowledged (bound_of self.old) }
     {
-        if !self.waiting.is_empty() {
-            self.acknowledged = self.waiting.remove(0);
+        if let Some(values) = self.waiting.pop_front() {
+            pop_peak(&mut self.frames, values.max_frame);
+            pop_peak(&mut self.tables, values.table);
+            self.acknowledged = values;
         }
     }
 
@@ -94,11 +117,7 @@ impl InForce {
     pub(crate) fn max_frame(&self, least: u32) -> u32
         ensures { result ≡ frame_bound least (bound_of self.now) }
     {
-        let mut most = least.max(self.acknowledged.max_frame);
-        for values in &self.waiting {
-            most = most.max(values.max_frame);
-        }
-        most
+        greatest(&self.frames, least.max(self.acknowledged.max_frame))
     }
 
     // contract: follow (own) What a side may send follows the other's SETTINGS, and its own ACK
@@ -107,37 +126,14 @@ impl InForce {
     pub(crate) fn table(&self) -> u32
         ensures { result ≡ table_bound (bound_of self.now) }
     {
-        let mut most = self.acknowledged.table;
-        for values in &self.waiting {
-            most = most.max(values.table);
-        }
-        most
+        greatest(&self.tables, self.acknowledged.table)
     }
-}
-
-// contract: follow (own) What a side may send follows the other's SETTINGS, and its own ACK
-// rule: follow (own) What a side may send follows the other's SETTINGS, and its own ACK
-/// Notes a frame of a side, in what the other side allows it, and in what it allows the other.
-///
-/// # Errors
-///
-/// [`AllocError`] when out of memory.
-pub(crate) fn note_frame(
-    frame: FrameRef<'_>,
-    own: &mut InForce,
-    others: &mut InForce,
-) -> Result<(), AllocError>
-    ensures own { OnOk result (bound_of own.new
-        ≡ after_own (frame_of frame.entry) (bound_of own.old)) }
-    ensures others { OnOk result (bound_of others.new
-        ≡ after_others (frame_of frame.entry) (bound_of others.old)) }
-{
-    match frame {
-        FrameRef::Settings { ack: true, .. } => {
-            own.acknowledge();
-            Ok(())
-        }
-        FrameRef::Settings { ack: false, pairs } => others.announce(pairs),
-        _ => Ok(()),
+    // contract: follow (own) Where SETTINGS allow a side more than is read, a line says so once
+    // rule: follow (own) Where SETTINGS allow a side more than is read, a line says so once
+    /// Whether the side may use a greater table than is kept, or send longer frames than are taken.
+    pub(crate) fn allows_unread(&self) -> bool
+        ensures { result ≡ allows_unread (bound_of self.now) }
+    {
+        self.max_frame(0) > MOST_MAX_FRAME || self.table() > MOST_TABLE
     }
 }

@@ -9,7 +9,9 @@ mod follower;
 mod hint;
 mod in_force;
 mod marks;
+mod noting;
 mod one_side;
+mod peaks;
 mod text;
 
 pub use follow::{FollowOptions, Followed, Unfollowed, follow_input};

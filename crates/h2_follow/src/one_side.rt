@@ -17,7 +17,8 @@ ghost use Rattle.h2_follow.specs.InForce.{bound_of};
 ghost use Rattle.h2_follow.specs.Stretches.{ends_block};
 
 use crate::hint::FollowHint;
-use crate::in_force::{InForce, note_frame};
+use crate::in_force::InForce;
+use crate::noting::note_frame;
 use h2_cli::Status;
 use h2_frame::limits::{LEAST_MAX_FRAME, MOST_MAX_FRAME};
 use h2_frame::{Code, FrameRef, HeadFault};
@@ -287,8 +288,6 @@ fn hint_of(error: &ShowError, allowed: u32) -> FollowHint {
 fn hint_of_length(allowed: u32) -> FollowHint {
     if allowed < MOST_MAX_FRAME {
         FollowHint::LongFrame
-    } else if allowed > MOST_MAX_FRAME {
-        FollowHint::NotChecked
     } else {
         FollowHint::Fault
     }

@@ -90,7 +90,7 @@ fn give_hint<E: Write>(hint: Option<FollowHint>, err: &mut E) {
         ),
         Some(FollowHint::NotChecked) => writeln!(
             err,
-            "hint: SETTINGS allow more than is read: the fault may be none"
+            "hint: SETTINGS allow more than is read: a fault after `not checked` may be none"
         ),
         Some(FollowHint::Table) => writeln!(
             err,

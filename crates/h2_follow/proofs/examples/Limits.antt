@@ -1,8 +1,8 @@
 -- The limits in force, by the frames of both sides so far, the newest of which is first.
-use Rattle.h2_follow.proofs.Names.{◌≡◌, [], ◌∷◌, ◌++◌, ℕ, List, true, false, refl, Client, Server}
-use Rattle.h2_follow.proofs.Names.{Frame}
+use Rattle.h2_follow.proofs.Names.{◌≡◌, [], ◌∷◌, true, false, refl, Client, Server}
 use Rattle.h2_frame.specs.Frames.{Settings}
 use Rattle.h2_follow.specs.InForce.{SentFrame, frame_bound, in_force, table_bound}
+use Rattle.h2_follow.specs.Unchecked.{allows_unread}
 
 -- SETTINGS of the server with MAX_FRAME_SIZE 32,768, and with 16,384
 abbrev larger : SentFrame
@@ -65,3 +65,24 @@ table_later = refl
 
 table_lowered : table_bound (in_force Client (acknowledges ∷ without_table ∷ [])) ≡ 0
 table_lowered = refl
+
+-- a greater table than is kept, before the acknowledgment too
+abbrev large_table : SentFrame
+large_table = (Server, Settings false ((1, 65537) ∷ []))
+
+-- rule: follow (own) Where SETTINGS allow a side more than is read, a line says so once
+unread_table : allows_unread (in_force Client (large_table ∷ [])) ≡ true
+unread_table = refl
+
+-- a table of just so much is kept
+kept_table : allows_unread (in_force Client ((Server, Settings false ((1, 65536) ∷ [])) ∷ [])) ≡ false
+kept_table = refl
+
+-- what allows the client more allows the server nothing
+unread_other : allows_unread (in_force Server (large_table ∷ [])) ≡ false
+unread_other = refl
+
+-- longer frames than are taken
+unread_frames : allows_unread (in_force Client ((Server, Settings false ((5, 1048577) ∷ [])) ∷ []))
+    ≡ true
+unread_frames = refl

@@ -1,11 +1,11 @@
 -- The viewer and the scanner read the same octets, within the limits in force.
-use Rattle.h2_follow.proofs.Names.{ℕ, List, ◌∙◌, [], ap, subst, sym, take, length, OneSide}
+use Rattle.h2_follow.proofs.Names.{ℕ, List, ◌∙◌, [], ap, subst, sym, take}
 use Rattle.std.proofs.Common.{min}
 use Rattle.std.proofs.Math.Seq.{take-length}
 use Rattle.h2_wire.specs.Cutter.{CutterLimited}
 use Rattle.h2_show.specs.Limited.{ViewerLimited}
 use Rattle.h2_show.specs.declared.printer.Printer.{Printer}
-use Rattle.h2_follow.specs.Follower.{ShowsPart, SideReads}
+use Rattle.h2_follow.specs.Follower.{SideReads}
 use Rattle.h2_follow.specs.InForce.{bound_of}
 use Rattle.h2_follow.proofs.SideLemmas.{all_used, reads_fault, reads_part}
 use Rattle.h2_follow.proofs.one_side.OneSide.show.Goals as goal
