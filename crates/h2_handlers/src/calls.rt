@@ -1,5 +1,8 @@
 //! What a server with its handler answers of itself, and the calls that are the connection's.
 
+ghost use Rattle.h2_handlers.specs.Exchanges.{IsEmptied, handling_of, relations};
+ghost use Rattle.h2_handlers.specs.Steps.{Handles};
+
 use crate::handled::Handled;
 use crate::handler::Handler;
 use h2_ends::{Code, Refusal};
@@ -12,20 +15,31 @@ impl<W: Drop, H: Handler<Work = W>> Handled<H, W> {
     /// # Errors
     ///
     /// Those of [`Server::go_away`]. Nothing has changed.
-    pub fn go_away(&mut self) -> Result<(), Refusal> {
+    pub fn go_away(&mut self) -> Result<(), Refusal>
+        ensures { Handles (relations H.heads H.bodies H.trails H.gives H.ends) self.old.server.end (handling_of self.old.exchanges)
+            self.new.server.end (handling_of self.new.exchanges) }
+    {
         self.server.go_away()
     }
 
     /// Ends the connection with a code, where it is up, and all exchanges with
     /// [`Cause::Closed`](crate::Cause::Closed).
-    pub fn fail(&mut self, code: Code) {
+    pub fn fail(&mut self, code: Code)
+        ensures handles { Handles (relations H.heads H.bodies H.trails H.gives H.ends) self.old.server.end (handling_of self.old.exchanges)
+            self.new.server.end (handling_of self.new.exchanges) }
+        ensures none { IsEmptied (handling_of self.new.exchanges) }
+    {
         // It is refused only where the connection has failed before.
         let _ = self.server.fail(code);
         self.exchanges.end_all();
     }
 
     /// Ends all exchanges with [`Cause::Closed`](crate::Cause::Closed): the transport is gone.
-    pub fn close(&mut self) {
+    pub fn close(&mut self)
+        ensures handles { Handles (relations H.heads H.bodies H.trails H.gives H.ends) self.old.server.end (handling_of self.old.exchanges)
+            self.new.server.end (handling_of self.new.exchanges) }
+        ensures none { IsEmptied (handling_of self.new.exchanges) }
+    {
         self.exchanges.end_all();
     }
 
@@ -36,7 +50,10 @@ impl<W: Drop, H: Handler<Work = W>> Handled<H, W> {
     /// # Errors
     ///
     /// [`Refusal::Memory`] where an allocation was refused. Nothing has changed.
-    pub fn ready(&mut self) -> Result<(), Refusal> {
+    pub fn ready(&mut self) -> Result<(), Refusal>
+        ensures { Handles (relations H.heads H.bodies H.trails H.gives H.ends) self.old.server.end (handling_of self.old.exchanges)
+            self.new.server.end (handling_of self.new.exchanges) }
+    {
         self.server.ready()
     }
 
@@ -48,7 +65,10 @@ impl<W: Drop, H: Handler<Work = W>> Handled<H, W> {
     /// # Errors
     ///
     /// [`Refusal::Memory`] where an allocation was refused. Nothing has changed.
-    pub fn consume(&mut self, count: usize) -> Result<usize, Refusal> {
+    pub fn consume(&mut self, count: usize) -> Result<usize, Refusal>
+        ensures { Handles (relations H.heads H.bodies H.trails H.gives H.ends) self.old.server.end (handling_of self.old.exchanges)
+            self.new.server.end (handling_of self.new.exchanges) }
+    {
         self.server.consume(count)
     }
 
@@ -75,22 +95,22 @@ impl<W: Drop, H: Handler<Work = W>> Handled<H, W> {
 
     /// Whether there is an exchange.
     pub fn is_busy(&self) -> bool {
-        !self.exchanges.kept.is_empty()
+        self.exchanges.kept.next_above(0).is_some()
     }
 
     /// Whether some request isn't whole.
     pub fn is_reading(&self) -> bool {
-        self.exchanges.reading > 0
+        self.exchanges.totals.reading > 0
     }
 
     /// How many requests have come; the greatest number of 64 bits where it is more than that.
     pub fn requests(&self) -> u64 {
-        self.exchanges.requests
+        self.exchanges.totals.requests
     }
 
     /// How many octets of bodies have come; the greatest number of 64 bits where it is more.
     pub fn body(&self) -> u64 {
-        self.exchanges.body
+        self.exchanges.totals.body
     }
 
     /// How many octets of bodies were sent; the greatest number of 64 bits where it is more.
@@ -101,6 +121,6 @@ impl<W: Drop, H: Handler<Work = W>> Handled<H, W> {
     /// How many streams this end has reset for a fault of the peer's: malformed requests, and
     /// those above a limit; the greatest number of 32 bits where it is more than that.
     pub fn refused(&self) -> u32 {
-        self.exchanges.refused
+        self.exchanges.totals.refused
     }
 }

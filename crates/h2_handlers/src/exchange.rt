@@ -1,7 +1,19 @@
-//! What is kept of one exchange.
+//! What is kept of one exchange, a request and its response.
 
-use crate::handler::Part;
+ghost use Rattle.std.specs.Prelude.{◌≡◌, None};
+ghost use Rattle.h2_handlers.specs.Exchanges.{awake, kept_of};
+ghost use Rattle.h2_handlers.specs.Stages.{second_answer, stage_after, stage_once_later, stage_reset};
+ghost use Rattle.h2_handlers.specs.Stages.{stage_of_fault};
+
+use crate::handler::{HandlerFault, Reply};
 use h2_ends::{Code, Field, Message};
+use std::mem;
+
+/// The status of a request whose authority names a user (RFC 9113, section 8.3.1).
+pub(crate) const BAD_REQUEST: u16 = 400;
+
+/// The status of a request at which the handler has failed.
+pub(crate) const SERVER_ERROR: u16 = 500;
 
 /// How far the answer of an exchange is.
 #[derive(Debug, Drop)]
@@ -10,6 +22,11 @@ pub(crate) enum Stage {
     Asked,
     /// A whole one waits until the output isn't full.
     Answers(Message),
+    /// One with this status alone does.
+    Fails {
+        /// The status.
+        status: u16,
+    },
     /// The head of one in parts does.
     Begins(Vec<Field>),
     /// Trailers do.
@@ -17,9 +34,17 @@ pub(crate) enum Stage {
     /// A reset does.
     Resets(Code),
     /// Its head went, and the handler is asked for parts of its body; not now, where it had none.
-    Parts { later: bool },
+    Parts {
+        /// Whether it had none.
+        later: bool,
+    },
     /// All of it was given to the server.
     Given,
+    /// The stream was reset with this code, in place of an answer.
+    Gone {
+        /// The number of the code.
+        code: u32,
+    },
 }
 
 /// An exchange.
@@ -39,22 +64,105 @@ pub(crate) struct Exchange<W> {
     pub(crate) unused: u32,
 }
 
-/// What is due once something was told to a handler.
-#[derive(Drop)]
-pub(crate) enum Due {
-    /// Nothing: more may be handed out.
-    Again,
-    /// Nothing: all octets were used, and nothing is handed out.
-    Done,
-    /// The answer of this exchange is to go as far as it can.
-    Answer { id: u32 },
+impl<W> Exchange<W> {
+    /// One whose answer was not given, and whose handler keeps nothing.
+    pub(crate) fn new(whole: bool) -> Exchange<W>
+        ensures { kept_of result ≡ record { work = None; whole = whole; stage = Stage.Asked } }
+    {
+        Exchange {
+            work: None,
+            whole,
+            stage: Stage::Asked,
+            given: 0,
+            held: 0,
+            unused: 0,
+        }
+    }
+
+    /// Lets the handler be asked again, where it had no part.
+    pub(crate) fn wake(&mut self)
+        ensures { kept_of self.new ≡ awake (kept_of self.old) }
+    {
+        if matches!(&self.stage, Stage::Parts { .. }) {
+            self.stage = Stage::Parts { later: false };
+        }
+    }
+
+    /// Keeps what a handler has answered.
+    pub(crate) fn take(&mut self, reply: Result<Reply, HandlerFault>)
+        ensures { kept_of self.new ≡ record (kept_of self.old) {
+          stage = stage_after self.old.whole self.old.stage reply;
+        } }
+    {
+        let stage = mem::replace(&mut self.stage, Stage::Given);
+        self.stage = stage_after(self.whole, stage, reply);
+        if let Stage::Answers(message) = &self.stage {
+            self.given = message.body.len();
+        }
+    }
 }
 
-/// A part that a handler has given.
-#[derive(Drop)]
-pub(crate) enum Given {
-    /// The part.
-    Part(Part),
-    /// It has failed.
-    Fault,
+// rule: handlers (own) A fault of a handler is status 500, or a reset once a head went
+/// How far an answer is once a handler has answered this.
+pub(crate) fn stage_after(whole: bool, stage: Stage, reply: Result<Reply, HandlerFault>) -> Stage
+    ensures { result ≡ stage_after whole stage reply }
+{
+    match reply {
+        Ok(Reply::Later) => later(whole, stage),
+        Ok(Reply::Reset(code)) => reset(stage, code),
+        Ok(Reply::Whole(message)) => match stage {
+            Stage::Asked => Stage::Answers(message),
+            other => second(other),
+        },
+        Ok(Reply::Parts(head)) => match stage {
+            Stage::Asked => Stage::Begins(head),
+            other => second(other),
+        },
+        Err(_) => fault(stage),
+    }
+}
+
+/// How far it is once a handler has asked for a reset.
+fn reset(stage: Stage, code: Code) -> Stage
+    ensures { result ≡ stage_reset stage code }
+{
+    match stage {
+        Stage::Gone { code } => Stage::Gone { code },
+        _ => Stage::Resets(code),
+    }
+}
+
+/// How far it is once a handler has answered nothing.
+fn later(whole: bool, stage: Stage) -> Stage
+    ensures { result ≡ stage_once_later whole stage }
+{
+    match stage {
+        Stage::Asked if whole => Stage::Fails {
+            status: SERVER_ERROR,
+        },
+        other => other,
+    }
+}
+
+/// How far it is once a handler has failed.
+fn fault(stage: Stage) -> Stage
+    ensures { result ≡ stage_of_fault stage }
+{
+    match stage {
+        Stage::Asked => Stage::Fails {
+            status: SERVER_ERROR,
+        },
+        other => second(other),
+    }
+}
+
+/// How far it is once a handler has answered a second time.
+fn second(stage: Stage) -> Stage
+    ensures { result ≡ second_answer stage }
+{
+    match stage {
+        Stage::Given => Stage::Given,
+        Stage::Gone { code } => Stage::Gone { code },
+        _ => Stage::Resets(Code::InternalError),
+    }
 }

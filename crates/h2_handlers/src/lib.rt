@@ -11,6 +11,7 @@ mod gather;
 mod giving;
 mod handled;
 mod handler;
+mod parts;
 mod sending;
 mod stop;
 

@@ -1,11 +1,15 @@
 //! What a server with a handler sends in one turn.
 
-use crate::exchange::{Given, Stage};
-use crate::giving::after_refusal;
+ghost use Rattle.std.specs.Prelude.{◌≡◌, length};
+ghost use Rattle.h2_handlers.specs.Exchanges.{handling_of, relations};
+ghost use Rattle.h2_handlers.specs.Steps.{Handles};
+
+use crate::exchange::Stage;
 use crate::handled::Handled;
-use crate::handler::{Cause, Handler, Part};
+use crate::handler::Handler;
+use crate::parts::send_part;
 use crate::stop::{Stop, stop_of, unless_full};
-use h2_ends::{Code, EndRefusal, Refusal, Server};
+use h2_ends::{EndRefusal, Server};
 
 /// So many octets are sent in one turn of a body that was given whole.
 const SHARE: usize = 16_384;
@@ -13,12 +17,16 @@ const SHARE: usize = 16_384;
 impl<W: Drop, H: Handler<Work = W>> Handled<H, W> {
     /// Sends in one turn: gives credit back for what the handler has used, gives the answers that
     /// waited for the output, asks the handler for one part of a response, and sends a share of
-    /// each body that was given whole.
+    /// each body that was given whole. The room is where a part is put together.
     ///
     /// # Errors
     ///
     /// [`Stop`] says why the connection can't go on.
-    pub fn send_some(&mut self, room: &mut [u8]) -> Result<(), Stop> {
+    pub fn send_some(&mut self, room: &mut [u8]) -> Result<(), Stop>
+        ensures handles { Handles (relations H.heads H.bodies H.trails H.gives H.ends) self.old.server.end (handling_of self.old.exchanges)
+            self.new.server.end (handling_of self.new.exchanges) }
+        ensures room { length room.new ≡ length room.old }
+    {
         if let Some(code) = self.server.conn().failed() {
             return Err(Stop::Failed(code));
         }
@@ -31,60 +39,74 @@ impl<W: Drop, H: Handler<Work = W>> Handled<H, W> {
     }
 
     /// Gives credit back: all that is owed, but what the handler has not used.
-    fn release(&mut self) -> Result<(), Stop> {
-        if self.exchanges.unused == 0 {
-            return {
-                let released = self.server.release_all();
-                unless_full(&self.server, released)
-            };
+    fn release(&mut self) -> Result<(), Stop>
+        ensures { Handles (relations H.heads H.bodies H.trails H.gives H.ends) self.old.server.end (handling_of self.old.exchanges)
+            self.new.server.end (handling_of self.new.exchanges) }
+    {
+        if self.exchanges.totals.unused == 0 {
+            return self.release_all();
         }
         let mut above = 0u32;
-        for _ in 0..u64::MAX {
-            let Some(id) = self.server.conn().next_live(above) else {
-                break;
-            };
+        while let Some(id) = self.server.conn().next_live(above) {
             above = id;
-            let unused = match self.exchanges.kept.get(&id) {
-                Some(exchange) => exchange.unused,
-                None => 0,
-            };
-            let count = self.server.conn().owed(id).saturating_sub(unused);
-            if count > 0 && !self.server.is_full() {
-                let released = self.server.release(id, count);
-                unless_full(&self.server, released.map_err(EndRefusal::Conn))?;
-            }
+            self.release_used(id)?;
         }
         Ok(())
+    }
+
+    /// Gives all that is owed back.
+    fn release_all(&mut self) -> Result<(), Stop>
+        ensures { Handles (relations H.heads H.bodies H.trails H.gives H.ends) self.old.server.end (handling_of self.old.exchanges)
+            self.new.server.end (handling_of self.new.exchanges) }
+    {
+        let released = self.server.release_all();
+        unless_full(&self.server, released)
+    }
+
+    /// Gives back what is owed on a stream, but for what its handler has not used.
+    fn release_used(&mut self, id: u32) -> Result<(), Stop>
+        ensures { Handles (relations H.heads H.bodies H.trails H.gives H.ends) self.old.server.end (handling_of self.old.exchanges)
+            self.new.server.end (handling_of self.new.exchanges) }
+    {
+        let unused = match self.exchanges.kept.get(id) {
+            Some(exchange) => exchange.unused,
+            None => 0,
+        };
+        let count = self.server.conn().owed(id).saturating_sub(unused);
+        if count == 0 || self.server.is_full() {
+            return Ok(());
+        }
+        let released = self.server.release(id, count);
+        unless_full(&self.server, released.map_err(EndRefusal::Conn))
     }
 
     /// Gives the answers that have waited until the output wasn't full, streams in rising order.
-    fn give_waiting(&mut self) -> Result<(), Stop> {
+    fn give_waiting(&mut self) -> Result<(), Stop>
+        ensures { Handles (relations H.heads H.bodies H.trails H.gives H.ends) self.old.server.end (handling_of self.old.exchanges)
+            self.new.server.end (handling_of self.new.exchanges) }
+    {
         let mut above = 0u32;
-        for _ in 0..u64::MAX {
-            if self.server.is_full() {
-                break;
-            }
-            let Some(id) = self.next_waiting(above) else {
-                break;
-            };
+        while let Some(id) = self.exchanges.kept.next_above(above) {
             above = id;
-            self.answer(id)?;
+            if self.server.is_full() {
+                return Ok(());
+            }
+            if self.has_waiting(id) {
+                self.answer(id)?;
+            }
         }
         Ok(())
     }
 
-    /// The next stream above a number whose answer waits for the output.
-    fn next_waiting(&self, above: u32) -> Option<u32> {
-        for (id, exchange) in self.exchanges.kept.range(above.saturating_add(1)..) {
-            let waits = matches!(
-                &exchange.stage,
-                Stage::Answers(_) | Stage::Begins(_) | Stage::Trails(_) | Stage::Resets(_)
-            );
-            if waits {
-                return Some(*id);
-            }
-        }
-        None
+    /// Whether the answer on a stream waits for the output.
+    fn has_waiting(&self, id: u32) -> bool {
+        let Some(exchange) = self.exchanges.kept.get(id) else {
+            return false;
+        };
+        !matches!(
+            &exchange.stage,
+            Stage::Asked | Stage::Parts { .. } | Stage::Given | Stage::Gone { .. }
+        )
     }
 
     /// The stream whose handler is asked next for a part, and for how many octets: the next after
@@ -94,72 +116,76 @@ impl<W: Drop, H: Handler<Work = W>> Handled<H, W> {
         if self.server.is_full() {
             return None;
         }
-        let mut first = None;
-        for (id, exchange) in self.exchanges.kept.iter() {
-            if !matches!(&exchange.stage, Stage::Parts { later: false }) {
-                continue;
-            }
-            let room = room_on(&self.server, *id);
-            if room == 0 {
-                continue;
-            }
-            if *id > self.asked {
-                return Some((*id, room));
-            }
-            if first.is_none() {
-                first = Some((*id, room));
+        match self.next_asked_above(self.asked) {
+            Some(found) => Some(found),
+            None => self.next_asked_above(0),
+        }
+    }
+
+    /// The first stream above a number whose handler may be asked for a part, and for how many
+    /// octets.
+    fn next_asked_above(&self, above: u32) -> Option<(u32, usize)> {
+        let mut above = above;
+        while let Some(id) = self.exchanges.kept.next_above(above) {
+            above = id;
+            let room = self.room_to_ask(id);
+            if room > 0 {
+                return Some((id, room));
             }
         }
-        first
+        None
+    }
+
+    /// How many octets a handler may be asked for: what both windows let through; none where it is
+    /// not to be asked.
+    fn room_to_ask(&self, id: u32) -> usize {
+        match self.exchanges.kept.get(id) {
+            Some(exchange) if matches!(&exchange.stage, Stage::Parts { later: false }) => {
+                room_on(&self.server, id)
+            }
+            _ => 0,
+        }
     }
 
     /// Asks the handler for one part of one response, if there is one that may send.
-    fn ask(&mut self, room: &mut [u8]) -> Result<(), Stop> {
+    fn ask(&mut self, room: &mut [u8]) -> Result<(), Stop>
+        ensures handles { Handles (relations H.heads H.bodies H.trails H.gives H.ends) self.old.server.end (handling_of self.old.exchanges)
+            self.new.server.end (handling_of self.new.exchanges) }
+        ensures room { length room.new ≡ length room.old }
+    {
         let Some((id, most)) = self.next_asked() else {
             return Ok(());
         };
-        let most = most.min(room.len());
-        let room = &mut room[..most];
         self.asked = id;
-        let stage = match self.exchanges.part(id, room) {
-            Given::Part(Part::Octets(0) | Part::Later) => Stage::Parts { later: true },
-            Given::Part(Part::Octets(count)) => {
-                self.send_part(id, &room[..count.min(most)], false)?
-            }
-            Given::Part(Part::Last(count)) => self.send_part(id, &room[..count.min(most)], true)?,
-            Given::Part(Part::Trailers(list)) => Stage::Trails(list),
-            Given::Fault => Stage::Resets(Code::InternalError),
-        };
-        if let Some(exchange) = self.exchanges.kept.get_mut(&id) {
-            exchange.stage = stage;
-        }
+        let most = most.min(room.len());
+        self.ask_on(id, &mut room[..most])?;
         self.answer(id)
     }
 
-    /// Sends a part of a body. All of it goes, since there is room for it.
-    fn send_part(&mut self, id: u32, octets: &[u8], end: bool) -> Result<Stage, Stop> {
-        match self.server.send_body(id, octets, end) {
-            Ok(sent) if sent == octets.len() => {
-                self.sent = self.sent.saturating_add(sent as u64);
-                if end {
-                    return Ok(Stage::Given);
-                }
-                Ok(Stage::Parts { later: false })
-            }
-            Ok(_) | Err(EndRefusal::Conn(Refusal::OutputFull)) => {
-                Ok(Stage::Resets(Code::InternalError))
-            }
-            Err(refusal) => after_refusal(&mut self.server, id, refusal),
+    // rule: handlers (own) What is given as an answer is what its handler gave
+    /// Asks the handler for a part of the response on a stream, and sends it.
+    fn ask_on(&mut self, id: u32, room: &mut [u8]) -> Result<(), Stop>
+        ensures handles { Handles (relations H.heads H.bodies H.trails H.gives H.ends) self.old.server.end (handling_of self.old.exchanges)
+            self.new.server.end (handling_of self.new.exchanges) }
+        ensures room { length room.new ≡ length room.old }
+    {
+        let part = self.exchanges.part(id, room);
+        let (result, stage) = send_part(&mut self.server, &mut self.sent, id, part, room);
+        if let Some(exchange) = self.exchanges.kept.get_mut(id) {
+            exchange.stage = stage;
         }
+        result
     }
 
     /// Sends a share of each body that was given whole.
-    fn pump(&mut self) -> Result<(), Stop> {
+    fn pump(&mut self) -> Result<(), Stop>
+        ensures { Handles (relations H.heads H.bodies H.trails H.gives H.ends) self.old.server.end (handling_of self.old.exchanges)
+            self.new.server.end (handling_of self.new.exchanges) }
+    {
         if !self.more {
             return Ok(());
         }
-        let pumped = self.server.pump_some(SHARE);
-        match pumped {
+        match self.server.pump_some(SHARE) {
             Ok(count) => {
                 self.sent = self.sent.saturating_add(count as u64);
                 self.more = count > 0 || self.server.is_full();
@@ -170,43 +196,57 @@ impl<W: Drop, H: Handler<Work = W>> Handled<H, W> {
     }
 
     /// Ends the exchanges whose answers were sent whole, and whose requests have come whole.
-    pub(crate) fn settle(&mut self) {
+    fn settle(&mut self)
+        ensures { Handles (relations H.heads H.bodies H.trails H.gives H.ends) self.old.server.end (handling_of self.old.exchanges)
+            self.new.server.end (handling_of self.new.exchanges) }
+    {
         let mut above = 0u32;
-        for _ in 0..u64::MAX {
-            let Some(id) = self.next_over(above) else {
-                break;
-            };
+        while let Some(id) = self.exchanges.kept.next_above(above) {
             above = id;
-            self.exchanges.end(id, Cause::Done);
+            self.end_if_over(id);
         }
-    }
-
-    /// The next stream above a number that is over, and whose exchange isn't.
-    fn next_over(&self, above: u32) -> Option<u32> {
-        for (id, exchange) in self.exchanges.kept.range(above.saturating_add(1)..) {
-            let is_given = matches!(&exchange.stage, Stage::Given);
-            if is_given && !self.server.conn().is_active(*id) {
-                return Some(*id);
-            }
-        }
-        None
     }
 
     /// Lets a handler be asked again that had no part.
-    pub fn ask_again(&mut self) {
-        for (_, exchange) in self.exchanges.kept.iter_mut() {
-            if let Stage::Parts { later } = &mut exchange.stage {
-                *later = false;
-            }
+    pub fn ask_again(&mut self)
+        ensures { Handles (relations H.heads H.bodies H.trails H.gives H.ends) self.old.server.end (handling_of self.old.exchanges)
+            self.new.server.end (handling_of self.new.exchanges) }
+    {
+        let mut above = 0u32;
+        while let Some(id) = self.exchanges.kept.next_above(above) {
+            above = id;
+            self.wake(id);
+        }
+    }
+
+    /// Lets the handler of one exchange be asked again.
+    fn wake(&mut self, id: u32)
+        ensures { Handles (relations H.heads H.bodies H.trails H.gives H.ends) self.old.server.end (handling_of self.old.exchanges)
+            self.new.server.end (handling_of self.new.exchanges) }
+    {
+        if let Some(exchange) = self.exchanges.kept.get_mut(id) {
+            exchange.wake();
         }
     }
 
     /// Whether an answer waits: for a window, for the output, or for its handler.
     pub fn is_answering(&self) -> bool {
-        self.exchanges
-            .kept
-            .iter()
-            .any(|(_, exchange)| !matches!(&exchange.stage, Stage::Asked))
+        let mut above = 0u32;
+        while let Some(id) = self.exchanges.kept.next_above(above) {
+            above = id;
+            if self.has_answer(id) {
+                return true;
+            }
+        }
+        false
+    }
+
+    /// Whether an answer was given to an exchange.
+    fn has_answer(&self, id: u32) -> bool {
+        match self.exchanges.kept.get(id) {
+            Some(exchange) => !matches!(&exchange.stage, Stage::Asked),
+            None => false,
+        }
     }
 }
 

@@ -7,6 +7,7 @@
 mod limits;
 mod party;
 mod seat;
+mod steps;
 mod why;
 
 pub use limits::SeatLimits;

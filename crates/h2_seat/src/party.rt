@@ -5,26 +5,20 @@ use h2_handlers::Handler;
 use h2_host::{Answer, Own, Party};
 
 impl<W: Drop, H: Handler<Work = W>> Party for Seat<H, W> {
-    ghost use Rattle.std.specs.Prelude.{⊤};
+    ghost use Rattle.h2_handlers.specs.Exchanges.{relations};
+    ghost use Rattle.h2_seat.specs.Seats.{SeatHandles};
 
-    ghost steps = { λ _ _ _ _ _. ⊤ };
+    ghost steps = { λ old own octets answer new. SeatHandles (relations H.heads H.bodies H.trails
+        H.gives H.ends) old new };
 
     ghost held_of = { λ seat. seat.holds };
 
     ghost ready_of = { λ seat. seat.ready };
 
     fn step(&mut self, own: Own, octets: &[u8], room: &mut [u8]) -> Answer {
-        if self.is_over() {
-            return Answer::Over;
-        }
-        self.make(own, octets, room);
-        self.note();
+        self.act(own, octets, room);
         self.count();
-        if self.is_over() {
-            Answer::Over
-        } else {
-            Answer::Goes
-        }
+        self.answer()
     }
 
     fn held(&self) -> usize {
