@@ -12,7 +12,6 @@ is_over (Over why) = true
 is_over phase = false
 
 -- At the connection only what may happen at a server with its handler has happened.
-abbrev pub SeatHandles : {H W : Type 0} → Relations H W → (old new : Seat H W) → Type 0
-SeatHandles rel old new =
-    Handles rel old.handled.server.end (handling_of old.handled.exchanges)
-    new.handled.server.end (handling_of new.handled.exchanges)
+pub record SeatHandles {H W : Type 0} (rel : Relations H W) (old new : Seat H W) : Type 0 where
+  pub handles : Handles rel old.handled.server.end (handling_of old.handled.exchanges)
+      new.handled.server.end (handling_of new.handled.exchanges)
