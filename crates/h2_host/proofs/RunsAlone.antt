@@ -1,6 +1,6 @@
 -- Whatever happens at the places of a host, a connection is what its own moves make of it.
-use Rattle.std.specs.Prelude.{◌≡◌, ◌≢◌, ◌≤◌, ◌<◌, ◌⊎◌, ◌==◌, ◌&&◌, ℕ, List, [], ◌∷◌, Bool, true}
-use Rattle.std.specs.Prelude.{false, if◌then◌else◌, Option, Some, None}
+use Rattle.std.specs.Prelude.{◌≡◌, ◌≢◌, ◌≤◌, ◌==◌, ◌&&◌, ℕ, List, [], ◌∷◌, true}
+use Rattle.std.specs.Prelude.{false, if◌then◌else◌, Some}
 use Rattle.std.proofs.Common.{refl, sym, ap, ◌∙◌, subst, arith, inl, inr}
 use Rattle.std.proofs.lemmas.Bool.{cases_eq, eq-eqb, ne_eqb}
 use Rattle.h2_host.specs.declared.party.Answer.{Answer}
@@ -10,12 +10,12 @@ use Rattle.h2_host.specs.declared.token.Token.{Token}
 use Rattle.h2_host.specs.Tokens.{IsAt, is_same_token, slot_at}
 use Rattle.h2_host.proofs.Places.{one_at, one_slot}
 use Rattle.h2_host.specs.Isolation.{Move, MoveOf, moves_of, IsRunAlone, RunsAlone}
-use Rattle.h2_host.specs.Isolation.{KeepsOtherPlaces, StepsOne, OpensPlace, LeavesPlace}
-use Rattle.h2_host.specs.Isolation.{IsSameOfParties, HappensAt}
+use Rattle.h2_host.specs.Isolation.{KeepsOtherPlaces}
+use Rattle.h2_host.specs.Isolation.{HappensAt}
 use Rattle.h2_host.specs.Isolation.{nothing, moved, opened, left, noted}
 
 -- Tokens of one place and one generation are the same.
-one_token : (a b : Token) → a.place ≡ b.place → a.generation ≡ b.generation → a ≡ b
+pub one_token : (a b : Token) → a.place ≡ b.place → a.generation ≡ b.generation → a ≡ b
 one_token a b place generation =
     ap (λ p. record { place = p; generation = a.generation }) place
     ∙ ap (λ g. record { place = b.place; generation = g }) generation

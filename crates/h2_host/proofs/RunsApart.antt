@@ -1,6 +1,6 @@
 -- Steps of a host that were made one after another happen at its places.
-use Rattle.std.specs.Prelude.{◌≡◌, ℕ, List, [], ◌∷◌, ◌++◌, Bool}
-use Rattle.std.proofs.Common.{refl, sym, subst}
+use Rattle.std.specs.Prelude.{◌≡◌, ℕ, List, [], ◌++◌, Bool}
+use Rattle.std.proofs.Common.{sym, subst}
 use Rattle.h2_host.specs.declared.host.Made.{Made}
 use Rattle.h2_host.specs.declared.host.Reply.{Reply}
 use Rattle.h2_host.specs.declared.host.Reply.TheVariants as replies
@@ -67,16 +67,16 @@ module _ {P : Type 0} (steps : P → Own → List ℕ → Answer → P → Type 
   closing_happens old new token replies.Passed is = absurd is
   closing_happens old new token (replies.Turn next) is = absurd is
 
-  time_happens : (old new : HostState P) (reply : Reply P) → AnswersTime steps old new reply
-      → HappensSome steps old new
-  time_happens old new replies.Passed is = (is.0.moves, is.0.happens)
-  time_happens old new (replies.Opened token) is = absurd is
-  time_happens old new (replies.Full back) is = absurd is
-  time_happens old new (replies.Own answer) is = absurd is
-  time_happens old new replies.Stale is = absurd is
-  time_happens old new replies.NotNow is = absurd is
-  time_happens old new replies.Closed is = absurd is
-  time_happens old new (replies.Turn next) is = absurd is
+  time_happens : (old new : HostState P) (now : ℕ) (reply : Reply P)
+      → AnswersTime steps old new now reply → HappensSome steps old new
+  time_happens old new now replies.Passed is = (is.0.host.moves, is.0.host.happens)
+  time_happens old new now (replies.Opened token) is = absurd is
+  time_happens old new now (replies.Full back) is = absurd is
+  time_happens old new now (replies.Own answer) is = absurd is
+  time_happens old new now replies.Stale is = absurd is
+  time_happens old new now replies.NotNow is = absurd is
+  time_happens old new now replies.Closed is = absurd is
+  time_happens old new now (replies.Turn next) is = absurd is
 
   turn_happens : (old new : HostState P) (reply : Reply P) → AnswersTurn ready_of old new reply
       → HappensSome steps old new
@@ -98,7 +98,8 @@ module _ {P : Type 0} (steps : P → Own → List ℕ → Answer → P → Type 
       opening_happens old new party reply is
   answers_happen old new (host_steps.Own token own) octets reply is =
       own_happens old new token own octets reply is
-  answers_happen old new (host_steps.Passed now) octets reply is = time_happens old new reply is
+  answers_happen old new (host_steps.Passed now) octets reply is =
+      time_happens old new now reply is
   answers_happen old new (host_steps.Closed token) octets reply is =
       closing_happens old new token reply is
   answers_happen old new host_steps.NextTurn octets reply is = turn_happens old new reply is

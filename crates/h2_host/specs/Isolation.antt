@@ -1,14 +1,15 @@
 -- A connection's answers and what becomes of it follow from its own moves, whatever happens on
 -- others.
-use Rattle.std.specs.Prelude.{◌≡◌, ◌≢◌, ◌<◌, ◌≤◌, ℕ, List, [], ◌∷◌, ◌++◌, Option, Some, None}
+use Rattle.std.specs.Prelude.{◌≡◌, ◌≢◌, ◌<◌, ℕ, List, [], ◌∷◌, ◌++◌, Some, None}
 use Rattle.std.specs.Prelude.{if◌then◌else◌}
 use Rattle.std.specs.List.{AllByRecursion}
 use Rattle.h2_host.specs.declared.party.Answer.{Answer}
 use Rattle.h2_host.specs.declared.party.Own.{Own}
+use Rattle.h2_host.specs.declared.party.Own.TheVariants as owns
 use Rattle.h2_host.specs.declared.table.Slot.{Slot}
 use Rattle.h2_host.specs.declared.token.Token.{Token}
 use Rattle.h2_host.specs.Parties.{IsOwnOfHost}
-use Rattle.h2_host.specs.Tokens.{IsAt, is_same_token, slot_at}
+use Rattle.h2_host.specs.Tokens.{IsAt, IsNow, is_same_token, slot_at}
 
 -- a step that one connection has made: the octets that came, and its answer
 pub record Move : Type 0 where
@@ -104,9 +105,32 @@ pub data HappensAt {P : Type 0} (steps : P → Own → List ℕ → Answer → P
 abbrev pub IsOfHost : Move → Type 0
 IsOfHost move = IsOwnOfHost move.own
 
--- These moves were made, each of them of the host's own: time that passes, or a refusal.
+-- These moves were made, each of them of the host's own: time that passes, or a refusal. Whoever was
+-- there is there still.
 pub record HostMoves {P : Type 0} (steps : P → Own → List ℕ → Answer → P → Type 0)
     (old new : List (Slot P)) : Type 0 where
   pub moves : List MoveOf
   pub happens : HappensAt steps new old moves
   pub own : AllByRecursion (λ m. IsOfHost m.move) moves
+  pub stay : (token : Token) → IsNow old token → IsNow new token
+
+-- the time of a step that is time that passes
+abbrev pub time_of : Own → List ℕ
+time_of (owns.Passed now) = now ∷ []
+time_of own = []
+
+-- the times that a connection sees in its moves, in order
+unfoldable pub times_in : List Move → List ℕ
+times_in [] = []
+times_in (move ∷ moves) = time_of move.own ++ times_in moves
+
+abbrev pub times_of : Token → List MoveOf → List ℕ
+times_of token moves = times_in (moves_of token moves)
+
+-- Time passes for all: each connection that is there makes the step of this time, once; and besides
+-- some may be refused.
+-- rule: hosts (own) Each connection sees each time that passes, once
+pub record PassesTime {P : Type 0} (steps : P → Own → List ℕ → Answer → P → Type 0)
+    (old new : List (Slot P)) (time : ℕ) : Type 0 where
+  pub host : HostMoves steps old new
+  pub each : (token : Token) → IsNow old token → times_of token host.moves ≡ time ∷ []

@@ -1,6 +1,6 @@
 -- What a step of a host answers, and what it makes of the host.
-use Rattle.std.specs.Prelude.{◌≡◌, ◌⊎◌, ◌+◌, ◌≤◌, ◌<◌, ℕ, List, [], ◌∷◌, ◌++◌, Bool, true, false}
-use Rattle.std.specs.Prelude.{Option, Some, None, if◌then◌else◌, nat_lt, length}
+use Rattle.std.specs.Prelude.{◌≡◌, ◌⊎◌, ◌≤◌, ◌<◌, ℕ, List, [], ◌∷◌, ◌++◌, Bool, true}
+use Rattle.std.specs.Prelude.{Option, Some, None, length, max}
 use Rattle.h2_host.specs.declared.host.Reply.{Reply}
 use Rattle.h2_host.specs.declared.host.Reply.TheVariants as replies
 use Rattle.h2_host.specs.declared.host.Step.{Step}
@@ -12,10 +12,10 @@ use Rattle.h2_host.specs.declared.party.Own.TheVariants as owns
 use Rattle.h2_host.specs.declared.state.HostState.{HostState}
 use Rattle.h2_host.specs.declared.table.Slot.{Slot}
 use Rattle.h2_host.specs.declared.token.Token.{Token}
-use Rattle.h2_host.specs.Bounds.{held_in_all, slot_held, IsGreatestHolder}
-use Rattle.h2_host.specs.Isolation.{HappensAt, HostMoves, IsSameOfParties, Move, MoveOf, StepsOne}
-use Rattle.h2_host.specs.Parties.{IsGivenUp, IsRefusal}
-use Rattle.h2_host.specs.Tokens.{IsAt, IsNow, WasGiven, slot_at}
+use Rattle.h2_host.specs.Bounds.{held_in_all, IsGreatestHolder}
+use Rattle.h2_host.specs.Isolation.{HappensAt, IsSameOfParties, Move, MoveOf, PassesTime}
+use Rattle.h2_host.specs.Isolation.{StepsOne}
+use Rattle.h2_host.specs.Tokens.{IsAt, IsNow, WasGiven}
 use Rattle.h2_host.specs.Turns.{NoneReady, WaitsIn, turn_left, turn_of}
 
 abbrev pub slots_of : {P : Type 0} → HostState P → List (Slot P)
@@ -116,12 +116,13 @@ AnswersClosing steps old new token replies.Stale =
     (IsNow (slots_of old) token → ⊥) × (new ≡ old)
 AnswersClosing steps old new token reply = ⊥
 
--- What a host answers as time passes: each move is of the host's own.
+-- What a host answers as time passes: each connection has seen it, once; the time never falls.
 abbrev pub AnswersTime : {P : Type 0} → (steps : P → Own → List ℕ → Answer → P → Type 0)
-    → (old new : HostState P) → Reply P → Type 0
-AnswersTime steps old new replies.Passed =
-    HostMoves steps (slots_of old) (slots_of new) × (new.turn ≡ old.turn) × KeepsQueue old new
-AnswersTime steps old new reply = ⊥
+    → (old new : HostState P) → (now : ℕ) → Reply P → Type 0
+AnswersTime steps old new now replies.Passed =
+    PassesTime steps (slots_of old) (slots_of new) (max old.time now)
+    × (new.turn ≡ old.turn) × KeepsQueue old new
+AnswersTime steps old new now reply = ⊥
 
 -- Of a queue these have passed, and the next one got the turn, and waits no more; or all have
 -- passed, and nobody did.
@@ -160,7 +161,7 @@ AnswersStep steps held_of ready_of old new (host_steps.Opened party) octets repl
 AnswersStep steps held_of ready_of old new (host_steps.Own token own) octets reply =
     AnswersOwn steps held_of old new token own octets reply
 AnswersStep steps held_of ready_of old new (host_steps.Passed now) octets reply =
-    AnswersTime steps old new reply
+    AnswersTime steps old new now reply
 AnswersStep steps held_of ready_of old new (host_steps.Closed token) octets reply =
     AnswersClosing steps old new token reply
 AnswersStep steps held_of ready_of old new host_steps.NextTurn octets reply =

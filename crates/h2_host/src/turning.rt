@@ -50,17 +50,18 @@ impl<P: Party> HostState<P> {
         Reply::Own(answer)
     }
 
+    // rule: hosts (own) Each connection sees each time that passes, once
     /// Lets each connection see the time, which never falls.
     pub(crate) fn pass(&mut self, now: u64) -> Reply<P>
         requires { IsSoundHost P.held_of P.ready_of self.old }
-        ensures answers { AnswersTime P.steps self.old self.new result }
+        ensures answers { AnswersTime P.steps self.old self.new now result }
         ensures sound { IsSoundHost P.held_of P.ready_of self.new }
     {
-        self.time = self.time.max(now);
-        let now = self.time;
+        let time = self.time.max(now);
+        self.time = time;
         for place in 0..self.table.slots.len() {
             if let Some(token) = self.token_at(place) {
-                let _ = self.make(token, Own::Passed { now }, &[]);
+                let _ = self.make(token, Own::Passed { now: time }, &[]);
             }
         }
         Reply::Passed

@@ -1,0 +1,4 @@
+mod Ending
+mod KeptMaps
+mod StatusAlone
+pub mod StepsMade

@@ -1,0 +1,224 @@
+-- Steps of a server with its handler, one after another.
+use Rattle.std.proofs.Common.{◌≡◌, ◌⊎◌, ◌∙◌, List, Ok, Err, None, refl, sym, inl, inr}
+use Rattle.std.specs.Prelude.{ℕ, Result, Some}
+use Rattle.h2_conn.specs.declared.taken.ConnFault.{ConnFault}
+use Rattle.h2_ends.specs.declared.event.EndTaken.{EndTaken}
+use Rattle.h2_ends.specs.EndTakes.{EndMayTake}
+use Rattle.h2_ends.specs.Ends.{EndTook, Handed}
+use Rattle.h2_ends.specs.Loans.{answer_of_taken}
+use Rattle.h2_ends.specs.Represents.{EndTakes}
+use Rattle.h2_spec_log.specs.Acts.{Values, Act, Answer}
+use Rattle.h2_spec_log.specs.LogCalls.{with_call}
+use Rattle.h2_ends.specs.declared.end.End.{End}
+use Rattle.h2_ends.specs.declared.refusal.EndRefusal.{EndRefusal}
+use Rattle.h2_ends.specs.Ends.{EndLog}
+use Rattle.h2_ends.specs.EndTakes.{end_with_log}
+use Rattle.h2_ends.specs.Represents.{EndAnswers, EndPumpsSome, EndReleases}
+use Rattle.h2_ends.specs.Represents.{EndRepresents}
+use Rattle.h2_handlers.specs.Exchanges.{Relations, Handling, IsSameHandling, Kept, kept_at, awake}
+use Rattle.h2_handlers.specs.Exchanges.{SameKept, SetsKept}
+use Rattle.h2_handlers.specs.Giving.{GivesStage}
+use Rattle.h2_handlers.proofs.KeptMaps.{set_twice}
+use Rattle.h2_handlers.specs.Steps.{Steps, Handles, IsOverFor, none, more, notes, calls}
+use Rattle.h2_handlers.specs.Steps.{EndSendsPart, HandsNothing}
+use Rattle.h2_handlers.specs.Steps.{releases, pumps}
+use Rattle.h2_handlers.specs.Telling.{EndsAny, EndsEach, no_more, goes_on, ends_one}
+use Rattle.h2_handlers.specs.Telling.{AskedPart, ChangesAny, Tells}
+use Rattle.h2_handlers.specs.Steps as steps
+use Rattle.h2_handlers.specs.declared.exchange.Stage.{Stage}
+use Rattle.h2_handlers.specs.declared.exchange.Stage.TheVariants as stages
+use Rattle.h2_handlers.specs.declared.handler.HandlerFault.{HandlerFault}
+use Rattle.h2_handlers.specs.declared.handler.HandlerFault.TheVariants.{Failed}
+use Rattle.h2_handlers.specs.declared.handler.Part.{Part}
+use Rattle.h2_handlers.specs.declared.stop.Stop.{Stop}
+use Rattle.h2_handlers.specs.declared.handler.Cause.{Cause}
+use Rattle.h2_handlers.specs.declared.handler.Cause.TheVariants.{Closed}
+
+-- Octets were taken, and this was handed out.
+abbrev pub EndHands : (old : End) → (piece : List ℕ) → (count : ℕ) → Handed → (new : End)
+    → Type 0
+EndHands old piece count handed new =
+    (values : Values) (end : EndLog) → EndRepresents values old end
+    → (after : EndLog) × EndMayTake end piece (EndTook count (Some handed)) after
+    × EndRepresents values new after
+
+-- What is as it was, is the same.
+pub same : {H W : Type 0} (h : Handling H W) → IsSameHandling h h
+same h = record { handler = refl; kept = λ i. refl }
+
+-- A handler was not asked, since there is no such exchange.
+pub unasked_same : {H W : Type 0} (rel : Relations H W) {a : Handling H W} (mid : Handling H W)
+    (id : ℕ) (room : List ℕ) (part : Result Part HandlerFault)
+    → ChangesAny (AskedPart rel room part) id a mid → kept_at id mid.entries ≡ None
+    → (kept_at id a.entries ≡ None) × IsSameHandling a mid
+unasked_same rel mid id room part (inl one_part) at =
+    absurd (let no = sym at ∙ one_part.now.at in cc)
+unasked_same rel mid id room part (inr never) at = never
+
+module _ {H W : Type 0} {rel : Relations H W} where
+  -- More steps after some.
+  pub steps_then : {last mid : EndLog} {new between : Handling H W} {first : EndLog}
+      {old : Handling H W} → Steps rel mid between first old → Steps rel last new mid between
+      → Steps rel last new first old
+  steps_then none then = then
+  steps_then (more step rest) then = more step (steps_then rest then)
+
+  -- One after another.
+  pub then_handles : {one two three : End} {a b c : Handling H W}
+      → Handles rel one a two b → Handles rel two b three c → Handles rel one a three c
+  then_handles first second values end is =
+      let (mid, made, there) = first values end is in
+      let (after, more_made, then) = second values mid there in
+      (after, steps_then made more_made, then)
+
+  -- Nothing happens.
+  pub nothing_handles : (one : End) (a : Handling H W) → Handles rel one a one a
+  nothing_handles one a values end is = (end, none, is)
+
+  -- Something was counted.
+  pub noted_handles : (one : End) {a b : Handling H W} → IsSameHandling a b
+      → Handles rel one a one b
+  noted_handles one so values end is = (end, more (notes refl so) none, is)
+
+  -- A call that is the connection's own was made.
+  pub called_handles : {one two : End} {act : Act} {answer : Answer} (a : Handling H W)
+      → EndAnswers one act answer two → Handles rel one a two a
+  called_handles {act} {answer} a answers values end is =
+      let made = answers values end is in (
+        end_with_log end (with_call end.log act answer),
+        more (calls act answer made.0 refl (same a)) none,
+        made.1,
+      )
+
+  -- All that is owed was released.
+  pub released_handles : {one two : End} (result : Result (Unit {0}) EndRefusal)
+      (a : Handling H W) → EndReleases one result two → Handles rel one a two a
+  released_handles result a made values end is =
+      let (after, may, there) = made values end is in
+      (after, more (releases result may (same a)) none, there)
+
+  -- Shares were sent.
+  pub pumped_handles : {one two : End} (most : ℕ) (result : Result ℕ EndRefusal)
+      (a : Handling H W) → EndPumpsSome one most result two → Handles rel one a two a
+  pumped_handles most result a made values end is =
+      let (after, may, there) = made values end is in
+      (after, more (pumps most result may (same a)) none, there)
+
+  -- All exchanges have ended, since the connection is over.
+  pub closed_handles : {one : End} {b a : Handling H W} → EndsEach rel b a
+      → Handles rel one a one b
+  closed_handles no_more values end is = (end, none, is)
+  closed_handles (goes_on so rest) values end is =
+      let (after, made, there) = closed_handles rest values end is in
+      (after, more (notes refl so) made, there)
+  closed_handles (ends_one id over rest) values end is =
+      let (after, made, there) = closed_handles rest values end is in
+      (after, more (steps.ends id Closed over tt refl) made, there)
+
+  -- An exchange has ended, if there was one, for a cause that is so.
+  pub ended_handles : (one : End) {a b : Handling H W} (id : ℕ) (cause : Cause)
+      (stage : Stage) → EndsAny rel id cause a b
+      → ((kept : Kept W) → kept_at id a.entries ≡ Some kept → kept.stage ≡ stage)
+      → ((values : Values) (end : EndLog) → EndRepresents values one end
+      → IsOverFor end id stage cause) → Handles rel one a one b
+  ended_handles one id cause stage (inl over) at so values end is = (
+    end,
+    more (steps.ends id cause over
+        (rw (at over.kept over.was) (so values end is)) refl) none,
+    is,
+  )
+  ended_handles one id cause stage (inr never) at so values end is =
+      (end, more (notes refl never.1) none, is)
+
+  -- Octets were taken, and nothing was handed out.
+  pub took_handles : {one two : End} (a : Handling H W) (piece : List ℕ)
+      (result : Result EndTaken ConnFault) → EndTakes one piece result two
+      → HandsNothing (answer_of_taken result) → Handles rel one a two a
+  took_handles a piece result made nothing values end is =
+      let (after, may, there) = made values end is in
+      (after, more (steps.takes piece (answer_of_taken result) may nothing (same a)) none, there)
+
+  -- What was handed out was told.
+  pub told_handles : {one two : End} {a b : Handling H W} (piece : List ℕ) (count : ℕ)
+      (handed : Handed) → EndHands one piece count handed two → Tells rel handed a b
+      → Handles rel one a two b
+  told_handles piece count handed made told values end is =
+      let (after, may, there) = made values end is in
+      (after, more (steps.tells piece count handed may told) none, there)
+
+  -- There was no memory for it.
+  pub untold_handles : {one two : End} {a b : Handling H W} (piece : List ℕ) (count : ℕ)
+      (handed : Handed) → EndHands one piece count handed two → IsSameHandling a b
+      → Handles rel one a two b
+  untold_handles piece count handed made so values end is =
+      let (after, may, there) = made values end is in
+      (after, more (steps.lacks_memory piece count handed may so) none, there)
+
+  -- The next of an answer was given.
+  pub gave_handles : {one two : End} {a b : Handling H W} (id : ℕ) (kept : Kept W)
+      (result : Result Stage Stop) (stage : Stage) → kept_at id a.entries ≡ Some kept
+      → GivesStage one id kept.stage result two
+      → (result ≡ Ok stage) ⊎ (stage ≡ stages.Given) → b.handler ≡ a.handler
+      → SetsKept id (Some (record kept { stage = stage })) a.entries b.entries
+      → Handles rel one a two b
+  gave_handles id kept result stage was made so handler now values end is =
+      let (after, gives, there) = made values end is in (
+        after,
+        more (steps.gives id (record {
+          kept = kept;
+          result = result;
+          stage = stage;
+          was = was;
+          gives = gives;
+          is = so;
+          handler = handler;
+          now = now;
+        })) none,
+        there,
+      )
+
+  -- A handler was asked for a part, and that was sent.
+  pub asked_handles : {one two : End} {a : Handling H W} (mid : Handling H W) {b : Handling H W}
+      (id : ℕ) (room : List ℕ) (part : Result Part HandlerFault) (stage : Stage)
+      (found : Kept W) → ChangesAny (AskedPart rel room part) id a mid
+      → EndSendsPart one id part room stage two → kept_at id mid.entries ≡ Some found
+      → b.handler ≡ mid.handler
+      → SetsKept id (Some (record found { stage = stage })) mid.entries b.entries
+      → Handles rel one a two b
+  asked_handles mid id room part stage found (inr never) made at handler now values end is =
+      absurd (let no = sym at ∙ (never.1.kept id ∙ never.0) in cc)
+  asked_handles {a} mid {b} id room part stage found (inl one_part) made at handler now values end
+      is =
+      let (after, sends, there) = made values end is in
+      let same_one : Some found ≡ Some one_part.next = sym at ∙ one_part.now.at in
+      let it : found ≡ one_part.next = cc in (
+        after,
+        more (steps.asks id (record {
+          kept = one_part.kept;
+          next = one_part.next;
+          stage = stage;
+          room = room;
+          part = part;
+          was = one_part.was;
+          asked = rw handler one_part.told_so;
+          sends = sends;
+          now = rw (← it) (set_twice id _ _ a.entries mid.entries b.entries one_part.now now);
+        })) none,
+        there,
+      )
+
+  -- There was nothing to ask.
+  pub unasked_handles : {one two : End} {a b : Handling H W} (id : ℕ) (room : List ℕ)
+      (stage : Stage) → EndSendsPart one id (Err Failed) room stage two → IsSameHandling a b
+      → Handles rel one a two b
+  unasked_handles {a} {b} id room stage made so values end is =
+      let (after, sends, there) = made values end is in
+      (after, more {next = after} (notes sends.1 so) none, there)
+
+  -- A handler may be asked again.
+  pub woke_handles : (one : End) {a b : Handling H W} (id : ℕ) (kept : Kept W)
+      → kept_at id a.entries ≡ Some kept
+      → SetsKept id (Some (awake kept)) a.entries b.entries → b.handler ≡ a.handler
+      → Handles rel one a one b
+  woke_handles one id kept was now handler values end is =
+      (end, more (steps.wakes id kept was now handler refl) none, is)

@@ -1,0 +1,25 @@
+use Rattle.h2_handlers.specs.Exchanges.{handling_of}
+use Rattle.h2_handlers.proofs.StepsMade.{nothing_handles, then_handles}
+use Rattle.h2_handlers.proofs.handled.Handled.send_some.Goals as goal
+
+pub returns-in-Some-clause-handles : goal.returns-in-Some-clause-handles
+returns-in-Some-clause-handles g c =
+    nothing_handles c.args.self.now.server.end (handling_of c.args.self.now.exchanges)
+
+pub returns-in_err-give_waiting-clause-handles : goal.returns-in_err-give_waiting-clause-handles
+returns-in_err-give_waiting-clause-handles g c =
+    then_handles c.release.ensures c.give_waiting.ensures
+
+pub returns-in_err-ask-clause-handles : goal.returns-in_err-ask-clause-handles
+returns-in_err-ask-clause-handles g c =
+    then_handles (then_handles c.release.ensures c.give_waiting.ensures) c.ask.ensures.handles
+
+pub returns-in_err-pump-clause-handles : goal.returns-in_err-pump-clause-handles
+returns-in_err-pump-clause-handles g c =
+    then_handles (then_handles (then_handles c.release.ensures c.give_waiting.ensures)
+    c.ask.ensures.handles) c.pump.ensures
+
+pub returns-clause-handles : goal.returns-clause-handles
+returns-clause-handles g c =
+    then_handles (then_handles (then_handles (then_handles c.release.ensures
+    c.give_waiting.ensures) c.ask.ensures.handles) c.pump.ensures) c.settle.ensures

@@ -1,0 +1,77 @@
+-- What is kept of exchanges, and what a handler may do.
+use Rattle.std.specs.Prelude.{◌≡◌, ◌≢◌, ℕ, Bool, List, Option, None, Result}
+use Rattle.std.specs.Prelude.{option_map}
+use Rattle.hpack.specs.declared.types.field.Field.{Field}
+use Rattle.h2_numbers.specs.Entries.{value_at}
+use Rattle.h2_handlers.specs.declared.exchange.Exchange.{Exchange}
+use Rattle.h2_handlers.specs.declared.exchange.Stage.{Stage}
+use Rattle.h2_handlers.specs.declared.exchanges.Exchanges.{Exchanges}
+use Rattle.h2_handlers.specs.declared.handler.Cause.{Cause}
+use Rattle.h2_handlers.specs.declared.handler.HandlerFault.{HandlerFault}
+use Rattle.h2_handlers.specs.declared.handler.Part.{Part}
+use Rattle.h2_handlers.specs.declared.handler.Reply.{Reply}
+use Rattle.h2_handlers.specs.Stages.{stage_awake}
+
+-- what a handler may do: the relations that it declares of itself
+pub record Relations (H W : Type 0) : Type 1 where
+  pub heads : H → (list : List Field) → (end : Bool) → Result (W × Reply) HandlerFault → H → Type 0
+  pub bodies : H → W → (octets : List ℕ) → (end : Bool) → Result Reply HandlerFault → W → H
+      → Type 0
+  pub trails : H → W → (list : List Field) → Result Reply HandlerFault → W → H → Type 0
+  pub gives : H → W → Result Part HandlerFault → (room : List ℕ) → W → H → Type 0
+  pub ends : H → W → Cause → H → Type 0
+
+abbrev pub relations : {H W : Type 0}
+    → (heads : H → List Field → Bool → Result (W × Reply) HandlerFault → H → Type 0)
+    → (bodies : H → W → List ℕ → Bool → Result Reply HandlerFault → W → H → Type 0)
+    → (trails : H → W → List Field → Result Reply HandlerFault → W → H → Type 0)
+    → (gives : H → W → Result Part HandlerFault → List ℕ → W → H → Type 0)
+    → (ends : H → W → Cause → H → Type 0) → Relations H W
+relations heads bodies trails gives ends =
+    record { heads = heads; bodies = bodies; trails = trails; gives = gives; ends = ends }
+
+-- what is kept of an exchange, without what is counted of it
+pub record Kept (W : Type 0) : Type 0 where
+  pub work : Option W
+  pub whole : Bool
+  pub stage : Stage
+
+abbrev pub kept_of : {W : Type 0} → Exchange W → Kept W
+kept_of exchange =
+    record { work = exchange.work; whole = exchange.whole; stage = exchange.stage }
+
+-- what is kept of one whose handler may be asked again
+abbrev pub awake : {W : Type 0} → Kept W → Kept W
+awake kept = record kept { stage = stage_awake kept.stage }
+
+-- what is kept of the exchange on a stream
+abbrev pub kept_at : {W : Type 0} → ℕ → List (ℕ × Exchange W) → Option (Kept W)
+kept_at id entries = option_map kept_of (value_at id entries)
+
+-- Of one stream this is kept now, or nothing; of each other what was kept before.
+pub record SetsKept {W : Type 0} (id : ℕ) (kept : Option (Kept W)) (old new : List (ℕ × Exchange W))
+    : Type 0 where
+  pub at : kept_at id new ≡ kept
+  pub others : (i : ℕ) → i ≢ id → kept_at i new ≡ kept_at i old
+
+-- Of each stream the same is kept.
+abbrev pub SameKept : {W : Type 0} → (old new : List (ℕ × Exchange W)) → Type 0
+SameKept old new = (i : ℕ) → kept_at i new ≡ kept_at i old
+
+-- what is kept of the exchanges of a connection, with its handler
+pub record Handling (H W : Type 0) : Type 0 where
+  pub handler : H
+  pub entries : List (ℕ × Exchange W)
+
+abbrev pub handling_of : {H W : Type 0} → Exchanges H W → Handling H W
+handling_of exchanges =
+    record { handler = exchanges.handler; entries = exchanges.kept.entries }
+
+-- Nothing was told to the handler, and the same is kept.
+pub record IsSameHandling {H W : Type 0} (old new : Handling H W) : Type 0 where
+  pub handler : new.handler ≡ old.handler
+  pub kept : SameKept old.entries new.entries
+
+-- No exchange is kept.
+abbrev pub IsEmptied : {H W : Type 0} → Handling H W → Type 0
+IsEmptied handling = (i : ℕ) → kept_at i handling.entries ≡ None

@@ -1,0 +1,159 @@
+-- What may happen at a server with its handler, step by step.
+use Rattle.std.specs.Prelude.{◌≡◌, ◌⊎◌, ℕ, Bool, true, false, List, Some, None, Result}
+use Rattle.std.specs.Prelude.{Ok, Err, take, if◌then◌else◌, ◌==◌, length, not}
+use Rattle.h2_frame.specs.declared.code.Code.TheVariants.{InternalError}
+use Rattle.h2_spec_log.specs.Acts.{Values, Act, Answer}
+use Rattle.h2_spec_log.specs.Log.{active}
+use Rattle.h2_spec_log.specs.LogCalls.{MayAnswer, with_call}
+use Rattle.h2_ends.specs.declared.end.End.{End}
+use Rattle.h2_ends.specs.declared.refusal.EndRefusal.{EndRefusal}
+use Rattle.h2_ends.specs.Ends.{EndLog, EndAnswer, EndTook, EndFailed, Handed}
+use Rattle.h2_ends.specs.EndTakes.{EndMayTake, end_with_log}
+use Rattle.h2_ends.specs.EndCalls.{MaySendBody, MayReleaseAll}
+use Rattle.h2_ends.specs.Passes.{MayPumpSome}
+use Rattle.h2_ends.specs.Represents.{EndRepresents}
+use Rattle.h2_handlers.specs.declared.exchange.Stage.{Stage}
+use Rattle.h2_handlers.specs.declared.exchange.Stage.TheVariants as stages
+use Rattle.h2_handlers.specs.declared.handler.Cause.{Cause}
+use Rattle.h2_handlers.specs.declared.handler.Cause.TheVariants as causes
+use Rattle.h2_handlers.specs.declared.handler.HandlerFault.{HandlerFault}
+use Rattle.h2_handlers.specs.declared.handler.Part.{Part}
+use Rattle.h2_handlers.specs.declared.handler.Part.TheVariants as parts
+use Rattle.h2_handlers.specs.declared.stop.Stop.{Stop}
+use Rattle.h2_handlers.specs.Exchanges.{Relations, Kept, kept_at, SetsKept, Handling}
+use Rattle.h2_handlers.specs.Exchanges.{IsSameHandling, awake}
+use Rattle.h2_handlers.specs.Giving.{GivesStageSo}
+use Rattle.h2_handlers.specs.Telling.{AskedPart, EndsOne, Tells}
+
+-- The answer hands nothing out.
+abbrev pub HandsNothing : EndAnswer → Type 0
+HandsNothing (EndFailed code) = Unit {0}
+HandsNothing (EndTook count handed) = handed ≡ None
+
+-- how far an answer is after octets of its body were sent: all of them, and its end where that was
+-- to go; or it can't go on
+abbrev pub stage_sent : (all ends : Bool) → Stage
+stage_sent all ends =
+    if not all then stages.Resets InternalError
+    else if ends then stages.Given
+    else stages.Parts false
+
+abbrev pub IsSentSo : (octets : List ℕ) → (ends : Bool) → Result ℕ EndRefusal → Stage → Type 0
+IsSentSo octets ends (Ok count) stage = stage ≡ stage_sent (count == length octets) ends
+IsSentSo octets ends (Err refusal) stage = Unit {0}
+
+-- These octets are sent, as the next ones of the body on a stream.
+pub record SendsOctets (end : EndLog) (id : ℕ) (octets : List ℕ) (ends : Bool) (stage : Stage)
+    (after : EndLog) : Type 0 where
+  pub answer : Result ℕ EndRefusal
+  pub sends : MaySendBody end id octets ends answer after
+  pub so_far : IsSentSo octets ends answer stage
+
+abbrev pub EndSendsOctets : (old : End) → ℕ → List ℕ → (ends : Bool) → Stage → (new : End)
+    → Type 0
+EndSendsOctets old id octets ends stage new =
+    (values : Values) (end : EndLog) → EndRepresents values old end
+    → (after : EndLog) × SendsOctets end id octets ends stage after × EndRepresents values new after
+
+-- What a handler has given of a body is sent, and nothing else; where it has failed the stream is
+-- reset with code 2.
+-- rule: handlers (own) What is given as an answer is what its handler gave
+abbrev pub SendsPart : (end : EndLog) → ℕ → Result Part HandlerFault → (room : List ℕ) → Stage
+    → (after : EndLog) → Type 0
+SendsPart end id (Ok (parts.Octets count)) room stage after =
+    ((count ≡ 0) × (stage ≡ stages.Parts true) × (after ≡ end))
+    ⊎ SendsOctets end id (take count room) false stage after
+SendsPart end id (Ok (parts.Last count)) room stage after =
+    SendsOctets end id (take count room) true stage after
+SendsPart end id (Ok (parts.Trailers list)) room stage after =
+    (stage ≡ stages.Trails list) × (after ≡ end)
+SendsPart end id (Ok parts.Later) room stage after = (stage ≡ stages.Parts true) × (after ≡ end)
+SendsPart end id (Err fault) room stage after =
+    (stage ≡ stages.Resets InternalError) × (after ≡ end)
+
+abbrev pub EndSendsPart : (old : End) → ℕ → Result Part HandlerFault → (room : List ℕ) → Stage
+    → (new : End) → Type 0
+EndSendsPart old id part room stage new =
+    (values : Values) (end : EndLog) → EndRepresents values old end
+    → (after : EndLog) × SendsPart end id part room stage after × EndRepresents values new after
+
+-- The handler was asked for a part of the answer on a stream, and that was sent.
+pub record AsksOne {H W : Type 0} (rel : Relations H W) (id : ℕ) (end after : EndLog)
+    (old new : Handling H W) : Type 0 where
+  pub kept : Kept W
+  pub next : Kept W
+  pub stage : Stage
+  pub room : List ℕ
+  pub part : Result Part HandlerFault
+  pub was : kept_at id old.entries ≡ Some kept
+  pub asked : AskedPart rel room part old.handler new.handler kept next
+  pub sends : SendsPart end id part room stage after
+  pub now : SetsKept id (Some (record next { stage = stage })) old.entries new.entries
+
+-- The next of the answer on a stream was given. Where the connection can't go on after that,
+-- nothing more is given there.
+pub record GivesOne {H W : Type 0} (id : ℕ) (end after : EndLog) (old new : Handling H W)
+    : Type 0 where
+  pub kept : Kept W
+  pub result : Result Stage Stop
+  pub stage : Stage
+  pub was : kept_at id old.entries ≡ Some kept
+  pub gives : GivesStageSo end id kept.stage result after
+  pub is : result ≡ Ok stage ⊎ (stage ≡ stages.Given)
+  pub handler : new.handler ≡ old.handler
+  pub now : SetsKept id (Some (record kept { stage = stage })) old.entries new.entries
+
+-- Why an exchange is over that no reset of the peer's has ended: its answer was sent whole and its
+-- stream is over; this end has reset it; or the connection is over.
+abbrev pub IsOverFor : EndLog → ℕ → Stage → Cause → Type 0
+IsOverFor end id stage causes.Done = (stage ≡ stages.Given) × (active end.log id ≡ false)
+IsOverFor end id stage (causes.Reset code ours) = (stage ≡ stages.Gone code) × (ours ≡ true)
+IsOverFor end id stage causes.Closed = Unit {0}
+
+-- One step of a server with its handler.
+pub data Step {H W : Type 0} (rel : Relations H W) (end : EndLog) (old : Handling H W)
+    (after : EndLog) (new : Handling H W) : Type 0 where
+  -- something was counted
+  notes : after ≡ end → IsSameHandling old new → Step rel end old after new
+  -- octets were taken, and nothing was handed out
+  takes : (piece : List ℕ) (answer : EndAnswer) → EndMayTake end piece answer after
+      → HandsNothing answer → IsSameHandling old new → Step rel end old after new
+  -- octets were taken, and what was handed out was told
+  tells : (piece : List ℕ) (count : ℕ) (handed : Handed)
+      → EndMayTake end piece (EndTook count (Some handed)) after → Tells rel handed old new
+      → Step rel end old after new
+  -- the same, but there was no memory for it
+  lacks_memory : (piece : List ℕ) (count : ℕ) (handed : Handed)
+      → EndMayTake end piece (EndTook count (Some handed)) after → IsSameHandling old new
+      → Step rel end old after new
+  gives : (id : ℕ) → GivesOne id end after old new → Step rel end old after new
+  asks : (id : ℕ) → AsksOne rel id end after old new → Step rel end old after new
+  ends : (id : ℕ) (cause : Cause) (over : EndsOne rel id cause old new)
+      → IsOverFor end id over.kept.stage cause → after ≡ end → Step rel end old after new
+  -- a handler that had no part may be asked again
+  wakes : (id : ℕ) (kept : Kept W) → kept_at id old.entries ≡ Some kept
+      → SetsKept id (Some (awake kept)) old.entries new.entries → new.handler ≡ old.handler
+      → after ≡ end → Step rel end old after new
+  releases : (answer : Result (Unit {0}) EndRefusal) → MayReleaseAll end answer after
+      → IsSameHandling old new → Step rel end old after new
+  pumps : (most : ℕ) (answer : Result ℕ EndRefusal) → MayPumpSome most end answer after
+      → IsSameHandling old new → Step rel end old after new
+  -- a call that is the connection's own
+  calls : (act : Act) (answer : Answer) → MayAnswer end.log act answer
+      → after ≡ end_with_log end (with_call end.log act answer) → IsSameHandling old new
+      → Step rel end old after new
+
+-- Steps, one after another.
+pub data Steps {H W : Type 0} (rel : Relations H W) (after : EndLog) (new : Handling H W)
+    : (end : EndLog) → (old : Handling H W) → Type 0 where
+  none : Steps rel after new after new
+  more : {end next : EndLog} {old mid : Handling H W} → Step rel end old next mid
+      → Steps rel after new next mid → Steps rel after new end old
+
+-- Whatever has happened at the server, such steps were made, and the end represents what has
+-- happened after them.
+abbrev pub Handles : {H W : Type 0} → Relations H W → (old_end : End) → (old : Handling H W)
+    → (new_end : End) → (new : Handling H W) → Type 0
+Handles rel old_end old new_end new =
+    (values : Values) (end : EndLog) → EndRepresents values old_end end
+    → (after : EndLog) × Steps rel after new end old × EndRepresents values new_end after

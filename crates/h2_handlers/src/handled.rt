@@ -1,0 +1,217 @@
+//! A server with its handler. It does no input or output.
+
+ghost use Rattle.std.specs.Prelude.{◌≡◌, ◌≤◌, [], IfOk, length};
+ghost use Rattle.h2_flow.specs.ConfigValues.{values_of};
+ghost use Rattle.h2_spec_log.specs.declared.role.Role.TheVariants as roles;
+ghost use Rattle.h2_ends.specs.Represents.{EndRepresents, new_end_log};
+ghost use Rattle.h2_handlers.specs.Exchanges.{handling_of, relations};
+ghost use Rattle.h2_handlers.specs.Steps.{Handles};
+
+use crate::exchange::Stage;
+use crate::exchanges::{Due, Exchanges};
+use crate::giving::give;
+use crate::handler::{Cause, Handler};
+use crate::stop::Stop;
+use h2_ends::{Config, Conn, Server};
+use std::alloc::Global;
+use std::mem;
+
+/// A server whose requests a handler answers.
+#[derive(Drop)]
+pub struct Handled<H, W> {
+    pub(crate) alloc: Global,
+    pub(crate) server: Server,
+    pub(crate) exchanges: Exchanges<H, W>,
+    /// The stream whose handler was asked last for a part.
+    pub(crate) asked: u32,
+    /// Whether more may be sent of bodies that were given whole.
+    pub(crate) more: bool,
+    /// How many octets of bodies were sent.
+    pub(crate) sent: u64,
+}
+
+/// What was made of octets by one call of `take`.
+#[derive(Clone, Copy, Debug)]
+pub(crate) struct Heard {
+    /// So many octets were used.
+    used: usize,
+    /// What is due.
+    due: Due,
+}
+
+impl<W: Drop, H: Handler<Work = W>> Handled<H, W> {
+    /// A new one, whose opening waits.
+    ///
+    /// # Errors
+    ///
+    /// [`Stop::Memory`] where an allocation was refused.
+    pub fn new(alloc: Global, config: Config, handler: H) -> Result<Handled<H, W>, Stop>
+        ensures end { IfOk result (λ handled. EndRepresents (values_of config) handled.server.end
+            (new_end_log roles.Server (values_of config))) }
+        ensures none { IfOk result (λ handled. handling_of handled.exchanges
+            ≡ record { handler = handler; entries = [] }) }
+    {
+        let exchanges = Exchanges::new(alloc, handler);
+        let Ok(server) = Server::new(alloc, config) else {
+            return Err(Stop::Memory);
+        };
+        Ok(Handled {
+            alloc,
+            server,
+            exchanges,
+            asked: 0,
+            more: false,
+            sent: 0,
+        })
+    }
+
+    /// The connection, for what it answers of itself.
+    pub fn conn(&self) -> &Conn
+        ensures { result.now ≡ self.now.server.end.conn }
+    {
+        self.server.conn()
+    }
+
+    /// Takes octets of a piece, tells the handler what is handed out, and gives its answers to the
+    /// server: all of them, or those before the output was full, or `most` parts of requests were
+    /// told. Answers how many were used.
+    ///
+    /// # Errors
+    ///
+    /// [`Stop`] says why the connection can't go on.
+    pub fn take_some(&mut self, piece: &[u8], most: usize) -> Result<usize, Stop>
+        ensures handles { Handles (relations H.heads H.bodies H.trails H.gives H.ends) self.old.server.end (handling_of self.old.exchanges)
+            self.new.server.end (handling_of self.new.exchanges) }
+        ensures within { IfOk result (λ used. used ≤ length piece.now) }
+    {
+        let mut used = 0usize;
+        let mut told = 0usize;
+        self.more = true;
+        for _ in 0..u64::MAX {
+            if self.server.is_full() || told >= most {
+                return Ok(used);
+            }
+            let heard = self.hear(&piece[used..])?;
+            used += heard.used;
+            if heard.due.is_done() {
+                return Ok(used);
+            }
+            told += self.do_due(heard.due)?;
+        }
+        Ok(used)
+    }
+
+    /// Gives the answer that is due, if one is, and answers how many were.
+    fn do_due(&mut self, due: Due) -> Result<usize, Stop>
+        ensures handles { Handles (relations H.heads H.bodies H.trails H.gives H.ends)
+            self.old.server.end (handling_of self.old.exchanges) self.new.server.end
+            (handling_of self.new.exchanges) }
+        ensures one { IfOk result (λ count. count ≤ 1) }
+    {
+        let Due::Answer { id } = due else {
+            return Ok(0);
+        };
+        self.answer(id)?;
+        Ok(1)
+    }
+
+    // rule: handlers (own) A handler is told of each stream what was handed out of it, in order
+    /// Hands octets to `take` once, and tells the handler what is handed out.
+    fn hear(&mut self, piece: &[u8]) -> Result<Heard, Stop>
+        ensures handles { Handles (relations H.heads H.bodies H.trails H.gives H.ends) self.old.server.end (handling_of self.old.exchanges)
+            self.new.server.end (handling_of self.new.exchanges) }
+        ensures within { IfOk result (λ heard. heard.used ≤ length piece.now) }
+    {
+        let taken = match self.server.take(piece) {
+            Ok(taken) => taken,
+            Err(fault) => return Err(Stop::Failed(fault.code)),
+        };
+        let used = taken.used;
+        let due = match taken.event {
+            Some(event) => self.exchanges.note(event)?,
+            None => due_after(used, piece.len()),
+        };
+        Ok(Heard { used, due })
+    }
+
+    /// Gives the answer of an exchange to the server, as far as it can go now, and ends the
+    /// exchange where its stream is over. An answer that breaks a rule is followed by the reset at
+    /// once.
+    pub(crate) fn answer(&mut self, id: u32) -> Result<(), Stop>
+        ensures { Handles (relations H.heads H.bodies H.trails H.gives H.ends) self.old.server.end (handling_of self.old.exchanges)
+            self.new.server.end (handling_of self.new.exchanges) }
+    {
+        self.more = true;
+        self.give_next(id)?;
+        self.give_reset(id)?;
+        self.end_if_over(id);
+        Ok(())
+    }
+
+    /// Gives the reset that waits on a stream, if one does.
+    fn give_reset(&mut self, id: u32) -> Result<(), Stop>
+        ensures { Handles (relations H.heads H.bodies H.trails H.gives H.ends) self.old.server.end
+            (handling_of self.old.exchanges) self.new.server.end (handling_of self.new.exchanges) }
+    {
+        if !self.is_resetting(id) {
+            return Ok(());
+        }
+        self.give_next(id)
+    }
+
+    // rule: handlers (own) What is given as an answer is what its handler gave
+    /// Gives the next of the answer of an exchange to the server, by one call of it.
+    fn give_next(&mut self, id: u32) -> Result<(), Stop>
+        ensures { Handles (relations H.heads H.bodies H.trails H.gives H.ends) self.old.server.end (handling_of self.old.exchanges)
+            self.new.server.end (handling_of self.new.exchanges) }
+    {
+        let Some(exchange) = self.exchanges.kept.get_mut(id) else {
+            return Ok(());
+        };
+        let stage = mem::replace(&mut exchange.stage, Stage::Given);
+        exchange.stage = give(self.alloc, &mut self.server, id, stage)?;
+        Ok(())
+    }
+
+    /// Whether a reset waits on a stream.
+    fn is_resetting(&self, id: u32) -> bool {
+        match self.exchanges.kept.get(id) {
+            Some(exchange) => matches!(&exchange.stage, Stage::Resets(_)),
+            None => false,
+        }
+    }
+
+    // rule: handlers (own) Of each exchange a handler learns once that it is over, and why
+    /// Ends an exchange whose answer went whole and whose stream is over, or which was reset.
+    pub(crate) fn end_if_over(&mut self, id: u32)
+        ensures { Handles (relations H.heads H.bodies H.trails H.gives H.ends) self.old.server.end (handling_of self.old.exchanges)
+            self.new.server.end (handling_of self.new.exchanges) }
+    {
+        let Some(exchange) = self.exchanges.kept.get(id) else {
+            return;
+        };
+        match &exchange.stage {
+            Stage::Given if !self.server.conn().is_active(id) => {
+                self.exchanges.end(id, Cause::Done);
+            }
+            Stage::Gone { code } => {
+                let code = *code;
+                self.exchanges.end(id, Cause::Reset { code, ours: true });
+            }
+            _ => {}
+        }
+    }
+
+    /// How many octets are held: of output, of a frame that isn't complete, of answers that were
+    /// given whole, and by the handler.
+    pub fn held(&self) -> usize {
+        let conn = self.server.conn();
+        let octets = conn.waiting().saturating_add(conn.held());
+        octets.saturating_add(self.exchanges.totals.held)
+    }
+}
+
+/// What is due once nothing was handed out: nothing, where all octets were used.
+fn due_after(used: usize, all: usize) -> Due {
+    if used < all { Due::Again } else { Due::Done }
+}

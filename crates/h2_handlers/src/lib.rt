@@ -1,0 +1,22 @@
+//! Handlers of requests, and a server whose requests a handler answers, without input and output.
+//!
+//! A [`Handler`] answers the requests of one connection, part by part; a [`Handled`] drives it.
+//! [`Gather`] is the handler that keeps each request until it is whole, and asks an [`Answerer`].
+#![tactic(auto)]
+
+mod calls;
+mod exchange;
+mod exchanges;
+mod gather;
+mod giving;
+mod handled;
+mod handler;
+mod parts;
+mod sending;
+mod stop;
+
+pub use gather::{Answerer, Echo, Gather, Request};
+pub use h2_ends::{Code, Config, Conn, Field, FieldList, Message};
+pub use handled::Handled;
+pub use handler::{Cause, Handler, HandlerFault, Part, Reply};
+pub use stop::Stop;
