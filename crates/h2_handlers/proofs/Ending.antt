@@ -1,5 +1,5 @@
 -- Exchanges that end, stream by stream, until none is left.
-use Rattle.std.proofs.Common.{◌≡◌, ◌≢◌, ◌<◌, ◌≤◌, ◌==◌, ℕ, Bool, Some, None, Option, refl, sym, ap, ◌∙◌}
+use Rattle.std.proofs.Common.{◌≡◌, ◌<◌, ◌≤◌, ◌==◌, ℕ, Some, None, Option, ap, ◌∙◌}
 use Rattle.std.proofs.Common.{inl, inr, arith}
 use Rattle.std.proofs.lemmas.Bool.{cases_Bool, eqb-true, eqb-false, cases_lt}
 use Rattle.std.specs.Prelude.{option_map}
@@ -7,7 +7,7 @@ use Rattle.h2_numbers.specs.Entries.{IsNextAbove, value_at}
 use Rattle.h2_handlers.specs.declared.exchange.Exchange.{Exchange}
 use Rattle.h2_handlers.specs.declared.handler.Cause.{Cause}
 use Rattle.h2_handlers.specs.declared.handler.Cause.TheVariants.{Closed}
-use Rattle.h2_handlers.specs.Exchanges.{Relations, Handling, IsEmptied, kept_at, kept_of}
+use Rattle.h2_handlers.specs.Exchanges.{Relations, Handling, IsEmptied, exchange_at, exchange_kept}
 use Rattle.h2_handlers.specs.Telling.{EndsAny, EndsEach, no_more, goes_on, ends_one}
 
 module _ {H W : Type 0} (rel : Relations H W) where
@@ -21,15 +21,15 @@ module _ {H W : Type 0} (rel : Relations H W) where
 
   -- Nothing is kept of it then.
   gone_at : (mid new : Handling H W) (id : ℕ) → EndsAny rel id Closed mid new
-      → kept_at id new.entries ≡ None
+      → exchange_at id new.entries ≡ None
   gone_at mid new id (inl over) = over.gone.at
   gone_at mid new id (inr never) = never.1.kept id ∙ never.0
 
   -- And where nothing was kept, nothing is.
   gone_still : (mid new : Handling H W) (id i : ℕ) → EndsAny rel id Closed mid new
-      → kept_at i mid.entries ≡ None → kept_at i new.entries ≡ None
+      → exchange_at i mid.entries ≡ None → exchange_at i new.entries ≡ None
   gone_still mid new id i any none = elim (cases_Bool (i == id)) [
-    | inl here ↦ ap (λ n. kept_at n new.entries) (eqb-true i id here) ∙ gone_at mid new id any
+    | inl here ↦ ap (λ n. exchange_at n new.entries) (eqb-true i id here) ∙ gone_at mid new id any
     | inr there ↦ elim any [
       | inl over ↦ over.gone.others i (eqb-false i id there) ∙ none
       | inr never ↦ never.1.kept i ∙ none
@@ -39,15 +39,15 @@ module _ {H W : Type 0} (rel : Relations H W) where
   -- So far those up to this stream have ended.
   pub record EndsTo (start now : Handling H W) (above : ℕ) : Type 0 where
     pub ends : EndsEach rel now start
-    pub none : (i : ℕ) → 0 < i → i ≤ above → kept_at i now.entries ≡ None
+    pub none : (i : ℕ) → 0 < i → i ≤ above → exchange_at i now.entries ≡ None
 
   pub ends_begin : (start : Handling H W) → EndsTo start start 0
   ends_begin start =
       record { ends = no_more; none = λ i some none. absurd (omega (arith, some, none)) }
 
   none_of : (now : Handling H W) (i : ℕ) → value_at i now.entries ≡ None
-      → kept_at i now.entries ≡ None
-  none_of now i none = ap (λ (v : Option (Exchange W)). option_map kept_of v) none
+      → exchange_at i now.entries ≡ None
+  none_of now i none = ap (λ (v : Option (Exchange W)). option_map exchange_kept v) none
 
   -- One more.
   pub ends_on : (start now next : Handling H W) (above id : ℕ) → EndsTo start now above
@@ -57,7 +57,7 @@ module _ {H W : Type 0} (rel : Relations H W) where
     ends = ends_then id so_far.ends any;
     none = λ i some within. elim (cases_Bool (i == id)) [
       | inl here ↦
-          ap (λ n. kept_at n next.entries) (eqb-true i id here) ∙ gone_at now next id any
+          ap (λ n. exchange_at n next.entries) (eqb-true i id here) ∙ gone_at now next id any
       | inr there ↦ gone_still now next id i any (elim (cases_lt above i) [
         | inl later ↦ none_of now i (is.2 i later
             (omega (arith, within, eqb-false i id there)))
@@ -74,7 +74,7 @@ module _ {H W : Type 0} (rel : Relations H W) where
     ends_then 0 so_far.ends any,
     (λ i. elim (cases_Bool (i == 0)) [
       | inl zero_one ↦
-          ap (λ n. kept_at n new.entries) (eqb-true i 0 zero_one) ∙ gone_at now new 0 any
+          ap (λ n. exchange_at n new.entries) (eqb-true i 0 zero_one) ∙ gone_at now new 0 any
       | inr some ↦ gone_still now new 0 i any (elim (cases_lt above i) [
         | inl later ↦ none_of now i (is i later)
         | inr before ↦ so_far.none i (omega (arith, eqb-false i 0 some)) (omega (arith, before))

@@ -6,7 +6,7 @@ use Rattle.std.specs.Prelude.{option_map}
 use Rattle.h2_numbers.specs.Entries.{NumberEntries, SetsValue, value_at}
 use Rattle.h2_numbers.specs.Lends.{WritesThrough}
 use Rattle.h2_handlers.specs.declared.exchange.Exchange.{Exchange}
-use Rattle.h2_handlers.specs.Exchanges.{Kept, kept_of, kept_at, SetsKept, SameKept, awake}
+use Rattle.h2_handlers.specs.Exchanges.{Kept, exchange_kept, exchange_at, SetsKept, SameKept, awake}
 
 module _ {W : Type 0} where
   -- The number has this value, and each other one what it had.
@@ -23,29 +23,29 @@ module _ {W : Type 0} where
 
   -- So what is kept is set there.
   pub sets_kept : (id : ℕ) (value : Option (Exchange W)) (old new : List (ℕ × Exchange W))
-      → SetsValue id value old new → SetsKept id (option_map kept_of value) old new
+      → SetsValue id value old new → SetsKept id (option_map exchange_kept value) old new
   sets_kept id value old new changes =
       record {
-        at = ap (λ (v : Option (Exchange W)). option_map kept_of v)
+        at = ap (λ (v : Option (Exchange W)). option_map exchange_kept v)
             (sets_at id value old new changes);
-        others = λ i other. ap (λ (v : Option (Exchange W)). option_map kept_of v)
+        others = λ i other. ap (λ (v : Option (Exchange W)). option_map exchange_kept v)
             (sets_other id value old new changes i other);
       }
 
   -- What was lent is kept.
   pub found_kept : (id : ℕ) (old : List (ℕ × Exchange W)) (one : Exchange W)
-      → Some one ≡ value_at id old → kept_at id old ≡ Some (kept_of one)
+      → Some one ≡ value_at id old → exchange_at id old ≡ Some (exchange_kept one)
   found_kept id old one found =
-      ap (λ (v : Option (Exchange W)). option_map kept_of v) (sym found)
+      ap (λ (v : Option (Exchange W)). option_map exchange_kept v) (sym found)
 
   pub none_kept : (id : ℕ) (old : List (ℕ × Exchange W)) → None ≡ value_at id old
-      → kept_at id old ≡ None
-  none_kept id old found = ap (λ (v : Option (Exchange W)). option_map kept_of v) (sym found)
+      → exchange_at id old ≡ None
+  none_kept id old found = ap (λ (v : Option (Exchange W)). option_map exchange_kept v) (sym found)
 
   -- What was written through what was lent is kept there.
   pub written_kept : (id : ℕ) (old new : NumberEntries (Exchange W)) (one next : Exchange W)
       → Some one ≡ value_at id old.entries → WritesThrough id old next new
-      → SetsKept id (Some (kept_of next)) old.entries new.entries
+      → SetsKept id (Some (exchange_kept next)) old.entries new.entries
   written_kept id old new one next found writes =
       sets_kept id (Some next) old.entries new.entries (writes.changes (ap is_some (sym found)))
 
@@ -57,22 +57,22 @@ module _ {W : Type 0} where
 
   -- What is kept of an exchange that was found has its stage.
   pub stage_found : (id : ℕ) (entries : List (ℕ × Exchange W)) (one : Exchange W)
-      → Some one ≡ value_at id entries → (kept : Kept W) → kept_at id entries ≡ Some kept
+      → Some one ≡ value_at id entries → (kept : Kept W) → exchange_at id entries ≡ Some kept
       → kept.stage ≡ one.stage
   stage_found id entries one found kept was =
-      let same : Some kept ≡ Some (kept_of one) = sym was ∙ found_kept id entries one found in
-      let is : kept ≡ kept_of one = cc in
+      let same : Some kept ≡ Some (exchange_kept one) = sym was ∙ found_kept id entries one found in
+      let is : kept ≡ exchange_kept one = cc in
       ap (λ (k : Kept W). k.stage) is
 
   -- Where the map is the same, so is what is kept.
   pub same_map : (old new : NumberEntries (Exchange W)) → new ≡ old
       → SameKept old.entries new.entries
-  same_map old new is i = ap (λ (m : NumberEntries (Exchange W)). kept_at i m.entries) is
+  same_map old new is i = ap (λ (m : NumberEntries (Exchange W)). exchange_at i m.entries) is
 
   -- One that was written so that its handler may be asked again.
   pub written_awake : (id : ℕ) (old new : NumberEntries (Exchange W)) (one next : Exchange W)
       → Some one ≡ value_at id old.entries → WritesThrough id old next new
-      → kept_of next ≡ awake (kept_of one)
-      → SetsKept id (Some (awake (kept_of one))) old.entries new.entries
+      → exchange_kept next ≡ awake (exchange_kept one)
+      → SetsKept id (Some (awake (exchange_kept one))) old.entries new.entries
   written_awake id old new one next found writes is =
       rw (← is) (written_kept id old new one next found writes)

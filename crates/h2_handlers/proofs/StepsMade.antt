@@ -15,7 +15,8 @@ use Rattle.h2_ends.specs.Ends.{EndLog}
 use Rattle.h2_ends.specs.EndTakes.{end_with_log}
 use Rattle.h2_ends.specs.Represents.{EndAnswers, EndPumpsSome, EndReleases}
 use Rattle.h2_ends.specs.Represents.{EndRepresents}
-use Rattle.h2_handlers.specs.Exchanges.{Relations, Handling, IsSameHandling, Kept, kept_at, awake}
+use Rattle.h2_handlers.specs.Exchanges.{Relations, Handling, IsSameHandling, Kept, exchange_at}
+use Rattle.h2_handlers.specs.Exchanges.{awake}
 use Rattle.h2_handlers.specs.Exchanges.{SameKept, SetsKept}
 use Rattle.h2_handlers.specs.Giving.{GivesStage}
 use Rattle.h2_handlers.proofs.KeptMaps.{set_twice}
@@ -49,8 +50,8 @@ same h = record { handler = refl; kept = λ i. refl }
 -- A handler was not asked, since there is no such exchange.
 pub unasked_same : {H W : Type 0} (rel : Relations H W) {a : Handling H W} (mid : Handling H W)
     (id : ℕ) (room : List ℕ) (part : Result Part HandlerFault)
-    → ChangesAny (AskedPart rel room part) id a mid → kept_at id mid.entries ≡ None
-    → (kept_at id a.entries ≡ None) × IsSameHandling a mid
+    → ChangesAny (AskedPart rel room part) id a mid → exchange_at id mid.entries ≡ None
+    → (exchange_at id a.entries ≡ None) × IsSameHandling a mid
 unasked_same rel mid id room part (inl one_part) at =
     absurd (let no = sym at ∙ one_part.now.at in cc)
 unasked_same rel mid id room part (inr never) at = never
@@ -118,7 +119,7 @@ module _ {H W : Type 0} {rel : Relations H W} where
   -- An exchange has ended, if there was one, for a cause that is so.
   pub ended_handles : (one : End) {a b : Handling H W} (id : ℕ) (cause : Cause)
       (stage : Stage) → EndsAny rel id cause a b
-      → ((kept : Kept W) → kept_at id a.entries ≡ Some kept → kept.stage ≡ stage)
+      → ((kept : Kept W) → exchange_at id a.entries ≡ Some kept → kept.stage ≡ stage)
       → ((values : Values) (end : EndLog) → EndRepresents values one end
       → IsOverFor end id stage cause) → Handles rel one a one b
   ended_handles one id cause stage (inl over) at so values end is = (
@@ -156,7 +157,7 @@ module _ {H W : Type 0} {rel : Relations H W} where
 
   -- The next of an answer was given.
   pub gave_handles : {one two : End} {a b : Handling H W} (id : ℕ) (kept : Kept W)
-      (result : Result Stage Stop) (stage : Stage) → kept_at id a.entries ≡ Some kept
+      (result : Result Stage Stop) (stage : Stage) → exchange_at id a.entries ≡ Some kept
       → GivesStage one id kept.stage result two
       → (result ≡ Ok stage) ⊎ (stage ≡ stages.Given) → b.handler ≡ a.handler
       → SetsKept id (Some (record kept { stage = stage })) a.entries b.entries
@@ -181,7 +182,7 @@ module _ {H W : Type 0} {rel : Relations H W} where
   pub asked_handles : {one two : End} {a : Handling H W} (mid : Handling H W) {b : Handling H W}
       (id : ℕ) (room : List ℕ) (part : Result Part HandlerFault) (stage : Stage)
       (found : Kept W) → ChangesAny (AskedPart rel room part) id a mid
-      → EndSendsPart one id part room stage two → kept_at id mid.entries ≡ Some found
+      → EndSendsPart one id part room stage two → exchange_at id mid.entries ≡ Some found
       → b.handler ≡ mid.handler
       → SetsKept id (Some (record found { stage = stage })) mid.entries b.entries
       → Handles rel one a two b
@@ -217,7 +218,7 @@ module _ {H W : Type 0} {rel : Relations H W} where
 
   -- A handler may be asked again.
   pub woke_handles : (one : End) {a b : Handling H W} (id : ℕ) (kept : Kept W)
-      → kept_at id a.entries ≡ Some kept
+      → exchange_at id a.entries ≡ Some kept
       → SetsKept id (Some (awake kept)) a.entries b.entries → b.handler ≡ a.handler
       → Handles rel one a one b
   woke_handles one id kept was now handler values end is =

@@ -36,8 +36,8 @@ pub record Kept (W : Type 0) : Type 0 where
   pub whole : Bool
   pub stage : Stage
 
-abbrev pub kept_of : {W : Type 0} → Exchange W → Kept W
-kept_of exchange =
+abbrev pub exchange_kept : {W : Type 0} → Exchange W → Kept W
+exchange_kept exchange =
     record { work = exchange.work; whole = exchange.whole; stage = exchange.stage }
 
 -- what is kept of one whose handler may be asked again
@@ -45,18 +45,18 @@ abbrev pub awake : {W : Type 0} → Kept W → Kept W
 awake kept = record kept { stage = stage_awake kept.stage }
 
 -- what is kept of the exchange on a stream
-abbrev pub kept_at : {W : Type 0} → ℕ → List (ℕ × Exchange W) → Option (Kept W)
-kept_at id entries = option_map kept_of (value_at id entries)
+abbrev pub exchange_at : {W : Type 0} → ℕ → List (ℕ × Exchange W) → Option (Kept W)
+exchange_at id entries = option_map exchange_kept (value_at id entries)
 
 -- Of one stream this is kept now, or nothing; of each other what was kept before.
 pub record SetsKept {W : Type 0} (id : ℕ) (kept : Option (Kept W)) (old new : List (ℕ × Exchange W))
     : Type 0 where
-  pub at : kept_at id new ≡ kept
-  pub others : (i : ℕ) → i ≢ id → kept_at i new ≡ kept_at i old
+  pub at : exchange_at id new ≡ kept
+  pub others : (i : ℕ) → i ≢ id → exchange_at i new ≡ exchange_at i old
 
 -- Of each stream the same is kept.
 abbrev pub SameKept : {W : Type 0} → (old new : List (ℕ × Exchange W)) → Type 0
-SameKept old new = (i : ℕ) → kept_at i new ≡ kept_at i old
+SameKept old new = (i : ℕ) → exchange_at i new ≡ exchange_at i old
 
 -- what is kept of the exchanges of a connection, with its handler
 pub record Handling (H W : Type 0) : Type 0 where
@@ -74,4 +74,4 @@ pub record IsSameHandling {H W : Type 0} (old new : Handling H W) : Type 0 where
 
 -- No exchange is kept.
 abbrev pub IsEmptied : {H W : Type 0} → Handling H W → Type 0
-IsEmptied handling = (i : ℕ) → kept_at i handling.entries ≡ None
+IsEmptied handling = (i : ℕ) → exchange_at i handling.entries ≡ None

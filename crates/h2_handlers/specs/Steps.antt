@@ -20,7 +20,7 @@ use Rattle.h2_handlers.specs.declared.handler.HandlerFault.{HandlerFault}
 use Rattle.h2_handlers.specs.declared.handler.Part.{Part}
 use Rattle.h2_handlers.specs.declared.handler.Part.TheVariants as parts
 use Rattle.h2_handlers.specs.declared.stop.Stop.{Stop}
-use Rattle.h2_handlers.specs.Exchanges.{Relations, Kept, kept_at, SetsKept, Handling}
+use Rattle.h2_handlers.specs.Exchanges.{Relations, Kept, exchange_at, SetsKept, Handling}
 use Rattle.h2_handlers.specs.Exchanges.{IsSameHandling, awake}
 use Rattle.h2_handlers.specs.Giving.{GivesStageSo}
 use Rattle.h2_handlers.specs.Telling.{AskedPart, EndsOne, Tells}
@@ -85,7 +85,7 @@ pub record AsksOne {H W : Type 0} (rel : Relations H W) (id : ℕ) (end after : 
   pub stage : Stage
   pub room : List ℕ
   pub part : Result Part HandlerFault
-  pub was : kept_at id old.entries ≡ Some kept
+  pub was : exchange_at id old.entries ≡ Some kept
   pub asked : AskedPart rel room part old.handler new.handler kept next
   pub sends : SendsPart end id part room stage after
   pub now : SetsKept id (Some (record next { stage = stage })) old.entries new.entries
@@ -97,7 +97,7 @@ pub record GivesOne {H W : Type 0} (id : ℕ) (end after : EndLog) (old new : Ha
   pub kept : Kept W
   pub result : Result Stage Stop
   pub stage : Stage
-  pub was : kept_at id old.entries ≡ Some kept
+  pub was : exchange_at id old.entries ≡ Some kept
   pub gives : GivesStageSo end id kept.stage result after
   pub is : result ≡ Ok stage ⊎ (stage ≡ stages.Given)
   pub handler : new.handler ≡ old.handler
@@ -111,43 +111,43 @@ IsOverFor end id stage (causes.Reset code ours) = (stage ≡ stages.Gone code) �
 IsOverFor end id stage causes.Closed = Unit {0}
 
 -- One step of a server with its handler.
-pub data Step {H W : Type 0} (rel : Relations H W) (end : EndLog) (old : Handling H W)
+pub data HandledStep {H W : Type 0} (rel : Relations H W) (end : EndLog) (old : Handling H W)
     (after : EndLog) (new : Handling H W) : Type 0 where
   -- something was counted
-  notes : after ≡ end → IsSameHandling old new → Step rel end old after new
+  notes : after ≡ end → IsSameHandling old new → HandledStep rel end old after new
   -- octets were taken, and nothing was handed out
   takes : (piece : List ℕ) (answer : EndAnswer) → EndMayTake end piece answer after
-      → HandsNothing answer → IsSameHandling old new → Step rel end old after new
+      → HandsNothing answer → IsSameHandling old new → HandledStep rel end old after new
   -- octets were taken, and what was handed out was told
   tells : (piece : List ℕ) (count : ℕ) (handed : Handed)
       → EndMayTake end piece (EndTook count (Some handed)) after → Tells rel handed old new
-      → Step rel end old after new
+      → HandledStep rel end old after new
   -- the same, but there was no memory for it
   lacks_memory : (piece : List ℕ) (count : ℕ) (handed : Handed)
       → EndMayTake end piece (EndTook count (Some handed)) after → IsSameHandling old new
-      → Step rel end old after new
-  gives : (id : ℕ) → GivesOne id end after old new → Step rel end old after new
-  asks : (id : ℕ) → AsksOne rel id end after old new → Step rel end old after new
+      → HandledStep rel end old after new
+  gives : (id : ℕ) → GivesOne id end after old new → HandledStep rel end old after new
+  asks : (id : ℕ) → AsksOne rel id end after old new → HandledStep rel end old after new
   ends : (id : ℕ) (cause : Cause) (over : EndsOne rel id cause old new)
-      → IsOverFor end id over.kept.stage cause → after ≡ end → Step rel end old after new
+      → IsOverFor end id over.kept.stage cause → after ≡ end → HandledStep rel end old after new
   -- a handler that had no part may be asked again
-  wakes : (id : ℕ) (kept : Kept W) → kept_at id old.entries ≡ Some kept
+  wakes : (id : ℕ) (kept : Kept W) → exchange_at id old.entries ≡ Some kept
       → SetsKept id (Some (awake kept)) old.entries new.entries → new.handler ≡ old.handler
-      → after ≡ end → Step rel end old after new
+      → after ≡ end → HandledStep rel end old after new
   releases : (answer : Result (Unit {0}) EndRefusal) → MayReleaseAll end answer after
-      → IsSameHandling old new → Step rel end old after new
+      → IsSameHandling old new → HandledStep rel end old after new
   pumps : (most : ℕ) (answer : Result ℕ EndRefusal) → MayPumpSome most end answer after
-      → IsSameHandling old new → Step rel end old after new
+      → IsSameHandling old new → HandledStep rel end old after new
   -- a call that is the connection's own
   calls : (act : Act) (answer : Answer) → MayAnswer end.log act answer
       → after ≡ end_with_log end (with_call end.log act answer) → IsSameHandling old new
-      → Step rel end old after new
+      → HandledStep rel end old after new
 
 -- Steps, one after another.
 pub data Steps {H W : Type 0} (rel : Relations H W) (after : EndLog) (new : Handling H W)
     : (end : EndLog) → (old : Handling H W) → Type 0 where
   none : Steps rel after new after new
-  more : {end next : EndLog} {old mid : Handling H W} → Step rel end old next mid
+  more : {end next : EndLog} {old mid : Handling H W} → HandledStep rel end old next mid
       → Steps rel after new next mid → Steps rel after new end old
 
 -- Whatever has happened at the server, such steps were made, and the end represents what has

@@ -13,13 +13,13 @@ use Rattle.h2_handlers.specs.declared.handler.HandlerFault.{HandlerFault}
 use Rattle.h2_handlers.specs.declared.handler.HandlerFault.TheVariants.{Failed}
 use Rattle.h2_handlers.specs.declared.handler.Part.{Part}
 use Rattle.h2_handlers.specs.declared.handler.Reply.{Reply}
-use Rattle.h2_handlers.specs.Exchanges.{Relations, Kept, kept_at, SetsKept, Handling}
+use Rattle.h2_handlers.specs.Exchanges.{Relations, Kept, exchange_at, SetsKept, Handling}
 use Rattle.h2_handlers.specs.Exchanges.{IsSameHandling}
 use Rattle.h2_handlers.specs.Stages.{stage_after, bad_request}
 
 -- Whether the authority of a request names a user.
-abbrev pub has_user : List Field → Bool
-has_user list = names_user (value_or_nothing (codes ":authority") list)
+abbrev pub authority_names_user : List Field → Bool
+authority_names_user list = names_user (value_or_nothing (codes ":authority") list)
 
 -- what is kept of an exchange of which the handler was told nothing yet
 abbrev pub kept_new : {W : Type 0} → (whole : Bool) → Kept W
@@ -37,9 +37,9 @@ kept_begun kept (Err fault) = record kept { stage = stage_after kept.whole kept.
 abbrev pub ToldHead : {H W : Type 0} → Relations H W → List Field → (ends : Bool)
     → (old new : H) → (kept next : Kept W) → Type 0
 ToldHead {H} {W} rel list ends old new kept next =
-    ((has_user list ≡ true) × (new ≡ old)
+    ((authority_names_user list ≡ true) × (new ≡ old)
     × (next ≡ record kept { stage = stages.Fails bad_request }))
-    ⊎ ((has_user list ≡ false) × ((answer : Result (W × Reply) HandlerFault)
+    ⊎ ((authority_names_user list ≡ false) × ((answer : Result (W × Reply) HandlerFault)
     × rel.heads old list ends answer new × (next ≡ kept_begun kept answer)))
 
 -- what is kept after more of its request was told: with this work, and after this answer
@@ -90,7 +90,7 @@ pub record ChangesOne {H W : Type 0} (told : (old new : H) → (kept next : Kept
     (id : ℕ) (old new : Handling H W) : Type 0 where
   pub kept : Kept W
   pub next : Kept W
-  pub was : kept_at id old.entries ≡ Some kept
+  pub was : exchange_at id old.entries ≡ Some kept
   pub told_so : told old.handler new.handler kept next
   pub now : SetsKept id (Some next) old.entries new.entries
 
@@ -98,7 +98,7 @@ pub record ChangesOne {H W : Type 0} (told : (old new : H) → (kept next : Kept
 abbrev pub ChangesAny : {H W : Type 0} → (told : (old new : H) → (kept next : Kept W) → Type 0)
     → (id : ℕ) → (old new : Handling H W) → Type 0
 ChangesAny told id old new =
-    ChangesOne told id old new ⊎ ((kept_at id old.entries ≡ None) × IsSameHandling old new)
+    ChangesOne told id old new ⊎ ((exchange_at id old.entries ≡ None) × IsSameHandling old new)
 
 -- A handler has learned that an exchange is over, if it was told of it at all.
 abbrev pub LearnsOver : {H W : Type 0} → Relations H W → (old : H) → Option W → Cause → (new : H)
@@ -111,7 +111,7 @@ LearnsOver rel old (Some work) cause new = rel.ends old work cause new
 pub record EndsOne {H W : Type 0} (rel : Relations H W) (id : ℕ) (cause : Cause)
     (old new : Handling H W) : Type 0 where
   pub kept : Kept W
-  pub was : kept_at id old.entries ≡ Some kept
+  pub was : exchange_at id old.entries ≡ Some kept
   pub learns : LearnsOver rel old.handler kept.work cause new.handler
   pub gone : SetsKept id None old.entries new.entries
 
@@ -119,7 +119,7 @@ pub record EndsOne {H W : Type 0} (rel : Relations H W) (id : ℕ) (cause : Caus
 abbrev pub EndsAny : {H W : Type 0} → Relations H W → ℕ → Cause → (old new : Handling H W)
     → Type 0
 EndsAny rel id cause old new =
-    EndsOne rel id cause old new ⊎ ((kept_at id old.entries ≡ None) × IsSameHandling old new)
+    EndsOne rel id cause old new ⊎ ((exchange_at id old.entries ≡ None) × IsSameHandling old new)
 
 -- Exchanges end, one after another, since the connection is over.
 pub data EndsEach {H W : Type 0} (rel : Relations H W) (new : Handling H W)
@@ -134,7 +134,7 @@ pub data EndsEach {H W : Type 0} (rel : Relations H W) (new : Handling H W)
 pub record BeginsOne {H W : Type 0} (rel : Relations H W) (id : ℕ) (list : List Field)
     (ends : Bool) (old new : Handling H W) : Type 0 where
   pub next : Kept W
-  pub none : kept_at id old.entries ≡ None
+  pub none : exchange_at id old.entries ≡ None
   pub told_so : ToldHead rel list ends old.handler new.handler (kept_new ends) next
   pub now : SetsKept id (Some next) old.entries new.entries
 
@@ -142,7 +142,8 @@ pub record BeginsOne {H W : Type 0} (rel : Relations H W) (id : ℕ) (list : Lis
 abbrev pub BeginsAny : {H W : Type 0} → Relations H W → ℕ → List Field → (ends : Bool)
     → (old new : Handling H W) → Type 0
 BeginsAny rel id list ends old new =
-    BeginsOne rel id list ends old new ⊎ ((kept_at id old.entries ≢ None) × IsSameHandling old new)
+    BeginsOne rel id list ends old new
+    ⊎ ((exchange_at id old.entries ≢ None) × IsSameHandling old new)
 
 -- What was handed out was told to the handler: on its own stream, and nothing else. Of the rest of
 -- a request it isn't told where it keeps nothing of that exchange: it has failed at its head, or

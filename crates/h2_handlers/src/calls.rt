@@ -16,8 +16,9 @@ impl<W: Drop, H: Handler<Work = W>> Handled<H, W> {
     ///
     /// Those of [`Server::go_away`]. Nothing has changed.
     pub fn go_away(&mut self) -> Result<(), Refusal>
-        ensures { Handles (relations H.heads H.bodies H.trails H.gives H.ends) self.old.server.end (handling_of self.old.exchanges)
-            self.new.server.end (handling_of self.new.exchanges) }
+        ensures { Handles (relations H.heads H.bodies H.trails H.gives H.ends)
+            self.old.server.end (handling_of self.old.exchanges) self.new.server.end
+            (handling_of self.new.exchanges) }
     {
         self.server.go_away()
     }
@@ -25,8 +26,9 @@ impl<W: Drop, H: Handler<Work = W>> Handled<H, W> {
     /// Ends the connection with a code, where it is up, and all exchanges with
     /// [`Cause::Closed`](crate::Cause::Closed).
     pub fn fail(&mut self, code: Code)
-        ensures handles { Handles (relations H.heads H.bodies H.trails H.gives H.ends) self.old.server.end (handling_of self.old.exchanges)
-            self.new.server.end (handling_of self.new.exchanges) }
+        ensures handles { Handles (relations H.heads H.bodies H.trails H.gives H.ends)
+            self.old.server.end (handling_of self.old.exchanges) self.new.server.end
+            (handling_of self.new.exchanges) }
         ensures none { IsEmptied (handling_of self.new.exchanges) }
     {
         // It is refused only where the connection has failed before.
@@ -36,8 +38,9 @@ impl<W: Drop, H: Handler<Work = W>> Handled<H, W> {
 
     /// Ends all exchanges with [`Cause::Closed`](crate::Cause::Closed): the transport is gone.
     pub fn close(&mut self)
-        ensures handles { Handles (relations H.heads H.bodies H.trails H.gives H.ends) self.old.server.end (handling_of self.old.exchanges)
-            self.new.server.end (handling_of self.new.exchanges) }
+        ensures handles { Handles (relations H.heads H.bodies H.trails H.gives H.ends)
+            self.old.server.end (handling_of self.old.exchanges) self.new.server.end
+            (handling_of self.new.exchanges) }
         ensures none { IsEmptied (handling_of self.new.exchanges) }
     {
         self.exchanges.end_all();
@@ -51,8 +54,9 @@ impl<W: Drop, H: Handler<Work = W>> Handled<H, W> {
     ///
     /// [`Refusal::Memory`] where an allocation was refused. Nothing has changed.
     pub fn ready(&mut self) -> Result<(), Refusal>
-        ensures { Handles (relations H.heads H.bodies H.trails H.gives H.ends) self.old.server.end (handling_of self.old.exchanges)
-            self.new.server.end (handling_of self.new.exchanges) }
+        ensures { Handles (relations H.heads H.bodies H.trails H.gives H.ends)
+            self.old.server.end (handling_of self.old.exchanges) self.new.server.end
+            (handling_of self.new.exchanges) }
     {
         self.server.ready()
     }
@@ -66,8 +70,9 @@ impl<W: Drop, H: Handler<Work = W>> Handled<H, W> {
     ///
     /// [`Refusal::Memory`] where an allocation was refused. Nothing has changed.
     pub fn consume(&mut self, count: usize) -> Result<usize, Refusal>
-        ensures { Handles (relations H.heads H.bodies H.trails H.gives H.ends) self.old.server.end (handling_of self.old.exchanges)
-            self.new.server.end (handling_of self.new.exchanges) }
+        ensures { Handles (relations H.heads H.bodies H.trails H.gives H.ends)
+            self.old.server.end (handling_of self.old.exchanges) self.new.server.end
+            (handling_of self.new.exchanges) }
     {
         self.server.consume(count)
     }

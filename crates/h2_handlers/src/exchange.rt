@@ -1,8 +1,9 @@
 //! What is kept of one exchange, a request and its response.
 
 ghost use Rattle.std.specs.Prelude.{◌≡◌, None};
-ghost use Rattle.h2_handlers.specs.Exchanges.{awake, kept_of};
-ghost use Rattle.h2_handlers.specs.Stages.{second_answer, stage_after, stage_once_later, stage_reset};
+ghost use Rattle.h2_handlers.specs.Exchanges.{awake, exchange_kept};
+ghost use Rattle.h2_handlers.specs.Stages.{second_answer, stage_after, stage_once_later};
+ghost use Rattle.h2_handlers.specs.Stages.{stage_reset};
 ghost use Rattle.h2_handlers.specs.Stages.{stage_of_fault};
 
 use crate::handler::{HandlerFault, Reply};
@@ -67,7 +68,8 @@ pub(crate) struct Exchange<W> {
 impl<W> Exchange<W> {
     /// One whose answer was not given, and whose handler keeps nothing.
     pub(crate) fn new(whole: bool) -> Exchange<W>
-        ensures { kept_of result ≡ record { work = None; whole = whole; stage = Stage.Asked } }
+        ensures { exchange_kept result ≡
+            record { work = None; whole = whole; stage = Stage.Asked } }
     {
         Exchange {
             work: None,
@@ -81,7 +83,7 @@ impl<W> Exchange<W> {
 
     /// Lets the handler be asked again, where it had no part.
     pub(crate) fn wake(&mut self)
-        ensures { kept_of self.new ≡ awake (kept_of self.old) }
+        ensures { exchange_kept self.new ≡ awake (exchange_kept self.old) }
     {
         if matches!(&self.stage, Stage::Parts { .. }) {
             self.stage = Stage::Parts { later: false };
@@ -90,7 +92,7 @@ impl<W> Exchange<W> {
 
     /// Keeps what a handler has answered.
     pub(crate) fn take(&mut self, reply: Result<Reply, HandlerFault>)
-        ensures { kept_of self.new ≡ record (kept_of self.old) {
+        ensures { exchange_kept self.new ≡ record (exchange_kept self.old) {
           stage = stage_after self.old.whole self.old.stage reply;
         } }
     {

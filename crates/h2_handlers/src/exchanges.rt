@@ -3,11 +3,12 @@
 ghost use Rattle.std.specs.Prelude.{◌≡◌, [], Err, None, OnErr, OnOk, length};
 ghost use Rattle.h2_ends.specs.Loans.{event_handed};
 ghost use Rattle.h2_handlers.specs.declared.handler.HandlerFault.TheVariants.{Failed};
-ghost use Rattle.h2_handlers.specs.Exchanges.{IsEmptied, IsSameHandling, handling_of, kept_at};
-ghost use Rattle.h2_handlers.specs.Exchanges.{kept_of, relations};
+ghost use Rattle.h2_handlers.specs.Exchanges.{IsEmptied, IsSameHandling, handling_of, exchange_at};
+ghost use Rattle.h2_handlers.specs.Exchanges.{exchange_kept, relations};
 ghost use Rattle.h2_handlers.specs.Parts.{FitsPart};
 ghost use Rattle.h2_handlers.specs.Telling.{AskedPart, BeginsAny, ChangesAny, EndsAny, EndsEach};
-ghost use Rattle.h2_handlers.specs.Telling.{Tells, ToldBody, ToldHead, ToldTrailers, has_user};
+ghost use Rattle.h2_handlers.specs.Telling.{Tells, ToldBody, ToldHead, ToldTrailers};
+ghost use Rattle.h2_handlers.specs.Telling.{authority_names_user};
 
 use crate::exchange::{BAD_REQUEST, Exchange, Stage};
 use crate::handler::{Cause, Handler, HandlerFault, Part, Reply};
@@ -89,8 +90,8 @@ impl<W: Drop, H: Handler<Work = W>> Exchanges<H, W> {
     ///
     /// [`AllocError`] where an allocation was refused: the handler was told nothing.
     pub(crate) fn note(&mut self, event: EndEvent<&FieldList, &[u8]>) -> Result<Due, AllocError>
-        ensures ok { OnOk result (Tells (relations H.heads H.bodies H.trails H.gives H.ends) (event_handed event.entry) (handling_of self.old)
-            (handling_of self.new)) }
+        ensures ok { OnOk result (Tells (relations H.heads H.bodies H.trails H.gives H.ends)
+            (event_handed event.entry) (handling_of self.old) (handling_of self.new)) }
         ensures err { OnErr result (IsSameHandling (handling_of self.old) (handling_of self.new)) }
     {
         match event {
@@ -119,8 +120,8 @@ impl<W: Drop, H: Handler<Work = W>> Exchanges<H, W> {
 
     /// Begins an exchange with the head of a request.
     fn begin(&mut self, id: u32, list: &FieldList, end: bool) -> Result<(), AllocError>
-        ensures ok { OnOk result (BeginsAny (relations H.heads H.bodies H.trails H.gives H.ends) id list.now end (handling_of self.old)
-            (handling_of self.new)) }
+        ensures ok { OnOk result (BeginsAny (relations H.heads H.bodies H.trails H.gives H.ends) id
+            list.now end (handling_of self.old) (handling_of self.new)) }
         ensures err { OnErr result (IsSameHandling (handling_of self.old) (handling_of self.new)) }
     {
         if self.kept.get(id).is_some() {
@@ -140,7 +141,8 @@ impl<W: Drop, H: Handler<Work = W>> Exchanges<H, W> {
 
     /// Tells octets of a body. Those of a request whose handler has none of it are dropped.
     fn add(&mut self, id: u32, bytes: &[u8], end: bool)
-        ensures { ChangesAny (ToldBody (relations H.heads H.bodies H.trails H.gives H.ends) bytes.now end) id (handling_of self.old)
+        ensures { ChangesAny (ToldBody (relations H.heads H.bodies H.trails H.gives H.ends)
+            bytes.now end) id (handling_of self.old)
             (handling_of self.new) }
     {
         self.totals.body = self.totals.body.saturating_add(bytes.len() as u64);
@@ -153,7 +155,8 @@ impl<W: Drop, H: Handler<Work = W>> Exchanges<H, W> {
 
     /// Tells trailers.
     fn trail(&mut self, id: u32, list: &FieldList)
-        ensures { ChangesAny (ToldTrailers (relations H.heads H.bodies H.trails H.gives H.ends) list.now) id (handling_of self.old)
+        ensures { ChangesAny (ToldTrailers (relations H.heads H.bodies H.trails H.gives H.ends)
+            list.now) id (handling_of self.old)
             (handling_of self.new) }
     {
         if let Some(exchange) = self.kept.get_mut(id) {
@@ -165,9 +168,10 @@ impl<W: Drop, H: Handler<Work = W>> Exchanges<H, W> {
 
     /// Asks the handler for a part of a response, for which there is so much room.
     pub(crate) fn part(&mut self, id: u32, room: &mut [u8]) -> Result<Part, HandlerFault>
-        ensures asks { ChangesAny (AskedPart (relations H.heads H.bodies H.trails H.gives H.ends) room.new result) id (handling_of self.old)
+        ensures asks { ChangesAny (AskedPart (relations H.heads H.bodies H.trails H.gives H.ends)
+            room.new result) id (handling_of self.old)
             (handling_of self.new) }
-        ensures none { kept_at id self.old.kept.entries ≡ None → result ≡ Err Failed }
+        ensures none { exchange_at id self.old.kept.entries ≡ None → result ≡ Err Failed }
         ensures length { length room.new ≡ length room.old }
         ensures fits { FitsPart (length room.old) result }
     {
@@ -181,7 +185,8 @@ impl<W: Drop, H: Handler<Work = W>> Exchanges<H, W> {
 
     /// Ends an exchange, if there is one.
     pub(crate) fn end(&mut self, id: u32, cause: Cause)
-        ensures { EndsAny (relations H.heads H.bodies H.trails H.gives H.ends) id cause (handling_of self.old) (handling_of self.new) }
+        ensures { EndsAny (relations H.heads H.bodies H.trails H.gives H.ends)
+            id cause (handling_of self.old) (handling_of self.new) }
     {
         let Some(exchange) = self.kept.get_mut(id) else {
             return;
@@ -196,7 +201,8 @@ impl<W: Drop, H: Handler<Work = W>> Exchanges<H, W> {
 
     /// Ends all exchanges, since the connection is over.
     pub(crate) fn end_all(&mut self)
-        ensures ends { EndsEach (relations H.heads H.bodies H.trails H.gives H.ends) (handling_of self.new)
+        ensures ends { EndsEach (relations H.heads H.bodies H.trails H.gives H.ends)
+            (handling_of self.new)
             (handling_of self.old) }
         ensures none { IsEmptied (handling_of self.new) }
     {
@@ -212,7 +218,7 @@ impl<W: Drop, H: Handler<Work = W>> Exchanges<H, W> {
 impl Totals {
     /// Counts anew what the handler holds of an exchange, and has not used.
     fn count<W: Drop, H: Handler<Work = W>>(&mut self, handler: &H, exchange: &mut Exchange<W>)
-        ensures { kept_of exchange.new ≡ kept_of exchange.old }
+        ensures { exchange_kept exchange.new ≡ exchange_kept exchange.old }
     {
         let (held, unused) = match &exchange.work {
             Some(work) => (handler.held(work), handler.unused(work)),
@@ -243,8 +249,8 @@ impl Totals {
 
 /// Whether the authority of a request names a user.
 #[tactic(auto, unfolding(h2_message::specs::Fields::value_or_nothing, h2_message::specs::Fields::or_nothing))]
-fn has_user(list: &FieldList) -> bool
-    ensures { result ≡ has_user list.now }
+fn authority_names_user(list: &FieldList) -> bool
+    ensures { result ≡ authority_names_user list.now }
 {
     match list.value(b":authority") {
         Some(value) => names_user(value),
@@ -252,6 +258,7 @@ fn has_user(list: &FieldList) -> bool
     }
 }
 
+// rule: handlers (own) An authority that names a user is a 400 of which no handler is told
 /// Tells the head of a request, unless its authority names a user.
 fn tell_head<W: Drop, H: Handler<Work = W>>(
     alloc: Global,
@@ -260,10 +267,11 @@ fn tell_head<W: Drop, H: Handler<Work = W>>(
     list: &FieldList,
     end: bool,
 )
-    ensures { ToldHead (relations H.heads H.bodies H.trails H.gives H.ends) list.now end handler.old handler.new (kept_of exchange.old)
-        (kept_of exchange.new) }
+    ensures { ToldHead (relations H.heads H.bodies H.trails H.gives H.ends)
+        list.now end handler.old handler.new (exchange_kept exchange.old)
+        (exchange_kept exchange.new) }
 {
-    if has_user(list) {
+    if authority_names_user(list) {
         exchange.stage = Stage::Fails {
             status: BAD_REQUEST,
         };
@@ -286,8 +294,9 @@ fn tell_body<W: Drop, H: Handler<Work = W>>(
     octets: &[u8],
     end: bool,
 )
-    ensures { ToldBody (relations H.heads H.bodies H.trails H.gives H.ends) octets.now end handler.old handler.new (kept_of exchange.old)
-        (kept_of exchange.new) }
+    ensures { ToldBody (relations H.heads H.bodies H.trails H.gives H.ends)
+        octets.now end handler.old handler.new (exchange_kept exchange.old)
+        (exchange_kept exchange.new) }
 {
     exchange.whole = end || exchange.whole;
     let Some(work) = &mut exchange.work else {
@@ -304,8 +313,9 @@ fn tell_trailers<W: Drop, H: Handler<Work = W>>(
     exchange: &mut Exchange<W>,
     list: &FieldList,
 )
-    ensures { ToldTrailers (relations H.heads H.bodies H.trails H.gives H.ends) list.now handler.old handler.new (kept_of exchange.old)
-        (kept_of exchange.new) }
+    ensures { ToldTrailers (relations H.heads H.bodies H.trails H.gives H.ends)
+        list.now handler.old handler.new (exchange_kept exchange.old)
+        (exchange_kept exchange.new) }
 {
     exchange.whole = true;
     let Some(work) = &mut exchange.work else {
@@ -322,8 +332,9 @@ fn ask_part<W: Drop, H: Handler<Work = W>>(
     exchange: &mut Exchange<W>,
     room: &mut [u8],
 ) -> Result<Part, HandlerFault>
-    ensures asks { AskedPart (relations H.heads H.bodies H.trails H.gives H.ends) room.new result handler.old handler.new (kept_of exchange.old)
-        (kept_of exchange.new) }
+    ensures asks { AskedPart (relations H.heads H.bodies H.trails H.gives H.ends)
+        room.new result handler.old handler.new (exchange_kept exchange.old)
+        (exchange_kept exchange.new) }
     ensures length { length room.new ≡ length room.old }
     ensures fits { FitsPart (length room.old) result }
 {

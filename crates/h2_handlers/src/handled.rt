@@ -72,6 +72,12 @@ impl<W: Drop, H: Handler<Work = W>> Handled<H, W> {
         self.server.conn()
     }
 
+    // contract: handlers (own) A handler is told of each stream what was handed out of it, in order
+    // contract: handlers (own) What is given as an answer is what its handler gave
+    // contract: handlers (own) Of each exchange a handler learns once that it is over, and why
+    // contract: handlers (own) A fault of a handler is status 500, or a reset once a head went
+    // contract: handlers (own) An answer that breaks a rule is a reset with code 2
+    // contract: handlers (own) An authority that names a user is a 400 of which no handler is told
     /// Takes octets of a piece, tells the handler what is handed out, and gives its answers to the
     /// server: all of them, or those before the output was full, or `most` parts of requests were
     /// told. Answers how many were used.
@@ -80,8 +86,9 @@ impl<W: Drop, H: Handler<Work = W>> Handled<H, W> {
     ///
     /// [`Stop`] says why the connection can't go on.
     pub fn take_some(&mut self, piece: &[u8], most: usize) -> Result<usize, Stop>
-        ensures handles { Handles (relations H.heads H.bodies H.trails H.gives H.ends) self.old.server.end (handling_of self.old.exchanges)
-            self.new.server.end (handling_of self.new.exchanges) }
+        ensures handles { Handles (relations H.heads H.bodies H.trails H.gives H.ends)
+            self.old.server.end (handling_of self.old.exchanges) self.new.server.end
+            (handling_of self.new.exchanges) }
         ensures within { IfOk result (λ used. used ≤ length piece.now) }
     {
         let mut used = 0usize;
@@ -118,8 +125,9 @@ impl<W: Drop, H: Handler<Work = W>> Handled<H, W> {
     // rule: handlers (own) A handler is told of each stream what was handed out of it, in order
     /// Hands octets to `take` once, and tells the handler what is handed out.
     fn hear(&mut self, piece: &[u8]) -> Result<Heard, Stop>
-        ensures handles { Handles (relations H.heads H.bodies H.trails H.gives H.ends) self.old.server.end (handling_of self.old.exchanges)
-            self.new.server.end (handling_of self.new.exchanges) }
+        ensures handles { Handles (relations H.heads H.bodies H.trails H.gives H.ends)
+            self.old.server.end (handling_of self.old.exchanges) self.new.server.end
+            (handling_of self.new.exchanges) }
         ensures within { IfOk result (λ heard. heard.used ≤ length piece.now) }
     {
         let taken = match self.server.take(piece) {
@@ -138,8 +146,9 @@ impl<W: Drop, H: Handler<Work = W>> Handled<H, W> {
     /// exchange where its stream is over. An answer that breaks a rule is followed by the reset at
     /// once.
     pub(crate) fn answer(&mut self, id: u32) -> Result<(), Stop>
-        ensures { Handles (relations H.heads H.bodies H.trails H.gives H.ends) self.old.server.end (handling_of self.old.exchanges)
-            self.new.server.end (handling_of self.new.exchanges) }
+        ensures { Handles (relations H.heads H.bodies H.trails H.gives H.ends)
+            self.old.server.end (handling_of self.old.exchanges) self.new.server.end
+            (handling_of self.new.exchanges) }
     {
         self.more = true;
         self.give_next(id)?;
@@ -150,8 +159,9 @@ impl<W: Drop, H: Handler<Work = W>> Handled<H, W> {
 
     /// Gives the reset that waits on a stream, if one does.
     fn give_reset(&mut self, id: u32) -> Result<(), Stop>
-        ensures { Handles (relations H.heads H.bodies H.trails H.gives H.ends) self.old.server.end
-            (handling_of self.old.exchanges) self.new.server.end (handling_of self.new.exchanges) }
+        ensures { Handles (relations H.heads H.bodies H.trails H.gives H.ends)
+            self.old.server.end (handling_of self.old.exchanges) self.new.server.end
+            (handling_of self.new.exchanges) }
     {
         if !self.is_resetting(id) {
             return Ok(());
@@ -162,8 +172,9 @@ impl<W: Drop, H: Handler<Work = W>> Handled<H, W> {
     // rule: handlers (own) What is given as an answer is what its handler gave
     /// Gives the next of the answer of an exchange to the server, by one call of it.
     fn give_next(&mut self, id: u32) -> Result<(), Stop>
-        ensures { Handles (relations H.heads H.bodies H.trails H.gives H.ends) self.old.server.end (handling_of self.old.exchanges)
-            self.new.server.end (handling_of self.new.exchanges) }
+        ensures { Handles (relations H.heads H.bodies H.trails H.gives H.ends)
+            self.old.server.end (handling_of self.old.exchanges) self.new.server.end
+            (handling_of self.new.exchanges) }
     {
         let Some(exchange) = self.exchanges.kept.get_mut(id) else {
             return Ok(());
@@ -184,8 +195,9 @@ impl<W: Drop, H: Handler<Work = W>> Handled<H, W> {
     // rule: handlers (own) Of each exchange a handler learns once that it is over, and why
     /// Ends an exchange whose answer went whole and whose stream is over, or which was reset.
     pub(crate) fn end_if_over(&mut self, id: u32)
-        ensures { Handles (relations H.heads H.bodies H.trails H.gives H.ends) self.old.server.end (handling_of self.old.exchanges)
-            self.new.server.end (handling_of self.new.exchanges) }
+        ensures { Handles (relations H.heads H.bodies H.trails H.gives H.ends)
+            self.old.server.end (handling_of self.old.exchanges) self.new.server.end
+            (handling_of self.new.exchanges) }
     {
         let Some(exchange) = self.exchanges.kept.get(id) else {
             return;

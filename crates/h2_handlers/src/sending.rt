@@ -23,8 +23,9 @@ impl<W: Drop, H: Handler<Work = W>> Handled<H, W> {
     ///
     /// [`Stop`] says why the connection can't go on.
     pub fn send_some(&mut self, room: &mut [u8]) -> Result<(), Stop>
-        ensures handles { Handles (relations H.heads H.bodies H.trails H.gives H.ends) self.old.server.end (handling_of self.old.exchanges)
-            self.new.server.end (handling_of self.new.exchanges) }
+        ensures handles { Handles (relations H.heads H.bodies H.trails H.gives H.ends)
+            self.old.server.end (handling_of self.old.exchanges) self.new.server.end
+            (handling_of self.new.exchanges) }
         ensures room { length room.new ≡ length room.old }
     {
         if let Some(code) = self.server.conn().failed() {
@@ -40,8 +41,9 @@ impl<W: Drop, H: Handler<Work = W>> Handled<H, W> {
 
     /// Gives credit back: all that is owed, but what the handler has not used.
     fn release(&mut self) -> Result<(), Stop>
-        ensures { Handles (relations H.heads H.bodies H.trails H.gives H.ends) self.old.server.end (handling_of self.old.exchanges)
-            self.new.server.end (handling_of self.new.exchanges) }
+        ensures { Handles (relations H.heads H.bodies H.trails H.gives H.ends)
+            self.old.server.end (handling_of self.old.exchanges) self.new.server.end
+            (handling_of self.new.exchanges) }
     {
         if self.exchanges.totals.unused == 0 {
             return self.release_all();
@@ -56,8 +58,9 @@ impl<W: Drop, H: Handler<Work = W>> Handled<H, W> {
 
     /// Gives all that is owed back.
     fn release_all(&mut self) -> Result<(), Stop>
-        ensures { Handles (relations H.heads H.bodies H.trails H.gives H.ends) self.old.server.end (handling_of self.old.exchanges)
-            self.new.server.end (handling_of self.new.exchanges) }
+        ensures { Handles (relations H.heads H.bodies H.trails H.gives H.ends)
+            self.old.server.end (handling_of self.old.exchanges) self.new.server.end
+            (handling_of self.new.exchanges) }
     {
         let released = self.server.release_all();
         unless_full(&self.server, released)
@@ -65,8 +68,9 @@ impl<W: Drop, H: Handler<Work = W>> Handled<H, W> {
 
     /// Gives back what is owed on a stream, but for what its handler has not used.
     fn release_used(&mut self, id: u32) -> Result<(), Stop>
-        ensures { Handles (relations H.heads H.bodies H.trails H.gives H.ends) self.old.server.end (handling_of self.old.exchanges)
-            self.new.server.end (handling_of self.new.exchanges) }
+        ensures { Handles (relations H.heads H.bodies H.trails H.gives H.ends)
+            self.old.server.end (handling_of self.old.exchanges) self.new.server.end
+            (handling_of self.new.exchanges) }
     {
         let unused = match self.exchanges.kept.get(id) {
             Some(exchange) => exchange.unused,
@@ -82,8 +86,9 @@ impl<W: Drop, H: Handler<Work = W>> Handled<H, W> {
 
     /// Gives the answers that have waited until the output wasn't full, streams in rising order.
     fn give_waiting(&mut self) -> Result<(), Stop>
-        ensures { Handles (relations H.heads H.bodies H.trails H.gives H.ends) self.old.server.end (handling_of self.old.exchanges)
-            self.new.server.end (handling_of self.new.exchanges) }
+        ensures { Handles (relations H.heads H.bodies H.trails H.gives H.ends)
+            self.old.server.end (handling_of self.old.exchanges) self.new.server.end
+            (handling_of self.new.exchanges) }
     {
         let mut above = 0u32;
         while let Some(id) = self.exchanges.kept.next_above(above) {
@@ -149,8 +154,9 @@ impl<W: Drop, H: Handler<Work = W>> Handled<H, W> {
 
     /// Asks the handler for one part of one response, if there is one that may send.
     fn ask(&mut self, room: &mut [u8]) -> Result<(), Stop>
-        ensures handles { Handles (relations H.heads H.bodies H.trails H.gives H.ends) self.old.server.end (handling_of self.old.exchanges)
-            self.new.server.end (handling_of self.new.exchanges) }
+        ensures handles { Handles (relations H.heads H.bodies H.trails H.gives H.ends)
+            self.old.server.end (handling_of self.old.exchanges) self.new.server.end
+            (handling_of self.new.exchanges) }
         ensures room { length room.new ≡ length room.old }
     {
         let Some((id, most)) = self.next_asked() else {
@@ -165,8 +171,9 @@ impl<W: Drop, H: Handler<Work = W>> Handled<H, W> {
     // rule: handlers (own) What is given as an answer is what its handler gave
     /// Asks the handler for a part of the response on a stream, and sends it.
     fn ask_on(&mut self, id: u32, room: &mut [u8]) -> Result<(), Stop>
-        ensures handles { Handles (relations H.heads H.bodies H.trails H.gives H.ends) self.old.server.end (handling_of self.old.exchanges)
-            self.new.server.end (handling_of self.new.exchanges) }
+        ensures handles { Handles (relations H.heads H.bodies H.trails H.gives H.ends)
+            self.old.server.end (handling_of self.old.exchanges) self.new.server.end
+            (handling_of self.new.exchanges) }
         ensures room { length room.new ≡ length room.old }
     {
         let part = self.exchanges.part(id, room);
@@ -179,8 +186,9 @@ impl<W: Drop, H: Handler<Work = W>> Handled<H, W> {
 
     /// Sends a share of each body that was given whole.
     fn pump(&mut self) -> Result<(), Stop>
-        ensures { Handles (relations H.heads H.bodies H.trails H.gives H.ends) self.old.server.end (handling_of self.old.exchanges)
-            self.new.server.end (handling_of self.new.exchanges) }
+        ensures { Handles (relations H.heads H.bodies H.trails H.gives H.ends)
+            self.old.server.end (handling_of self.old.exchanges) self.new.server.end
+            (handling_of self.new.exchanges) }
     {
         if !self.more {
             return Ok(());
@@ -197,8 +205,9 @@ impl<W: Drop, H: Handler<Work = W>> Handled<H, W> {
 
     /// Ends the exchanges whose answers were sent whole, and whose requests have come whole.
     fn settle(&mut self)
-        ensures { Handles (relations H.heads H.bodies H.trails H.gives H.ends) self.old.server.end (handling_of self.old.exchanges)
-            self.new.server.end (handling_of self.new.exchanges) }
+        ensures { Handles (relations H.heads H.bodies H.trails H.gives H.ends)
+            self.old.server.end (handling_of self.old.exchanges) self.new.server.end
+            (handling_of self.new.exchanges) }
     {
         let mut above = 0u32;
         while let Some(id) = self.exchanges.kept.next_above(above) {
@@ -209,8 +218,9 @@ impl<W: Drop, H: Handler<Work = W>> Handled<H, W> {
 
     /// Lets a handler be asked again that had no part.
     pub fn ask_again(&mut self)
-        ensures { Handles (relations H.heads H.bodies H.trails H.gives H.ends) self.old.server.end (handling_of self.old.exchanges)
-            self.new.server.end (handling_of self.new.exchanges) }
+        ensures { Handles (relations H.heads H.bodies H.trails H.gives H.ends)
+            self.old.server.end (handling_of self.old.exchanges) self.new.server.end
+            (handling_of self.new.exchanges) }
     {
         let mut above = 0u32;
         while let Some(id) = self.exchanges.kept.next_above(above) {
@@ -221,8 +231,9 @@ impl<W: Drop, H: Handler<Work = W>> Handled<H, W> {
 
     /// Lets the handler of one exchange be asked again.
     fn wake(&mut self, id: u32)
-        ensures { Handles (relations H.heads H.bodies H.trails H.gives H.ends) self.old.server.end (handling_of self.old.exchanges)
-            self.new.server.end (handling_of self.new.exchanges) }
+        ensures { Handles (relations H.heads H.bodies H.trails H.gives H.ends)
+            self.old.server.end (handling_of self.old.exchanges) self.new.server.end
+            (handling_of self.new.exchanges) }
     {
         if let Some(exchange) = self.exchanges.kept.get_mut(id) {
             exchange.wake();

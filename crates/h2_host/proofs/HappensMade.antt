@@ -49,8 +49,7 @@ step_stays steps old new token move step other (party, at) =
           let place = eqb-true other.place token.place here in
           let slot = one_slot old other.place at.slot step.at.slot at.at
           (ap (slot_at old) place ∙ step.at.at) in
-          let generation = sym at.generation ∙ ap (λ s. s.generation) slot ∙ step.at.generation in
-          (
+          let generation = sym at.generation ∙ ap (λ s. s.generation) slot ∙ step.at.generation in (
             step.after,
             record {
               slot = step.is.slot;
@@ -60,14 +59,14 @@ step_stays steps old new token move step other (party, at) =
             },
           )
       | inr there ↦ (
-          party,
-          record {
-            slot = at.slot;
-            at = step.others other.place (eqb-false other.place token.place there) ∙ at.at;
-            generation = at.generation;
-            taken = at.taken;
-          },
-        )
+        party,
+        record {
+          slot = at.slot;
+          at = step.others other.place (eqb-false other.place token.place there) ∙ at.at;
+          generation = at.generation;
+          taken = at.taken;
+        },
+      )
     ]
 
 -- No moves were made.

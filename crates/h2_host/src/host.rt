@@ -157,6 +157,7 @@ impl<P: Party> Host<P> {
     }
 
     // contract: hosts (own) Who holds most is refused until all hold what they may
+    // contract: hosts (own) Each connection sees each time that passes, once
     /// Makes a step. The octets are those that came, where that is the step.
     pub fn step(&mut self, step: Step<P>, octets: &[u8]) -> Reply<P>
         ensures answers { AnswersStep P.steps P.held_of P.ready_of self.old self.new step octets.now

@@ -176,6 +176,7 @@ fn time_passes(alloc: Global) -> Option<bool> {
     Some(passed && seen && own && matches!(refused, Reply::Own(Answer::Over)) && !host.is_empty())
 }
 
+// rule (best): hosts (own) Each connection sees each time that passes, once
 #[test]
 fn all_see_the_time(rt: HostRuntime) {
     assert!(rt; time_passes(rt.alloc()) == Some(true));

@@ -1,5 +1,5 @@
 use Rattle.std.proofs.Common.{refl, ◌∙◌}
-use Rattle.h2_handlers.specs.Exchanges.{handling_of, kept_of, relations}
+use Rattle.h2_handlers.specs.Exchanges.{handling_of, exchange_kept, relations}
 use Rattle.h2_handlers.proofs.KeptMaps.{found_kept, none_kept, same_map, written_kept}
 use Rattle.h2_handlers.proofs.StepsMade.{asked_handles, unasked_handles, unasked_same}
 use Rattle.h2_handlers.proofs.handled.Handled.ask_on.Goals as goal
@@ -9,7 +9,7 @@ returns-in-Some-clause-handles g c =
     let one = c.in-Some.exchange.now in
     let next = record one { stage = c.send_part-result.result.1 } in
     asked_handles (handling_of c.part-part.new.self) c.args.id c.part-part.new.room
-    c.part-part.result c.send_part-result.result.1 (kept_of one) c.part-part.ensures.asks
+    c.part-part.result c.send_part-result.result.1 (exchange_kept one) c.part-part.ensures.asks
     c.send_part-result.ensures
     (found_kept c.args.id c.part-part.new.self.kept.entries one c.in-Some.ensures.value) refl
     (written_kept c.args.id c.part-part.new.self.kept _ one next c.in-Some.ensures.value

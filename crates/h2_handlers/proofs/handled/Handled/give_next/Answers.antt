@@ -1,5 +1,5 @@
 use Rattle.std.proofs.Common.{inl, inr, refl}
-use Rattle.h2_handlers.specs.Exchanges.{kept_of}
+use Rattle.h2_handlers.specs.Exchanges.{exchange_kept}
 use Rattle.h2_handlers.proofs.KeptMaps.{found_kept, same_map, written_kept}
 use Rattle.h2_handlers.proofs.StepsMade.{gave_handles, noted_handles}
 use Rattle.h2_handlers.proofs.handled.Handled.give_next.Goals as goal
@@ -15,7 +15,7 @@ pub returns-in_err-exchange : goal.returns-in_err-exchange
 returns-in_err-exchange g c =
     let one = c.in-Some.exchange.now in
     let next = record one { stage = c.replace-stage.new.dest } in
-    gave_handles c.args.id (kept_of one) c.give.result c.replace-stage.new.dest
+    gave_handles c.args.id (exchange_kept one) c.give.result c.replace-stage.new.dest
     (found_kept c.args.id c.args.self.now.exchanges.kept.entries one c.in-Some.ensures.value)
     (rw c.replace-stage.ensures.value at c.give.ensures) (inr c.replace-stage.ensures.after) refl
     (written_kept c.args.id c.args.self.now.exchanges.kept _ one next c.in-Some.ensures.value
@@ -25,7 +25,7 @@ pub returns : goal.returns
 returns g c =
     let one = c.in-Some.exchange.now in
     let next = record one { stage = c.in_ok-exchange.field-0 } in
-    gave_handles c.args.id (kept_of one) c.give.result c.in_ok-exchange.field-0
+    gave_handles c.args.id (exchange_kept one) c.give.result c.in_ok-exchange.field-0
     (found_kept c.args.id c.args.self.now.exchanges.kept.entries one c.in-Some.ensures.value)
     (rw c.replace-stage.ensures.value at c.give.ensures) (inl c.in_ok-exchange.was) refl
     (written_kept c.args.id c.args.self.now.exchanges.kept _ one next c.in-Some.ensures.value

@@ -1,5 +1,5 @@
 use Rattle.std.proofs.Common.{refl}
-use Rattle.h2_handlers.specs.Exchanges.{kept_of}
+use Rattle.h2_handlers.specs.Exchanges.{exchange_kept}
 use Rattle.h2_handlers.proofs.KeptMaps.{found_kept, same_map, written_awake}
 use Rattle.h2_handlers.proofs.StepsMade.{noted_handles, woke_handles}
 use Rattle.h2_handlers.proofs.handled.Handled.wake.Goals as goal
@@ -8,7 +8,7 @@ pub returns-in-Some : goal.returns-in-Some
 returns-in-Some g c =
     let one = c.in-Some.exchange.now in
     let next = c.wake.new.self in
-    woke_handles c.args.self.now.server.end c.args.id (kept_of one)
+    woke_handles c.args.self.now.server.end c.args.id (exchange_kept one)
     (found_kept c.args.id c.args.self.now.exchanges.kept.entries one c.in-Some.ensures.value)
     (written_awake c.args.id c.args.self.now.exchanges.kept _ one next c.in-Some.ensures.value
     (c.get_mut.follows.holds next) c.wake.ensures) refl
