@@ -64,6 +64,7 @@ API = {
     "h2_files::Method::of": FILES,
     "h2_files::file_names": FILES,
     "h2_files::media_type": FILES,
+    "h2_fetch::PartFetch::new": "the program keeps a response until it is whole; for users that take it as it comes",
     "h2_flow::Config::with_max_frame": "a program with larger frames configures its ends so",
     "h2_flow::StreamState::closed": "an end asks for both sides at once",
     "h2_flow::StreamState::end_in": "an end sets the side with the rest of its stream",

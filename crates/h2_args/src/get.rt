@@ -127,11 +127,11 @@ names one; a user's name is refused, and a fragment is dropped.
 
 Fields are sent in the order of the words, after those that name the method and
 the URL. No other is added, so no content-length: the end of the stream ends the
-body. A field host is refused, since the URL names the host. One space right
-after the colon is no part of the value; any other blank at its ends is refused.
-With --include an octet of a field that is no printable ASCII, or a backslash,
-is printed as `\x00`, so that a server writes nothing to the terminal by its
-fields. Trailers stand after the body and a line end.
+body. A field host is refused, since the URL names the host. Spaces and tabs at
+the ends of a value are no part of it. With --include an octet of a field that
+is no printable ASCII, or a backslash, is printed as `\x00`, so that a server
+writes nothing to the terminal by its fields. Trailers stand after the body and
+a line end.
 
 Exit status (the lines in backquotes are on standard error):
   0  a response has come, whatever its status without --fail

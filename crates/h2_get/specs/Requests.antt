@@ -1,5 +1,6 @@
 -- The request that the words after `get` ask for.
-use Rattle.std.specs.Prelude.{◌≡◌, ℕ, ◌==◌, Bool, true, false, List, [], ◌∷◌, ◌++◌, map, position}
+use Rattle.std.specs.Prelude.{◌≡◌, ℕ, ◌==◌, ◌||◌, Bool, true, false, List, [], ◌∷◌, ◌++◌, map}
+use Rattle.std.specs.Prelude.{position, reverse}
 use Rattle.std.specs.Prelude.{codes, unwrap_or, is_some, Option, Some, None, if◌then◌else◌}
 use Rattle.std.specs.List.{list_all, list_any, before_first, after_first}
 use Rattle.std.specs.Str.{bytes_eq}
@@ -21,18 +22,27 @@ is_colon octet = octet == 58
 abbrev pub has_colon : (word : List ℕ) → Bool
 has_colon word = is_some (position is_colon word)
 
--- octets without the space that they begin with, if they do
+-- whether an octet is a space or a tab
+abbrev pub is_outer_blank : ℕ → Bool
+is_outer_blank octet = octet == 32 || octet == 9
+
+-- octets without the blanks that they begin with
+abbrev pub skip_blanks : List ℕ → List ℕ
+skip_blanks [] = []
+skip_blanks (octet ∷ octets) = if is_outer_blank octet then skip_blanks octets else octet ∷ octets
+
+-- octets without the blanks at both ends: white space there is no part of a value (RFC 9110,
+-- section 5.5)
 -- rule: engines (own) The words of get make its request and say what is printed
-abbrev pub without_space : List ℕ → List ℕ
-without_space [] = []
-without_space (octet ∷ octets) = if octet == 32 then octets else octet ∷ octets
+abbrev pub without_outer_blanks : List ℕ → List ℕ
+without_outer_blanks octets = reverse (skip_blanks (reverse (skip_blanks octets)))
 
 -- The field of a word NAME:VALUE: its name is what precedes the first colon, in lower case
--- (RFC 9113, section 8.2.1), and its value what follows, without a space right after the colon.
+-- (RFC 9113, section 8.2.1), and its value what follows, without the blanks at both ends.
 -- rule: engines (own) The words of get make its request and say what is printed
 abbrev pub field_of_word : (word : List ℕ) → Field
 field_of_word word = plain_field (map to_ascii_lowercase (before_first is_colon word))
-    (without_space (after_first is_colon word))
+    (without_outer_blanks (after_first is_colon word))
 
 -- the method that the words name, or else POST where they give a body, and GET where they don't
 -- rule: engines (own) The words of get make its request and say what is printed

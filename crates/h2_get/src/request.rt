@@ -1,14 +1,15 @@
 //! The request that the words after `get` ask for.
 
 ghost use Rattle.std.specs.Prelude.{◌≡◌, ◌++◌, ◌∷◌, [], IfErr, IfOk, OnOk, map};
-ghost use Rattle.std.specs.Prelude.{position, true};
+ghost use Rattle.std.specs.Prelude.{position, reverse, true};
 ghost use Rattle.std.specs.List.{list_all};
 ghost use Rattle.h2_message.specs.Values.{message_value};
 ghost use Rattle.h2_args.specs.Words.{asked_by};
 ghost use Rattle.h2_get.specs.Requests.{AreRefusedWords, IsAskable, IsRefusedRequest, IsRefusedWord};
 ghost use Rattle.h2_get.specs.Requests.{field_of_word, has_colon, has_host, method_asked};
 ghost use Rattle.h2_get.specs.Requests.{request_asked};
-ghost use Rattle.h2_get.specs.Requests.{begins_with_at, body_asked, is_colon, without_space};
+ghost use Rattle.h2_get.specs.Requests.{begins_with_at, body_asked, is_outer_blank, is_colon};
+ghost use Rattle.h2_get.specs.Requests.{skip_blanks, without_outer_blanks};
 
 use h2_args::GetOptions;
 use h2_message::{Field, Malformed, Message, check_request};
@@ -162,7 +163,7 @@ fn field_of_word(alloc: Global, word: &[u8]) -> Result<Field, RequestFault>
         return Err(RequestFault::NoColon);
     };
     let name = word[..place].to_ascii_lowercase(alloc)?;
-    let value = without_space(&word[place + 1..]);
+    let value = without_outer_blanks(&word[place + 1..]);
     let field = Field::copy_of(alloc, &name, value, false)?;
     Ok(field)
 }
@@ -175,12 +176,42 @@ fn colon_place(word: &[u8]) -> Option<usize>
 }
 
 // rule: engines (own) The words of get make its request and say what is printed
-/// Octets without the space that they begin with, if they do.
-fn without_space(octets: &[u8]) -> &[u8]
-    ensures { result.now ≡ without_space octets.now }
+/// Octets without the spaces and tabs at both ends (RFC 9110, section 5.5).
+fn without_outer_blanks(octets: &[u8]) -> &[u8]
+    ensures { result.now ≡ without_outer_blanks octets.now }
 {
-    match octets {
-        [b' ', others @ ..] => others,
-        _ => octets,
+    without_last_blanks(without_first_blanks(octets))
+}
+
+/// Octets without the spaces and tabs that they begin with.
+fn without_first_blanks(octets: &[u8]) -> &[u8]
+    ensures { result.now ≡ skip_blanks octets.now }
+{
+    let mut left = octets;
+    while let [first, others @ ..] = left
+        && is_outer_blank(*first)
+    {
+        left = others;
     }
+    left
+}
+
+/// Octets without the spaces and tabs that they end with.
+fn without_last_blanks(octets: &[u8]) -> &[u8]
+    ensures { result.now ≡ reverse (skip_blanks (reverse octets.now)) }
+{
+    let mut left = octets;
+    while let [others @ .., last] = left
+        && is_outer_blank(*last)
+    {
+        left = others;
+    }
+    left
+}
+
+/// Whether an octet is a space or a tab.
+fn is_outer_blank(octet: u8) -> bool
+    ensures { result ≡ is_outer_blank octet }
+{
+    octet == b' ' || octet == b'\t'
 }

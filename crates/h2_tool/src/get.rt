@@ -2,15 +2,15 @@
 
 ghost use Rattle.std.specs.Prelude.{◌≡◌, Ok, if◌then◌else◌, is_ok, map, string_bytes};
 ghost use Rattle.h2_cli.specs.declared.status.Status.TheVariants.{Device, Usage};
-ghost use Rattle.h2_net.specs.Endings.{without_hint};
+ghost use Rattle.h2_net.specs.Endings.{status_with, without_hint};
 ghost use Rattle.h2_args.specs.Words.{asked_by};
 ghost use Rattle.h2_tool.specs.Commands.{EndsGet, EndsWithFetch, RefusesRequest, RefusesUrl};
 
 use crate::program::{answer, give_up};
 use h2_args::{GetOptions, get_args};
-use h2_cli::{Failure, Status};
+use h2_cli::{Failure, Status, hint_at_client, write_hint};
 use h2_get::{RequestFault, is_failure, location_at, print_asked, request_of, write_failure};
-use h2_net::{Ending, Fetched, TargetFault, fetch_location, report};
+use h2_net::{Ending, Fetched, LinkError, TargetFault, fetch_location, report};
 use std::alloc::Global;
 use std::io::{self, Write};
 use std::net::Net;
@@ -41,7 +41,7 @@ pub fn cmd_get<N: Net, W: Write, E: Write>(
     };
     let location = match location_at(alloc, options.url.as_bytes(), options.port) {
         Ok(location) => location,
-        Err(fault) => return refuse_url(fault, err),
+        Err(fault) => return refuse_url(fault, options.port, err),
     };
     let message = match request_of(alloc, &options, &location) {
         Ok(message) => message,
@@ -64,8 +64,25 @@ fn end_get<W: Write, E: Write>(
 {
     match got {
         Ok(fetched) => end_fetched(options, &fetched, out, err),
-        Err(ending) => report(ending, err),
+        Err(ending) => report_fetch(ending, err),
     }
+}
+
+// rule: engines (own) N1 to N7 end a command with their statuses
+// rule (tested): engines (own) A hint names --port, and says that fields are too many
+// Prints on standard error how a fetch has ended early, with the hint that is known: for N6 the name
+// of its code. A request that breaks no rule is refused only since its fields are too many.
+fn report_fetch<E: Write>(ending: Ending, err: &mut E) -> Status
+    ensures { result ≡ status_with ending.error }
+{
+    let status = report(ending, err);
+    // The status is that of the error, whether or not these writes fail.
+    let _ = match ending.error {
+        LinkError::Refused => writeln!(err, "hint: the fields of the request are too many"),
+        LinkError::Reset(code) => write_hint(hint_at_client(code, &[]), err),
+        _ => Ok(()),
+    };
+    status
 }
 
 // rule: engines (own) With --fail a status of 400 or above ends get with status 1
@@ -90,12 +107,18 @@ fn end_fetched<W: Write, E: Write>(
     Status::Good
 }
 
-// Prints on standard error why a URL can't be fetched.
-fn refuse_url<E: Write>(fault: TargetFault, err: &mut E) -> Status
+// rule (tested): engines (own) A hint names --port, and says that fields are too many
+// Prints on standard error why a URL can't be fetched, and where it names no port and no word does
+// either, which word could.
+fn refuse_url<E: Write>(fault: TargetFault, port: Option<u16>, err: &mut E) -> Status
     ensures { RefusesUrl fault result }
 {
     if fault == TargetFault::Memory {
         return give_up(Failure::Memory, err);
+    }
+    if fault == TargetFault::NoPort && port.is_none() {
+        let hint = "hint: --port N names the port of a URL that has none";
+        return status_after(writeln!(err, "error: {fault}\n{hint}"));
     }
     status_after(writeln!(err, "error: {fault}"))
 }

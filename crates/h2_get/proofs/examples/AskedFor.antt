@@ -34,8 +34,13 @@ name_in_lower_case = refl
 first_colon : field_of_word (codes "a:b:c") ≡ plain_field (codes "a") (codes "b:c")
 first_colon = refl
 
-one_space_alone : field_of_word (codes "a:  b") ≡ plain_field (codes "a") (codes " b")
-one_space_alone = refl
+-- `a: `, a tab, `b c` and a tab
+blanks_at_the_ends : field_of_word
+    (97 ∷ 58 ∷ 32 ∷ 9 ∷ 98 ∷ 32 ∷ 99 ∷ 9 ∷ []) ≡ plain_field (codes "a") (codes "b c")
+blanks_at_the_ends = refl
+
+blanks_alone : field_of_word (codes "a:  ") ≡ plain_field (codes "a") []
+blanks_alone = refl
 
 empty_value : field_of_word (codes "a:") ≡ plain_field (codes "a") []
 empty_value = refl

@@ -19,11 +19,23 @@ const IN_USE: &str = "N1 Device\nhint: the port is in use\n";
 /// Whether a line prints nothing and ends with N1, and with these lines on standard error. Nothing
 /// is read.
 fn fails<R: Net + Files>(rt: &R, alloc: Global, line: &str, lines: &str) -> Result<bool, Fail> {
+    ends_with(rt, alloc, line, Status::Device, lines)
+}
+
+/// Whether a line prints nothing and ends with this status, and with these lines on standard error.
+/// Nothing is read.
+fn ends_with<R: Net + Files>(
+    rt: &R,
+    alloc: Global,
+    line: &str,
+    status: Status,
+    lines: &str,
+) -> Result<bool, Fail> {
     let words = words_of(alloc, line)?;
     let (mut out, mut err) = (Vec::new(alloc), Vec::new(alloc));
     let ended = run(rt, alloc, &words, &mut Failing, &mut out, &mut err);
     let is_reported = err.as_slice() == lines.as_bytes();
-    Ok(ended == Status::Device && is_reported && out.is_empty())
+    Ok(ended == status && is_reported && out.is_empty())
 }
 
 /// A port of 127.0.0.1 at which nothing listens any more.
@@ -47,6 +59,20 @@ fn get_where_nothing_listens(rt: HostRuntime) -> Result<(), Fail> {
     let port = closed_port(&rt)?;
     let line = format!(in rt.alloc(); "get http://127.0.0.1:{port}/")?;
     assert!(rt; fails(&rt, rt.alloc(), &line, REFUSED)?);
+    Ok(())
+}
+
+// rule: engines (own) A hint names --port, and says that fields are too many
+#[test]
+fn get_with_too_many_fields(rt: HostRuntime) -> Result<(), Fail> {
+    let listener = TcpListener::bind(&rt, SocketAddr::from((Ipv4Addr::LOCALHOST, 0)))?;
+    let port = listener.local_addr()?.port();
+    let mut line = format!(in rt.alloc(); "get http://127.0.0.1:{port}/ -H a:")?;
+    for _ in 0..70_000 {
+        line.push('b')?;
+    }
+    let lines = "N7 Refused\nhint: the fields of the request are too many\n";
+    assert!(rt; ends_with(&rt, rt.alloc(), &line, Status::Usage, lines)?);
     Ok(())
 }
 

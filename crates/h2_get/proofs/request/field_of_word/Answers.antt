@@ -5,7 +5,7 @@ use Rattle.std.proofs.Common.{is_some, refl}
 use Rattle.std.specs.List.{position_or_len}
 use Rattle.std.specs.Char.{to_ascii_lowercase}
 use Rattle.h2_message.specs.Messages.{plain_field}
-use Rattle.h2_get.specs.Requests.{field_of_word, is_colon, without_space}
+use Rattle.h2_get.specs.Requests.{field_of_word, is_colon, without_outer_blanks}
 use Rattle.std.proofs.lemmas.List.{take_rest}
 use Rattle.h2_get.proofs.request.field_of_word.Goals as goal
 
@@ -23,7 +23,7 @@ colon_at word place same =
 -- So the field is that of the octets at both sides of the place.
 field_at : (word name value : List ℕ) (place : ℕ) → position is_colon word ≡ Some place
     → name ≡ map to_ascii_lowercase (take place word)
-    → value ≡ without_space (drop (place + 1) word)
+    → value ≡ without_outer_blanks (drop (place + 1) word)
     → plain_field name value ≡ field_of_word word
 field_at word name value place same lower following =
     let is = colon_at word place same in
@@ -38,7 +38,7 @@ returns-clause-named c = sym (ap (λ (o : Option ℕ). is_some o) c.in-Some.ensu
 pub returns-clause-field : goal.returns-clause-field
 returns-clause-field c =
     c.in_ok-field.ensures
-    ∙ field_at c.args.word.now c.deref.result.now c.without_space-value.result.now c.in-Some.place
+    ∙ field_at c.args.word.now c.deref.result.now c.without_outer_blanks-value.result.now c.in-Some.place
     (sym c.in-Some.ensures) (c.deref.ensures.value ∙ c.in_ok-name.ensures.ok)
-    (c.without_space-value.ensures
-    ∙ ap without_space (take_rest c.args.word.now (c.in-Some.place + 1)))
+    (c.without_outer_blanks-value.ensures
+    ∙ ap without_outer_blanks (take_rest c.args.word.now (c.in-Some.place + 1)))

@@ -1,0 +1,168 @@
+-- What is sent over a link in rounds: credit and what waits of the request, and then all output.
+use Rattle.h2_engines.proofs.Names
+use Names.{◌≡◌, ◌≤◌, ℕ, ◌+◌, ◌-◌, ◌^◌, List, length, None, Result, Ok, Err, ◌∙◌}
+use Names.{inl, inr, arith, Values, SentMessage, End, EndLog, EndRepresents, LinkError}
+use Names.{EndsWriting, IsSameOfMessages, SendsWaiting, StallsWriting, Traffic, IsLinked, sends}
+use Rattle.h2_engines.specs.ClientHistories.{IsFetching, pumps, releases}
+use Rattle.h2_engines.specs.WithoutLink.{HasSent, has_failed, releases_no_more, sends_no_more}
+use Rattle.h2_engines.proofs.MachineWrites.{written_links}
+use Rattle.h2_engines.proofs.ResponderEnds.{given_first, given_within, same_itself, same_twice}
+use Rattle.h2_engines.proofs.ServeLinkLogs.{goes_links}
+use Rattle.h2_engines.proofs.WithoutLinkSends.{sent_error, sent_same, sent_stays, sent_turns}
+use Rattle.h2_fetch.specs.Sends.{SentOver, StopsSending, WritesOver}
+use Rattle.h2_link.specs.declared.error.LinkError.TheVariants as errors
+
+-- A request that was made stays so where credit is given back and what waits is sent.
+pub sent_fetching : {values : Values} {message : SentMessage} {before after : EndLog}
+    {result : Result (Unit {0}) LinkError} → IsFetching values message before
+    → HasSent before after result → IsFetching values message after
+sent_fetching was (has_failed failed same) = rw same was
+sent_fetching was (sends middle released sent up may all then) =
+    pumps (releases was released may) (Ok sent) then
+sent_fetching was (releases_no_more released error is up may) = releases was released may
+sent_fetching was (sends_no_more middle released sent error is up may then) =
+    pumps (releases was released may) sent then
+
+-- What ends writing ends sending so.
+pub stops_by : (now : Traffic) (end : EndLog) (error : LinkError) → EndsWriting error
+    → StallsWriting {A = Unit {0}} now end (Err error)
+    → StopsSending {A = Unit {0}} now end (Err error)
+stops_by now end errors.Memory writing stalls = inr stalls
+stops_by now end errors.NoProgress writing stalls = stalls
+stops_by now end error writing stalls = tt
+
+-- The link took all that the client has given out, in so many rounds, and the connection is up.
+pub record IsSending (values : Values) (message : SentMessage) (start now : Traffic)
+    (before : EndLog) (new : End) (unused : List ℕ) (rounds : ℕ) : Type 0 where
+  pub after : EndLog
+  pub fetching : IsFetching values message after
+  pub represents : EndRepresents values new after
+  pub same : IsSameOfMessages before after
+  pub linked : IsLinked start now after.log unused
+  pub turns : rounds + length before.log.turns ≤ length after.log.turns
+  pub up : after.log.failed ≡ None
+
+-- Whatever had happened at first, it is so now.
+abbrev pub SendsFrom : (before now : Traffic) → (old new : End) → (rounds : ℕ) → Type 0
+SendsFrom before now old new rounds =
+    (values : Values) (message : SentMessage) (start : Traffic) (end : EndLog) (unused : List ℕ)
+    → EndRepresents values old end → IsFetching values message end
+    → IsLinked start before end.log unused → end.log.failed ≡ None
+    → IsSending values message start now end new unused rounds
+
+-- Nothing was sent yet.
+pub sends_first : (now : Traffic) (end : End) → SendsFrom now now end end 0
+sends_first now old values message start end unused is was linked up =
+    record {
+      after = end;
+      fetching = was;
+      represents = is;
+      same = same_itself end;
+      linked = linked;
+      turns = omega arith;
+      up = up;
+    }
+
+module _ {values : Values} {message : SentMessage} {start now : Traffic} {before : EndLog}
+    {old : End} (new : End) {unused : List ℕ} {rounds : ℕ}
+    (on : IsSending values message start now before old unused rounds) where
+  -- Credit is given back, and what waits is sent;
+  pub waited : (result : Result (Unit {0}) LinkError) → SendsWaiting old new result
+      → IsSending values message start now before new unused rounds
+  waited result waits =
+      let sent = waits values on.after on.represents in
+      let stays = sent_stays sent.2 in
+      record {
+        after = sent.0;
+        fetching = sent_fetching on.fetching sent.2;
+        represents = sent.1;
+        same = same_twice on.same (sent_same sent.2);
+        linked = goes_links (given_within on.represents) stays.goes on.linked;
+        turns = omega (arith, on.turns, sent_turns sent.2);
+        up = stays.goes.failed ∙ on.up;
+      }
+
+  -- or there is no memory for that.
+  pub not_waited : (error : LinkError) → SendsWaiting old new (Err error)
+      → SentOver values message start now before new unused (Err error)
+  not_waited error waits =
+      let then = waited (Err error) waits in
+      let sent = waits values on.after on.represents in
+      record {
+        after = then.after;
+        fetching = then.fetching;
+        represents = then.represents;
+        same = then.same;
+        given = then.linked.given;
+        taken = given_first start now then.after.log then.linked.taken;
+        turns = tt;
+        why = rw (sent_error sent.2) (inl (inl then.up));
+      }
+
+module _ {values : Values} {message : SentMessage} {start middle : Traffic} (now : Traffic)
+    {before : EndLog} {old : End} (new : End) {unused : List ℕ} {rounds : ℕ}
+    (on : IsSending values message start middle before old unused rounds) where
+  -- All that waits is written,
+  pub wrote_on : (done : Unit {0}) → WritesOver middle now old new (Ok done)
+      → IsSending values message start now before new unused (rounds + 1)
+  wrote_on done writes =
+      let wrote = writes values message start on.after unused on.represents on.fetching on.linked in
+      record {
+        after = wrote.after;
+        fetching = wrote.happened;
+        represents = wrote.represents;
+        same = same_twice on.same wrote.same;
+        linked = written_links unused wrote.given wrote.taken;
+        turns = omega (arith, on.turns, wrote.turns);
+        up = wrote.same.failed ∙ on.up;
+      }
+
+  -- with which all was sent,
+  pub wrote_all : (done : Unit {0}) → WritesOver middle now old new (Ok done)
+      → SentOver values message start now before new unused (Ok done)
+  wrote_all done writes =
+      let wrote = writes values message start on.after unused on.represents on.fetching on.linked in
+      record {
+        after = wrote.after;
+        fetching = wrote.happened;
+        represents = wrote.represents;
+        same = same_twice on.same wrote.same;
+        given = wrote.given;
+        taken = wrote.taken;
+        turns = omega (arith, on.turns, wrote.turns);
+        why = tt;
+      }
+
+  -- or it can't be.
+  pub not_written : (error : LinkError) → EndsWriting error
+      → WritesOver middle now old new (Err error)
+      → SentOver values message start now before new unused (Err error)
+  not_written error writing writes =
+      let wrote = writes values message start on.after unused on.represents on.fetching on.linked in
+      record {
+        after = wrote.after;
+        fetching = wrote.happened;
+        represents = wrote.represents;
+        same = same_twice on.same wrote.same;
+        given = wrote.given;
+        taken = wrote.taken;
+        turns = tt;
+        why = stops_by now wrote.after error writing wrote.stalls;
+      }
+
+-- There were as many rounds as may be.
+pub no_round : {values : Values} {message : SentMessage} {start : Traffic} (now : Traffic)
+    {before : EndLog} (new : End) {unused : List ℕ} {rounds : ℕ} → 2 ^ 64 - 1 ≤ rounds
+    → IsSending values message start now before new unused rounds
+    → SentOver values message start now before new unused (Err errors.NoProgress)
+no_round {start = start} now new all on =
+    record {
+      after = on.after;
+      fetching = on.fetching;
+      represents = on.represents;
+      same = on.same;
+      given = on.linked.given;
+      taken = given_first start now on.after.log on.linked.taken;
+      turns = tt;
+      why = inr (omega (arith, all, on.turns));
+    }

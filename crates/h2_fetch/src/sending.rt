@@ -1,0 +1,101 @@
+//! What a client sends over a link.
+
+ghost use Rattle.std.specs.Prelude.{◌≡◌, ◌<◌, ◌-◌, ◌^◌, ◌++◌, [], IfErr};
+ghost use Rattle.std.specs.Io.KnownBytes.{Appends};
+ghost use Rattle.h2_link.specs.Links.{StallsAtNoProgress, WritesAll};
+ghost use Rattle.h2_engines.specs.Failures.{EndsWriting, IsOfCall, failures_at_end};
+ghost use Rattle.h2_engines.specs.Linked.{traffic};
+ghost use Rattle.h2_engines.specs.ServerSteps.{PumpsSome};
+ghost use Rattle.h2_engines.specs.WithoutLink.{SendsWaiting};
+ghost use Rattle.h2_fetch.specs.Sends.{SendsAllOver, WritesOver};
+
+use crate::errors::unless_refused;
+use h2_ends::{Client, EndRefusal, Refusal};
+use h2_frame::limits::FULL_OUTPUT;
+use h2_link::{Link, LinkError, write_all};
+
+// rule: engines (own) Over a link credit is returned and what could be sent is sent
+/// Gives back all that is owed, sends what waits of the request, and writes all of that, until
+/// nothing more could go.
+pub(crate) fn send_all<L: Link>(client: &mut Client, link: &mut L) -> Result<(), LinkError>
+    requires { L.faults link.old < 2 ^ 64 - 1 }
+    ensures sends { SendsAllOver
+        (traffic (L.given link.old) (L.taken link.old) (L.stalled link.old))
+        (traffic (L.given link.new) (L.taken link.new) (L.stalled link.new))
+        client.old.end client.new.end result }
+    ensures failures { L.faults link.new ≡ failures_at_end (L.faults link.old) result }
+    ensures err { IfErr result EndsWriting }
+{
+    for _ in 0..u64::MAX {
+        send_waiting(client)?;
+        let is_full = client.conn().waiting() >= FULL_OUTPUT;
+        write_out(client, link)?;
+        if !is_full {
+            return Ok(());
+        }
+    }
+    Err(LinkError::NoProgress)
+}
+
+// rule: engines (own) Over a link credit is returned and what could be sent is sent
+/// Gives back all that is owed and sends what waits of the request, while the connection is up.
+/// What a full output holds back is given back later.
+fn send_waiting(client: &mut Client) -> Result<(), LinkError>
+    ensures sends { SendsWaiting client.old.end client.new.end result }
+    ensures err { IfErr result IsOfCall }
+{
+    if client.conn().failed().is_some() {
+        return Ok(());
+    }
+    let released = client.release_all();
+    match released {
+        Ok(()) | Err(EndRefusal::Conn(Refusal::OutputFull)) => pump(client),
+        _ => unless_refused(released),
+    }
+}
+
+/// Sends what waits of the request, as windows allow.
+fn pump(client: &mut Client) -> Result<(), LinkError>
+    ensures pumps { PumpsSome client.old.end client.new.end result }
+    ensures err { IfErr result IsOfCall }
+{
+    unless_refused(client.pump())?;
+    Ok(())
+}
+
+// rule: engines (own) Over a link input is used in order and all output is written
+/// Writes all output that waits, from where it lies. What was not written is lost where it fails.
+pub(crate) fn write_out<L: Link>(client: &mut Client, link: &mut L) -> Result<(), LinkError>
+    requires { L.faults link.old < 2 ^ 64 - 1 }
+    ensures writes { WritesOver
+        (traffic (L.given link.old) (L.taken link.old) (L.stalled link.old))
+        (traffic (L.given link.new) (L.taken link.new) (L.stalled link.new))
+        client.old.end client.new.end result }
+    ensures failures { L.faults link.new ≡ failures_at_end (L.faults link.old) result }
+    ensures err { IfErr result EndsWriting }
+{
+    for _ in 0..u64::MAX {
+        unless_refused(client.ready())?;
+        if client.conn().waiting() == 0 {
+            return Ok(());
+        }
+        let (first, second) = client.conn().waiting_octets();
+        let written = write_both(link, first, second);
+        let consumed = client.consume(usize::MAX);
+        written?;
+        unless_refused(consumed)?;
+    }
+    Err(LinkError::NoProgress)
+}
+
+/// Writes all octets of two slices, the first before the second.
+fn write_both<L: Link>(link: &mut L, first: &[u8], second: &[u8]) -> Result<(), LinkError>
+    requires { L.faults link.old < 2 ^ 64 - 1 }
+    ensures writes { WritesAll (L.taken link.old) (L.taken link.new) (L.faults link.old)
+        (L.faults link.new) result (first.now ++ second.now) }
+    ensures gives_none { Appends (L.given link.old) (L.given link.new) [] }
+    ensures stalled { StallsAtNoProgress result (L.stalled link.new) }
+{
+    write_all(link, first)?;
+    write_all(link, second)
+}
