@@ -60,10 +60,11 @@ FILES = "whoever serves a folder calls it, and h2 does not yet"
 TEXTS = "hpack reads into a text that it has, with the function that appends"
 API = {
     "h2_frame::FrameRef::payload_len": "an end counts the payload of DATA alone; for users that count any frame",
-    "h2_files::Conditions::answer": FILES,
-    "h2_files::Method::of": FILES,
-    "h2_files::file_names": FILES,
-    "h2_files::media_type": FILES,
+    "h2_folder::Folder::answer": FILES,
+    "h2_folder::Sending::next_part": FILES,
+    "h2_folder::add_one": "for hosts that write a log, and h2 does not yet",
+    "h2_folder::log_line": "for hosts that write a log, and h2 does not yet",
+    "h2_mio::Driver::run": "for programs with many connections, and h2 is none yet",
     "h2_flow::Config::with_max_frame": "a program with larger frames configures its ends so",
     "h2_flow::StreamState::closed": "an end asks for both sides at once",
     "h2_flow::StreamState::end_in": "an end sets the side with the rest of its stream",
@@ -141,6 +142,7 @@ SECTIONS = {
     "HTTP 9.3.2": "HEAD (RFC 9110)",
     "HTTP 13.2.2": "Precedence of Preconditions (RFC 9110)",
     "HTTP 14.2": "Range (RFC 9110)",
+    "HTTP 14.4": "Content-Range (RFC 9110)",
     "HTTP 15.5.6": "405 Method Not Allowed (RFC 9110)",
     "HPACK 2.1": "Header List Ordering (RFC 7541)",
     "HPACK 2.3.2": "Dynamic Table (RFC 7541)",
