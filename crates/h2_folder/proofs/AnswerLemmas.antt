@@ -1,0 +1,66 @@
+-- Short answers to requests whose path has no file.
+use Rattle.std.proofs.Common.{◌≡◌, ℕ, List, Option, Some, Result, Ok, Err, sym, subst, inl, inr}
+use Rattle.h2_files.specs.Conditions.{Asked}
+use Rattle.h2_files.specs.Faults.{status_of_fault}
+use Rattle.h2_files.specs.Paths.{IsFaultOrMemory}
+use Rattle.h2_files.specs.declared.fault.PathFault.{PathFault}
+use Rattle.h2_files.specs.declared.fault.PathFault.TheVariants as faults
+use Rattle.h2_files.specs.declared.methods.Method.{Method}
+use Rattle.h2_folder.specs.Answering.{AnswersMethod, IsShortAnswer, has_content}
+use Rattle.h2_folder.specs.Refusals.{status_of_missing}
+use Rattle.h2_folder.specs.declared.answer.Answered.{Answered}
+use Rattle.h2_folder.specs.declared.find.Missing.{Missing}
+use Rattle.h2_folder.specs.declared.find.Missing.TheVariants.{Busy}
+
+-- what is answered where memory was missing
+without_memory : {F : Type 0} (m : Method) (read : Result (List (List ℕ)) PathFault) (asked : Asked)
+    (answered : Answered F) → IsShortAnswer 503 (has_content m) answered
+    → AnswersMethod (Some m) read asked answered
+without_memory m (Ok names) asked answered short = inl (Busy, short)
+without_memory m (Err fault) asked answered short = inr short
+
+-- what is answered to a path with this fault
+faulty : {F : Type 0} (m : Method) (read : Result (List (List ℕ)) PathFault) (asked : Asked)
+    (fault : PathFault) (answered : Answered F) → read ≡ Err fault
+    → IsShortAnswer (status_of_fault fault) (has_content m) answered
+    → AnswersMethod (Some m) read asked answered
+faulty m read asked fault answered is short =
+    subst (λ (r : Result (List (List ℕ)) PathFault). AnswersMethod (Some m) r asked answered)
+    (sym is) (inl short)
+
+refused_if : {F : Type 0} (m : Method) (read : Result (List (List ℕ)) PathFault) (asked : Asked)
+    (fault : PathFault) (answered : Answered F) → IsFaultOrMemory fault read
+    → IsShortAnswer (status_of_fault fault) (has_content m) answered
+    → AnswersMethod (Some m) read asked answered
+refused_if m read asked faults.TooLong answered is short = faulty m read asked _ answered is short
+refused_if m read asked faults.NotAbsolute answered is short = faulty m read asked _ answered is short
+refused_if m read asked faults.BadEscape answered is short = faulty m read asked _ answered is short
+refused_if m read asked faults.Control answered is short = faulty m read asked _ answered is short
+refused_if m read asked faults.NotText answered is short = faulty m read asked _ answered is short
+refused_if m read asked faults.Empty answered is short = faulty m read asked _ answered is short
+refused_if m read asked faults.Dot answered is short = faulty m read asked _ answered is short
+refused_if m read asked faults.Separator answered is short = faulty m read asked _ answered is short
+refused_if m read asked faults.LongName answered is short = faulty m read asked _ answered is short
+refused_if m read asked faults.Memory answered is short =
+    without_memory m read asked answered short
+
+-- A path that names no file is answered with the status of its fault.
+pub refused_path : {F : Type 0} (method : Option Method) (m : Method)
+    (read : Result (List (List ℕ)) PathFault) (asked : Asked) (fault : PathFault)
+    (answered : Answered F) → method ≡ Some m → IsFaultOrMemory fault read
+    → IsShortAnswer (status_of_fault fault) (has_content m) answered
+    → AnswersMethod method read asked answered
+refused_path method m read asked fault answered is refused short =
+    subst (λ (o : Option Method). AnswersMethod o read asked answered) (sym is)
+    (refused_if m read asked fault answered refused short)
+
+-- A file that is not there, or not sent, is answered with the status of the reason.
+pub missing_file : {F : Type 0} (method : Option Method) (m : Method)
+    (read : Result (List (List ℕ)) PathFault) (names : List (List ℕ)) (asked : Asked)
+    (missing : Missing) (answered : Answered F) → method ≡ Some m → read ≡ Ok names
+    → IsShortAnswer (status_of_missing missing) (has_content m) answered
+    → AnswersMethod method read asked answered
+missing_file method m read names asked missing answered is named short =
+    subst (λ (o : Option Method). AnswersMethod o read asked answered) (sym is)
+    (subst (λ (r : Result (List (List ℕ)) PathFault). AnswersMethod (Some m) r asked answered)
+    (sym named) (inl (missing, short)))

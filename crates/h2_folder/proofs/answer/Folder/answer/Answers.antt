@@ -1,0 +1,43 @@
+use Rattle.std.proofs.Common.{◌≡◌, ◌∙◌, ℕ, Bool, Some, ap, sym, codes}
+use Rattle.h2_files.specs.Faults.{status_of_fault}
+use Rattle.h2_files.specs.Methods.{file_method}
+use Rattle.h2_files.specs.Paths.{names_of, texts, IsFaultOrMemory}
+use Rattle.h2_folder.specs.Answering.{value_in}
+use Rattle.h2_folder.specs.Heads.{short_message}
+use Rattle.h2_folder.specs.Refusals.{status_of_missing}
+use Rattle.h2_folder.proofs.AnswerLemmas.{missing_file, refused_path}
+use Rattle.std.specs.Prelude.{Ok}
+use Rattle.std.proofs.Common.{subst}
+use Rattle.h2_folder.proofs.answer.Folder.answer.Goals as goal
+
+pub returns-in-Err : goal.returns-in-Err
+returns-in-Err g c =
+    let list = c.args.list.now in
+    let date = c.date_of-date.result in
+    let fault = c.in-Err.fault in
+    let method : file_method (value_in (codes ":method") list) ≡ Some c.in-Some.method =
+    ap file_method (sym c.value_in-name.ensures) ∙ sym c.of.ensures ∙ c.in-Some.is in
+    let refused : IsFaultOrMemory fault (names_of (value_in (codes ":path") list)) =
+    subst (λ path. IsFaultOrMemory fault (names_of path)) c.value_in-path.ensures
+    c.in-Err.ensures.exact in
+    let short = c.in_ok-message-in-Err.ensures
+    ∙ ap (λ (s : ℕ). short_message s date c.has_content-has_body.result) c.status.ensures
+    ∙ ap (λ (b : Bool). short_message (status_of_fault fault) date b)
+    c.has_content-has_body.ensures in
+    refused_path _ c.in-Some.method _ _ fault _ method refused (date, short)
+
+pub returns : goal.returns
+returns g c =
+    let list = c.args.list.now in
+    let date = c.date_of-date.result in
+    let missing = c.in-Err-find.missing in
+    let method : file_method (value_in (codes ":method") list) ≡ Some c.in-Some.method =
+    ap file_method (sym c.value_in-name.ensures) ∙ sym c.of.ensures ∙ c.in-Some.is in
+    let named : names_of (value_in (codes ":path") list) ≡ Ok (texts c.in-Ok.names.items) =
+    ap names_of (sym c.value_in-path.ensures) ∙ c.in-Ok.ensures.exact in
+    let short = c.in_ok-message-in-Err-find.ensures
+    ∙ ap (λ (s : ℕ). short_message s date c.has_content-has_body.result)
+    c.status-in-Err-find.ensures
+    ∙ ap (λ (b : Bool). short_message (status_of_missing missing) date b)
+    c.has_content-has_body.ensures in
+    missing_file _ c.in-Some.method _ _ _ missing _ method named (date, short)

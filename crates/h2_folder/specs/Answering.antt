@@ -1,0 +1,120 @@
+-- How a folder answers the head of a request.
+use Rattle.std.specs.Prelude.{◌≡◌, ◌≢◌, ◌⊎◌, ◌+◌, ◌-◌, ℕ, Bool, true, false, List, [], length}
+use Rattle.std.specs.Prelude.{codes, nat_lt, Option, Some, None, unwrap_or, Result, Ok, Err, get_or}
+use Rattle.hpack.specs.FieldLists.{value_of}
+use Rattle.hpack.specs.declared.types.field.Field.{Field}
+use Rattle.h2_message.specs.Messages.{SentMessage}
+use Rattle.h2_message.specs.Values.{message_value}
+use Rattle.h2_files.specs.Conditions.{Asked, file_answer}
+use Rattle.h2_files.specs.Dates.{IsLastModified}
+use Rattle.h2_files.specs.Faults.{status_of_fault}
+use Rattle.h2_files.specs.MediaTypes.{media_type}
+use Rattle.h2_files.specs.Methods.{file_method}
+use Rattle.h2_files.specs.Paths.{names_of}
+use Rattle.h2_files.specs.Tags.{Validators}
+use Rattle.h2_files.specs.declared.conditions.Answer.{Answer}
+use Rattle.h2_files.specs.declared.conditions.Answer.TheVariants as answers
+use Rattle.h2_files.specs.declared.fault.PathFault.{PathFault}
+use Rattle.h2_files.specs.declared.methods.Method.{Method}
+use Rattle.h2_files.specs.declared.methods.Method.TheVariants.{Get, Head}
+use Rattle.h2_folder.specs.Heads.{file_head, method_message, octets_of_part, short_message}
+use Rattle.h2_folder.specs.Heads.{unsatisfied_message}
+use Rattle.h2_folder.specs.Refusals.{status_of_missing}
+use Rattle.h2_folder.specs.declared.answer.Answered.{Answered}
+use Rattle.h2_folder.specs.declared.answer.Answered.TheVariants.{Whole, Parts}
+use Rattle.h2_folder.specs.declared.find.Missing.{Missing}
+
+-- whether a file may change once more in the second in which it was modified (RFC 9110, section
+-- 8.8.2.2): that second was not over a full second ago
+abbrev pub is_weak_at : (modified now : ℕ) → Bool
+is_weak_at modified now = nat_lt now (modified + 2)
+
+-- an answer to GET has a content
+abbrev pub has_content : Method → Bool
+has_content Get = true
+has_content Head = false
+
+-- the conditions of a request, and its range
+abbrev pub asked_in : List Field → Asked
+asked_in list = record {
+  if_match = value_of (codes "if-match") list;
+  if_unmodified_since = value_of (codes "if-unmodified-since") list;
+  if_none_match = value_of (codes "if-none-match") list;
+  if_modified_since = value_of (codes "if-modified-since") list;
+  range = value_of (codes "range") list;
+  if_range = value_of (codes "if-range") list;
+}
+
+-- how many octets of a file an answer has
+abbrev pub octets_of_file : Answer → (length : ℕ) → ℕ
+octets_of_file answers.Whole length = length
+octets_of_file (answers.Part first last) length = octets_of_part first last
+octets_of_file answer length = 0
+
+-- The answer is this whole message.
+abbrev pub IsMessage : {F : Type 0} → Answered F → SentMessage → Type 0
+IsMessage (Whole message) wanted = message_value message ≡ wanted
+IsMessage (Parts head sending) wanted = ⊥
+
+-- a message with this head alone
+abbrev pub head_alone : List Field → SentMessage
+head_alone head = record { head = head; body = []; trailers = None }
+
+-- The answer has this head, and so many octets of a file after it: in parts where an answer to GET
+-- has some, and else none. Or the file can't be read from there: 500.
+abbrev pub SendsFile : {F : Type 0} → Method → (head : List Field) → (octets : ℕ)
+    → (date : Option (List ℕ)) → Answered F → Type 0
+SendsFile Get head octets date (Parts fields sending) =
+    (fields.items ≡ head) × (sending.left ≡ octets) × (octets ≢ 0)
+SendsFile method head octets date answered =
+    IsMessage answered (head_alone head) ⊎ IsMessage answered (short_message 500 date true)
+
+-- How a request is answered whose file is there, of this version.
+-- rule: HTTP 9.3.2 (own) A folder answers HEAD as GET, without the octets
+abbrev pub AnswersFile : {F : Type 0} → Answer → Method → Validators → (kind : List ℕ)
+    → (date : Option (List ℕ)) → Answered F → Type 0
+AnswersFile answers.PreconditionFailed method version kind date answered =
+    IsMessage answered (short_message 412 date (has_content method))
+AnswersFile answers.Unsatisfiable method version kind date answered =
+    IsMessage answered (unsatisfied_message version.length date)
+AnswersFile answer method version kind date answered =
+    (modified : Option (List ℕ)) × IsLastModified version.modified modified
+    × SendsFile method (file_head answer version kind date modified)
+    (octets_of_file answer version.length) date answered
+
+-- the type of the file with the last of these names
+abbrev pub kind_of_names : List (List ℕ) → List ℕ
+kind_of_names names = media_type (get_or names (length names - 1) [])
+
+-- The answer is the short text of a status, at some time.
+abbrev pub IsShortAnswer : {F : Type 0} → (status : ℕ) → (has_body : Bool) → Answered F → Type 0
+IsShortAnswer status has_body answered =
+    (date : Option (List ℕ)) × IsMessage answered (short_message status date has_body)
+
+-- How a request is answered, by its method, what its path gives, and its conditions: another method
+-- than GET and HEAD has 405, and a path that names no file below the folder the status of its
+-- fault. A file that is there, of whatever version, is answered as above; else the file system says
+-- why it isn't sent. Without memory the status is 503.
+-- rule: files (own) What is not there has 404, and what may not be read has 403
+abbrev pub AnswersMethod : {F : Type 0} → Option Method → Result (List (List ℕ)) PathFault → Asked
+    → Answered F → Type 0
+AnswersMethod None names asked answered =
+    (date : Option (List ℕ)) × IsMessage answered (method_message date)
+AnswersMethod (Some method) (Err fault) asked answered =
+    IsShortAnswer (status_of_fault fault) (has_content method) answered
+    ⊎ IsShortAnswer 503 (has_content method) answered
+AnswersMethod (Some method) (Ok names) asked answered =
+    ((missing : Missing) × IsShortAnswer (status_of_missing missing) (has_content method) answered)
+    ⊎ ((version : Validators) × (date : Option (List ℕ))
+    × AnswersFile (file_answer version method asked) method version (kind_of_names names) date
+    answered)
+
+-- the value of a field that each request has
+abbrev pub value_in : (name : List ℕ) → List Field → List ℕ
+value_in name list = unwrap_or (value_of name list) []
+
+-- How a folder answers a request with this head.
+abbrev pub AnswersRequest : {F : Type 0} → List Field → Answered F → Type 0
+AnswersRequest list answered =
+    AnswersMethod (file_method (value_in (codes ":method") list))
+    (names_of (value_in (codes ":path") list)) (asked_in list) answered

@@ -1,0 +1,156 @@
+//! Which file the names of a path mean, and that it lies in the folder.
+
+ghost use Rattle.std.specs.Prelude.{◌≡◌};
+ghost use Rattle.h2_folder.specs.Refusals.{missing_at, status_of_missing};
+
+use h2_files::path_below;
+use std::alloc::{AllocError, Global};
+use std::fs::{self, Files, Metadata, OpenFile};
+use std::io::{self, ErrorKind};
+use std::os::unix::fs::MetadataExt;
+
+/// Why a path has no file that is served.
+#[derive(Clone, Copy, Debug, PartialEq, Eq, Hash)]
+pub enum Missing {
+    /// There is none: 404.
+    NotFound,
+    /// It is a link, or lies below one; or it is no regular file, or may not be read: 403.
+    Forbidden,
+    /// The file system has failed: 500.
+    Failed,
+    /// Out of memory, or out of descriptors: 503.
+    Busy,
+}
+
+impl Missing {
+    /// The status of the answer (RFC 9110, section 15).
+    pub fn status(self) -> u16
+        ensures { result ≡ status_of_missing self }
+    {
+        match self {
+            Missing::NotFound => 404,
+            Missing::Forbidden => 403,
+            Missing::Failed => 500,
+            Missing::Busy => 503,
+        }
+    }
+}
+
+impl From<AllocError> for Missing {
+    ghost use Rattle.std.specs.Prelude.{◌≡◌};
+    ghost use Rattle.h2_folder.specs.declared.find.Missing.TheVariants.{Busy};
+
+    ghost from_gives = { λ _ missing. missing ≡ Busy };
+
+    fn from(_error: AllocError) -> Missing {
+        Missing::Busy
+    }
+}
+
+/// A file that was opened.
+#[derive(Drop)]
+pub(crate) struct Found<F> {
+    pub(crate) file: F,
+    pub(crate) length: u64,
+    /// When it was modified, in seconds after 1970.
+    pub(crate) modified: u64,
+}
+
+/// Opens the file that names mean below a root. Neither it nor a folder on its way is a link, as
+/// far as two looks tell, one before and one after it was opened: the second one sees the file
+/// that was opened.
+pub(crate) fn find<R: Files>(
+    files: &R,
+    alloc: Global,
+    root: &str,
+    names: &[String],
+) -> Result<Found<R::File>, Missing> {
+    let before = walk(files, alloc, root, names)?;
+    let path = path_below(alloc, root, names)?;
+    let file = match fs::open(files, path.as_str()) {
+        Ok(file) => file,
+        Err(error) => return Err(missing_at(error.kind())),
+    };
+    let opened = about(file.metadata())?;
+    let after = walk(files, alloc, root, names)?;
+    if !is_same(&opened, &before) || !is_same(&opened, &after) {
+        return Err(Missing::Forbidden);
+    }
+    Ok(Found {
+        file,
+        length: opened.len(),
+        modified: u64::try_from(opened.mtime()).unwrap_or(0),
+    })
+}
+
+/// What is known of the file that names mean below a root, where each name before the last is a
+/// folder, and the last one a regular file.
+fn walk<R: Files>(
+    files: &R,
+    alloc: Global,
+    root: &str,
+    names: &[String],
+) -> Result<Metadata, Missing> {
+    for count in 1..names.len() {
+        let known = look(files, alloc, root, &names[..count])?;
+        if !known.is_dir() {
+            return Err(not_folder(&known));
+        }
+    }
+    let known = look(files, alloc, root, names)?;
+    if known.is_dir() {
+        return Err(Missing::NotFound);
+    }
+    if !known.is_file() {
+        return Err(Missing::Forbidden);
+    }
+    Ok(known)
+}
+
+/// Why nothing lies below what is no folder.
+fn not_folder(known: &Metadata) -> Missing {
+    if known.is_symlink() {
+        Missing::Forbidden
+    } else {
+        Missing::NotFound
+    }
+}
+
+/// What is known of what names mean; of a link itself.
+fn look<R: Files>(
+    files: &R,
+    alloc: Global,
+    root: &str,
+    names: &[String],
+) -> Result<Metadata, Missing> {
+    let path = path_below(alloc, root, names)?;
+    about(fs::symlink_metadata(files, path.as_str()))
+}
+
+/// What is known of a file, or why it is not served.
+fn about(known: io::Result<Metadata>) -> Result<Metadata, Missing> {
+    match known {
+        Ok(known) => Ok(known),
+        Err(error) => Err(missing_at(error.kind())),
+    }
+}
+
+/// Whether two are of one file.
+fn is_same(one: &Metadata, other: &Metadata) -> bool {
+    one.ino() == other.ino() && one.dev() == other.dev()
+}
+
+// rule: files (own) What is not there has 404, and what may not be read has 403
+/// Why a path has no file, by the error of the file system.
+fn missing_at(kind: ErrorKind) -> Missing
+    ensures { result ≡ missing_at kind }
+{
+    match kind {
+        ErrorKind::NotFound | ErrorKind::NotADirectory | ErrorKind::InvalidInput => {
+            Missing::NotFound
+        }
+        ErrorKind::PermissionDenied => Missing::Forbidden,
+        ErrorKind::OutOfMemory => Missing::Busy,
+        _ => Missing::Failed,
+    }
+}

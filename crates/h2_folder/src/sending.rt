@@ -1,0 +1,60 @@
+//! A file under way: its octets, part by part.
+
+ghost use Rattle.std.specs.Prelude.{◌≡◌, ◌==◌, IfSome, length};
+ghost use Rattle.h2_folder.specs.Parting.{GivesPart};
+
+use std::io::{Read, Seek, SeekFrom};
+
+/// So many octets of a file that are to be sent, from where it was read.
+#[derive(Drop)]
+pub struct Sending<F> {
+    file: F,
+    left: u64,
+}
+
+impl<F: Read + Seek + Drop> Sending<F> {
+    /// So many octets of a file, from the first of them on, which is counted from 0; none where the
+    /// file can't be read from there.
+    pub fn new(file: F, first: u64, count: u64) -> Option<Sending<F>>
+        ensures { IfSome result (λ sending. sending.left ≡ count) }
+    {
+        let mut file = file;
+        if first > 0 && file.seek(SeekFrom::Start(first)).is_err() {
+            return None;
+        }
+        Some(Sending { file, left: count })
+    }
+}
+
+impl<F: Read> Sending<F> {
+    /// Whether nothing is left.
+    pub fn is_done(&self) -> bool
+        ensures { result ≡ (self.now.left == 0) }
+    {
+        self.left == 0
+    }
+
+    // contract: hosts (own) A file is sent in parts, as many octets as its head says
+    // rule: hosts (own) A file is sent in parts, as many octets as its head says
+    /// Puts the next octets to the front of a room, and answers how many: none only where the room
+    /// is empty or nothing is left. `None` where the file can't be read, or is shorter than it was.
+    pub fn next_part(&mut self, room: &mut [u8]) -> Option<usize>
+        ensures part { IfSome result (GivesPart (F.remaining self.old.file)
+            (F.remaining self.new.file) self.old.left self.new.left room.new) }
+        ensures room { length room.new ≡ length room.old }
+    {
+        let most = usize::try_from(self.left)
+            .unwrap_or(usize::MAX)
+            .min(room.len());
+        if most == 0 {
+            return Some(0);
+        }
+        match self.file.read(&mut room[..most]) {
+            Ok(0) | Err(_) => None,
+            Ok(count) => {
+                self.left = self.left.saturating_sub(count as u64);
+                Some(count)
+            }
+        }
+    }
+}

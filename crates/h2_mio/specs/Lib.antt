@@ -1,0 +1,4 @@
+pub mod DriverRuns
+pub mod Moving
+pub mod SocketPlaces
+pub mod Waits

@@ -1,0 +1,19 @@
+-- What a read or a write of a socket came to.
+use Rattle.std.specs.Prelude.{◌≤◌, ℕ}
+use Rattle.std.specs.declared.io.ErrorKind.{ErrorKind}
+use Rattle.std.specs.declared.io.ErrorKind.TheVariants as kinds
+use Rattle.h2_mio.specs.declared.moved.Moved.{Moved}
+use Rattle.h2_mio.specs.declared.moved.Moved.TheVariants.{Octets, Nothing, Broken}
+
+-- So many octets were moved, one at least, and no more than there was room for.
+abbrev pub MovesWithin : (room : ℕ) → Moved → Type 0
+MovesWithin room (Octets count) = (1 ≤ count) × (count ≤ room)
+MovesWithin room other = Unit {0}
+
+-- What a read or a write came to that has failed: it may go on later where the socket would have
+-- waited, or a signal came in between; every other error is its end.
+-- rule: hosts (own) A socket that would wait is asked again; one that fails is closed
+abbrev pub moved_at : ErrorKind → Moved
+moved_at kinds.WouldBlock = Nothing
+moved_at kinds.Interrupted = Nothing
+moved_at kind = Broken

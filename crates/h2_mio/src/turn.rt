@@ -1,0 +1,124 @@
+//! The turn of one connection: what it reads, does and writes.
+
+ghost use Rattle.std.specs.Prelude.{◌≡◌, length};
+ghost use Rattle.h2_mio.specs.DriverRuns.{MakesOwnSteps};
+
+use crate::moved::{Moved, read_once, write_once};
+use crate::sockets::Socket;
+use h2_host::{Answer, Host, MOST_TAKEN, Own, Party, Reply, Step, Token};
+use std::io::{Read, Write};
+
+/// Whether a connection goes on.
+#[derive(Clone, Copy, Debug, PartialEq, Eq)]
+pub(crate) enum Fate {
+    /// It does.
+    Goes,
+    /// It is over: its socket is to be closed.
+    Over,
+}
+
+// contract: hosts (own) In a turn a driver makes steps of one connection alone
+// rule: hosts (own) In a turn a driver makes steps of one connection alone
+/// Gives a connection the turn that is its own: octets are read once where it takes some, it does
+/// what it has to, and its output is written until the socket takes no more or the turn is over.
+pub(crate) fn give_turn<P: Party, S: Read + Write>(
+    host: &mut Host<P>,
+    token: Token,
+    socket: &mut Socket<S>,
+    input: &mut [u8],
+) -> Fate
+    ensures run { MakesOwnSteps P.steps P.held_of token host.new host.old }
+    ensures input { length input.new ≡ length input.old }
+{
+    if take_input(host, token, socket, input) == Fate::Over {
+        return last_words(host, token, &mut socket.stream);
+    }
+    if own_step(host, token, Own::Turn) == Fate::Over {
+        return last_words(host, token, &mut socket.stream);
+    }
+    write_output(host, token, &mut socket.stream)
+}
+
+/// Reads once what the connection takes in a turn, if it takes anything. Where fewer octets come
+/// than there is room for, no more wait, unless the peer has ended its side.
+fn take_input<P: Party, S: Read + Write>(
+    host: &mut Host<P>,
+    token: Token,
+    socket: &mut Socket<S>,
+    input: &mut [u8],
+) -> Fate
+    ensures run { MakesOwnSteps P.steps P.held_of token host.new host.old }
+    ensures input { length input.new ≡ length input.old }
+{
+    if !host.wants_input(token) {
+        return Fate::Goes;
+    }
+    let most = input.len().min(MOST_TAKEN);
+    let room = &mut input[..most];
+    match read_once(&mut socket.stream, room) {
+        Moved::Octets(count) => {
+            let step = Step::Own {
+                token,
+                own: Own::Came,
+            };
+            let fate = fate_of(host.step(step, &room[..count]));
+            if fate == Fate::Over || count == most || socket.hung_up {
+                return fate;
+            }
+            own_step(host, token, Own::NoneCame)
+        }
+        Moved::Nothing => own_step(host, token, Own::NoneCame),
+        Moved::Ended => own_step(host, token, Own::Ended),
+        Moved::Broken => Fate::Over,
+    }
+}
+
+/// Writes the output of a connection from where it lies, in two writes at most.
+fn write_output<P: Party, S: Write>(host: &mut Host<P>, token: Token, stream: &mut S) -> Fate
+    ensures run { MakesOwnSteps P.steps P.held_of token host.new host.old }
+{
+    for _ in 0..2 {
+        let (first, second) = host.output(token);
+        let octets = if first.is_empty() { second } else { first };
+        if octets.is_empty() {
+            return Fate::Goes;
+        }
+        let length = octets.len();
+        match write_once(stream, octets) {
+            Moved::Octets(count) => {
+                if own_step(host, token, Own::Went { count }) == Fate::Over {
+                    return Fate::Over;
+                }
+                if count < length {
+                    return own_step(host, token, Own::NoneWent);
+                }
+            }
+            Moved::Nothing => return own_step(host, token, Own::NoneWent),
+            Moved::Ended | Moved::Broken => return Fate::Over,
+        }
+    }
+    Fate::Goes
+}
+
+/// Writes what a connection that is over has to say, as a GOAWAY, as far as it goes at once.
+fn last_words<P: Party, S: Write>(host: &mut Host<P>, token: Token, stream: &mut S) -> Fate
+    ensures run { MakesOwnSteps P.steps P.held_of token host.new host.old }
+{
+    let _ = write_output(host, token, stream);
+    Fate::Over
+}
+
+/// Makes a step of a connection that has no octets.
+pub(crate) fn own_step<P: Party>(host: &mut Host<P>, token: Token, own: Own) -> Fate
+    ensures run { MakesOwnSteps P.steps P.held_of token host.new host.old }
+{
+    fate_of(host.step(Step::Own { token, own }, &[]))
+}
+
+/// Whether a connection goes on that was answered so.
+fn fate_of<P: Drop>(reply: Reply<P>) -> Fate {
+    match reply {
+        Reply::Own(Answer::Goes) | Reply::NotNow => Fate::Goes,
+        _ => Fate::Over,
+    }
+}
