@@ -174,6 +174,7 @@ SECTIONS = {
     "handlers": "Handlers of requests, and a server that they answer for",
     "show": "The program's h2 show",
     "follow": "The program's h2 show --follow",
+    "sides": "The program's h2 show --client FILE --server FILE",
     "replay": "A replay, and the program's h2 replay",
     "messages": "The program's h2 replay --messages",
     "c": "The functions for programs in C",

@@ -7,13 +7,13 @@ _h2() {
         case "${COMP_WORDS[1]} $before" in
             'show --from') words='client server' ;;
             'show --max-frame') words='16384 65536 1048576' ;;
-            'show --color') words='always never' ;;
-            'show '*) words='--hex --from --max-frame --follow --file --names --offsets --color --json --help' ;;
+            'show --color') words='always never auto' ;;
+            'show '*) words='--hex --from --max-frame --follow --file --names --offsets --color --json --client --server --help' ;;
             'replay --as') words='client server' ;;
             'replay '*) words='--hex --as --messages --help' ;;
             'serve '*) words='--help' ;;
             'get '*) words='--include --header --request --data --fail --port --help' ;;
-            'loop '*) words='--help' ;;
+            'loop '*) words='--each-way --help' ;;
         esac
     fi
     COMPREPLY=($(compgen -W "$words" -- "$word"))

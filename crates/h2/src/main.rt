@@ -1,6 +1,7 @@
 //! The program `h2`: tools for HTTP/2 over cleartext.
 #![tactic(auto)]
 
+use std::io::IsTerminal;
 use std::process::ExitCode;
 use std::{env, io};
 
@@ -10,6 +11,7 @@ fn main(rt: HostRuntime) -> ExitCode {
             &rt,
             rt.alloc(),
             words.as_slice(),
+            has_colors(&rt),
             &mut rt.stdin(),
             &mut rt.stdout(),
             &mut rt.stderr(),
@@ -17,6 +19,16 @@ fn main(rt: HostRuntime) -> ExitCode {
         Err(error) => h2_tool::no_words(&error, &mut rt.stderr()),
     };
     ExitCode::from(status.code())
+}
+
+// Whether `--color auto` has colors: standard output is a terminal, and NO_COLOR isn't set, or is
+// empty (no-color.org).
+fn has_colors(rt: &HostRuntime) -> bool {
+    let forbids = match env::var(rt, "NO_COLOR") {
+        Ok(value) => !value.is_empty(),
+        Err(_) => false,
+    };
+    rt.stdout().is_terminal() && !forbids
 }
 
 // The words after the program's name.

@@ -10,7 +10,7 @@ pub show_is_alone : (names : ShowNames) → IsAlone (show_app names)
 show_is_alone names = record { ready = refl; leaves = refl; free = refl; negates = refl }
 
 -- the third argument of `show` alone is its limit of payloads
-only_limit : (names : ShowNames) (j : ℕ) (d : Rule) → j < 9
+only_limit : (names : ShowNames) (j : ℕ) (d : Rule) → j < 11
     → bytes_eq (slice_index_or (show_app names).top.rules j d).id (codes "max-frame") ≡ true → j ≡ 2
 only_limit names zero d lt same = cc
 only_limit names (suc zero) d lt same = cc
@@ -21,7 +21,9 @@ only_limit names (suc (suc (suc (suc (suc zero))))) d lt same = cc
 only_limit names (suc (suc (suc (suc (suc (suc zero)))))) d lt same = cc
 only_limit names (suc (suc (suc (suc (suc (suc (suc zero))))))) d lt same = cc
 only_limit names (suc (suc (suc (suc (suc (suc (suc (suc zero)))))))) d lt same = cc
-only_limit names (suc (suc (suc (suc (suc (suc (suc (suc (suc j))))))))) d lt same =
+only_limit names (suc (suc (suc (suc (suc (suc (suc (suc (suc zero))))))))) d lt same = cc
+only_limit names (suc (suc (suc (suc (suc (suc (suc (suc (suc (suc zero)))))))))) d lt same = cc
+only_limit names (suc (suc (suc (suc (suc (suc (suc (suc (suc (suc (suc j))))))))))) d lt same =
     absurd (omega arith)
 
 pub show_names_limit : (names : ShowNames)
@@ -152,6 +154,13 @@ serve_wants_count = record {
 pub loop_is_alone : IsAlone loop_app
 loop_is_alone = record { ready = refl; leaves = refl; free = refl; negates = refl }
 
+-- the first argument of `loop` alone is its number of octets
+only_octets : (j : ℕ) (d : Rule) → j < 2
+    → bytes_eq (slice_index_or loop_app.top.rules j d).id (codes "N") ≡ true → j ≡ 0
+only_octets zero d lt same = refl
+only_octets (suc zero) d lt same = cc
+only_octets (suc (suc j)) d lt same = absurd (omega arith)
+
 pub loop_wants_number : IsRequiredAt loop_app 0 (number_rule (codes "N") 0 1048576)
 loop_wants_number = record {
   inside = lit< tt;
@@ -160,7 +169,7 @@ loop_wants_number = record {
   action = refl;
   range = refl;
   simple = refl;
-  unique = λ j d lt same. omega arith;
+  unique = only_octets;
   named = refl;
   own = refl;
 }

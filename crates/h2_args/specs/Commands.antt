@@ -64,11 +64,13 @@ flag_rule name = record (new_rule name) { long = Some name; action = Some SetTru
 
 -- the words that say when there are colors
 abbrev pub AreColorWords : SideNames → Type 0
-AreColorWords names = map (λ name. name.now) names.now ≡ codes "always" ∷ codes "never" ∷ []
+AreColorWords names =
+    map (λ name. name.now) names.now ≡ codes "always" ∷ codes "never" ∷ codes "auto" ∷ []
 
 -- these words where they stand at no place in memory
 abbrev pub color_words : SideNames
-color_words = at_no_place (at_no_place (codes "always") ∷ at_no_place (codes "never") ∷ [])
+color_words = at_no_place
+    (at_no_place (codes "always") ∷ at_no_place (codes "never") ∷ at_no_place (codes "auto") ∷ [])
 
 -- the option of colors
 -- rule: show (own) The words choose names, places, colors and JSON
@@ -84,8 +86,8 @@ abbrev pub IsColorRule : Rule → Type 0
 IsColorRule rule = (names : SideNames) × AreColorWords names × (rule ≡ color_rule names)
 
 -- an option whose value is any text, without a letter
-abbrev pub file_rule : Rule
-file_rule = record (new_rule (codes "file")) { long = Some (codes "file"); value_names = 1 }
+abbrev pub path_rule : Text → Rule
+path_rule name = record (new_rule name) { long = Some name; value_names = 1 }
 
 -- The sides, and the words of colors, as the parsers of `show` lend them.
 abbrev pub ShowNames : Type 0
@@ -112,13 +114,20 @@ shown_input_app names = with_rule
 -- `show [--file FILE] [--names] [--offsets] [--color WHEN] [--json]` beside these
 -- rule: show (own) The words choose names, places, colors and JSON
 -- rule: show (own) With --file the input is that of a file
-abbrev pub show_app : ShowNames → App
-show_app names = with_rule
+abbrev pub styled_app : ShowNames → App
+styled_app names = with_rule
     (with_rule
     (with_rule
-    (with_rule (with_rule (shown_input_app names.0) file_rule) (flag_rule (codes "names")))
+    (with_rule (with_rule (shown_input_app names.0) (path_rule (codes "file")))
+    (flag_rule (codes "names")))
     (flag_rule (codes "offsets")))
     (color_rule names.1)) (flag_rule (codes "json"))
+
+-- `show [--client FILE] [--server FILE]` beside all of these
+-- rule: sides (own) --client and --server go together, and without --file
+abbrev pub show_app : ShowNames → App
+show_app names = with_rule (with_rule (styled_app names) (path_rule (codes "client")))
+    (path_rule (codes "server"))
 
 -- `show --follow [--max-frame N]`
 -- rule: follow (own) The word --follow excludes --hex and --from
@@ -129,6 +138,10 @@ follow_app = with_rule (with_rule (named_app (codes "show")) follow_rule)
 -- the command is `show`
 abbrev pub IsShowCommand : App → Type 0
 IsShowCommand a = (names : ShowNames) × AreShowNames names × (a ≡ show_app names)
+
+-- the command is `show` without the files of both sides
+abbrev pub IsStyledCommand : App → Type 0
+IsStyledCommand a = (names : ShowNames) × AreShowNames names × (a ≡ styled_app names)
 
 -- the command is `show` with its first options
 abbrev pub IsShownInputCommand : App → Type 0
@@ -201,10 +214,11 @@ get_app = with_rule
     (flag_rule (codes "fail")))
     (number_option_rule (codes "port") 1 65535)
 
--- `loop N`, from 0 to 1,048,576
+-- `loop N [--each-way]`; the number is from 0 to 1,048,576
 -- rule: engines (own) serve, get and loop have their words
 abbrev pub loop_app : App
-loop_app = with_rule (named_app (codes "loop")) (number_rule (codes "N") 0 1048576)
+loop_app = with_rule (with_rule (named_app (codes "loop")) (number_rule (codes "N") 0 1048576))
+    (flag_rule (codes "each-way"))
 
 -- `h2` with any words: it has a version
 abbrev pub named_program : App

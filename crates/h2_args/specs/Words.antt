@@ -1,6 +1,6 @@
 -- What the words after a command's name give.
 use Rattle.std.specs.Prelude.{◌≡◌, ℕ, Bool, false, List, Option, Some, None, []}
-use Rattle.std.specs.Prelude.{◌||◌, if◌then◌else◌, codes, map, option_map, unwrap_or}
+use Rattle.std.specs.Prelude.{◌||◌, ◌&&◌, if◌then◌else◌, codes, map, option_map, unwrap_or}
 use Rattle.std.specs.List.{list_any}
 use Rattle.std.specs.Str.{bytes_eq}
 use Rattle.std.specs.Str.Parse.{digits_value, without_leading_plus}
@@ -20,6 +20,7 @@ use Rattle.h2_args.specs.Commands.{AreShowNames, ShowNames}
 use Rattle.h2_args.specs.declared.show.ShowWords.{ShowWords}
 use Rattle.h2_args.specs.Commands.{follow_app, serve_app, get_app, loop_app}
 use Rattle.h2_args.specs.declared.get.GetOptions.{GetOptions}
+use Rattle.h2_args.specs.declared.sockets.LoopOptions.{LoopOptions}
 use Rattle.h2_args.specs.declared.sockets.ServeOptions.{ServeOptions}
 
 -- What the command's matches of the words give, where clap lists no fault of these words.
@@ -52,19 +53,25 @@ style_of json names places colors =
     Marked (record { names = names; places = places; colors = colors })
     else Plain
 
-abbrev pub style_in : List Row → Style
-style_in rows = style_of (is_set (one_of (codes "json") rows)) (is_set (one_of (codes "names") rows))
-    (is_set (one_of (codes "offsets") rows))
-    (has_value (codes "always") (first_of (codes "color") rows))
+-- whether there are colors, by the value of `--color`; `colored` says what `auto` stands for
+-- rule: show (own) With --color auto there are colors where the output is a terminal
+abbrev pub colors_of : (colored : Bool) → Option Text → Bool
+colors_of colored value =
+    has_value (codes "always") value || colored && has_value (codes "auto") value
+
+abbrev pub style_in : (colored : Bool) → List Row → Style
+style_in colored rows = style_of (is_set (one_of (codes "json") rows))
+    (is_set (one_of (codes "names") rows)) (is_set (one_of (codes "offsets") rows))
+    (colors_of colored (first_of (codes "color") rows))
 
 -- What the matches of `show` say. Payloads have at most 16,384 octets where no number is given.
 -- rule: show (own) The words choose the limit of payloads
-abbrev pub show_options_in : List Row → ShowOptions
-show_options_in rows = record {
+abbrev pub show_options_in : (colored : Bool) → List Row → ShowOptions
+show_options_in colored rows = record {
   hex = is_set (one_of (codes "hex") rows);
   from = if has_value (codes "server") (first_of (codes "from") rows) then Server else Client;
   max_frame = number_or 16384 (one_of (codes "max-frame") rows);
-  style = style_in rows;
+  style = style_in colored rows;
 }
 
 -- the file that is read, where the value names one: `-` is standard input
@@ -73,23 +80,28 @@ abbrev pub file_of : Option Text → Option Text
 file_of None = None
 file_of (Some text) = if bytes_eq text (codes "-") then None else Some text
 
--- What the words after `show` ask for: how the input is shown, and the file that has it, where it is
--- not standard input.
+-- What the words after `show` ask for: how the input is shown, the file that has it, where it is not
+-- standard input, and the files that have the octets of both sides, where they are given.
 -- rule: show (own) With --file the input is that of a file
+-- rule: sides (own) --client and --server go together, and without --file
 pub record ShowAsked : Type 0 where
   pub options : ShowOptions
   pub file : Option Text
+  pub client : Option Text
+  pub server : Option Text
 
-abbrev pub show_asked_in : List Row → ShowAsked
-show_asked_in rows = record {
-  options = show_options_in rows;
+abbrev pub show_asked_in : (colored : Bool) → List Row → ShowAsked
+show_asked_in colored rows = record {
+  options = show_options_in colored rows;
   file = file_of (first_of (codes "file") rows);
+  client = first_of (codes "client") rows;
+  server = first_of (codes "server") rows;
 }
 
 -- What the words after `show` ask for, if they have no fault.
 -- rule: show (own) The words choose the end and hexadecimal
-abbrev pub show_asked_of : ShowNames → List Text → Option ShowAsked
-show_asked_of names = given_by (show_app names) show_asked_in
+abbrev pub show_asked_of : (colored : Bool) → ShowNames → List Text → Option ShowAsked
+show_asked_of colored names = given_by (show_app names) (show_asked_in colored)
 
 -- the kinds of error that the words after `show` may have
 -- rule: show (own) The words choose the end and hexadecimal
@@ -98,14 +110,18 @@ show_faults names = fault_of (show_app names)
 
 -- the words after `show` ask for this
 -- rule: show (own) The words choose the end and hexadecimal
-abbrev pub ShowWordsAsk : List Text → ShowAsked → Type 0
-ShowWordsAsk words asked =
-    (names : ShowNames) × AreShowNames names × (show_asked_of names words ≡ Some asked)
+abbrev pub ShowWordsAsk : (colored : Bool) → List Text → ShowAsked → Type 0
+ShowWordsAsk colored words asked =
+    (names : ShowNames) × AreShowNames names × (show_asked_of colored names words ≡ Some asked)
 
 -- what words of the code ask for
 abbrev pub show_asked_by : ShowWords → ShowAsked
-show_asked_by asked =
-    record { options = asked.options; file = option_map (λ file. file.now) asked.file }
+show_asked_by asked = record {
+  options = asked.options;
+  file = option_map (λ file. file.now) asked.file;
+  client = option_map (λ file. file.now) asked.client;
+  server = option_map (λ file. file.now) asked.server;
+}
 
 -- the words after `show` have a fault of the error's kind, or memory ran out
 abbrev pub ShowWordsFail : List Text → Error → Type 0
@@ -238,10 +254,18 @@ asked_by options = record {
 abbrev pub get_faults : List Text → Kinds
 get_faults = fault_of get_app
 
--- The number of octets that the words after `loop` give, if they have no fault.
+-- what the matches of `loop` say
+abbrev pub loop_options_in : List Row → LoopOptions
+loop_options_in rows = record {
+  count = number_given (codes "N") rows;
+  each_way = is_set (one_of (codes "each-way") rows);
+}
+
+-- What the words after `loop` give, if they have no fault: the number of octets, and whether
+-- megabytes and seconds are printed.
 -- rule: engines (own) serve, get and loop have their words
-abbrev pub octets_asked : List Text → Option ℕ
-octets_asked = given_by loop_app (number_given (codes "N"))
+abbrev pub loop_options_of : List Text → Option LoopOptions
+loop_options_of = given_by loop_app loop_options_in
 
 -- the kinds of error that the words after `loop` may have
 abbrev pub loop_faults : List Text → Kinds

@@ -19,4 +19,4 @@ pub use get::{GetOptions, get_args};
 pub use program::no_command;
 pub use replay::{asks_messages, replay_args};
 pub use show::{ShowWords, show_args};
-pub use sockets::{MOST_POSTED, ServeOptions, loop_args, serve_args};
+pub use sockets::{LoopOptions, MOST_POSTED, ServeOptions, loop_args, serve_args};

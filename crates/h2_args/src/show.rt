@@ -3,10 +3,10 @@
 ghost use Rattle.std.specs.Prelude.{◌≡◌, ◌≤◌, IfErr, IfOk, codes, false, map, pos, string_bytes};
 ghost use Rattle.std.specs.Prelude.{Some, option_map};
 ghost use Rattle.clap.specs.Words.{app_of, first_of, found_of, rows_of, rule_of};
-ghost use Rattle.h2_args.specs.Commands.{IsColorRule, IsShowCommand, IsShownInputCommand, file_rule};
-ghost use Rattle.h2_args.specs.Commands.{number_option_rule};
-ghost use Rattle.h2_args.specs.Words.{ShowWordsAsk, ShowWordsFail, file_of, show_asked_by};
-ghost use Rattle.h2_args.specs.Words.{show_options_in, style_in, style_of};
+ghost use Rattle.h2_args.specs.Commands.{IsColorRule, IsShowCommand, IsShownInputCommand};
+ghost use Rattle.h2_args.specs.Commands.{IsStyledCommand, number_option_rule, path_rule};
+ghost use Rattle.h2_args.specs.Words.{ShowWordsAsk, ShowWordsFail, colors_of, file_of};
+ghost use Rattle.h2_args.specs.Words.{show_asked_by, show_options_in, style_in, style_of};
 
 use crate::follow::follow_arg;
 use crate::options::{
@@ -25,6 +25,10 @@ pub struct ShowWords<'a> {
     pub options: ShowOptions,
     /// The file that has the input; none for standard input.
     pub file: Option<&'a str>,
+    /// The file that has the octets of the client, where both sides are shown.
+    pub client: Option<&'a str>,
+    /// The file that has those of the server.
+    pub server: Option<&'a str>,
 }
 
 // contract: show (own) The words choose the end and hexadecimal
@@ -33,15 +37,21 @@ pub struct ShowWords<'a> {
 // rule: show (own) The words choose the limit of payloads
 // contract: show (own) The words choose names, places, colors and JSON
 // contract: show (own) With --file the input is that of a file
-/// Reads the words after `show`.
+// contract: show (own) With --color auto there are colors where the output is a terminal
+// contract: sides (own) --client and --server go together, and without --file
+/// Reads the words after `show`; `colored` says whether `--color auto` has colors.
 ///
 /// # Errors
 ///
 /// The kind is `DisplayHelp` where help is asked for, `OutOfMemory` when out of memory, and another
 /// one where a word is wrong. The error's text is for the user.
-pub fn show_args<'a>(alloc: Global, words: &'a [String]) -> Result<ShowWords<'a>, Error>
+pub fn show_args<'a>(
+    alloc: Global,
+    words: &'a [String],
+    colored: bool,
+) -> Result<ShowWords<'a>, Error>
     ensures ok { IfOk result (λ asked.
-        ShowWordsAsk (map string_bytes words.entry.now) (show_asked_by asked)) }
+        ShowWordsAsk colored (map string_bytes words.entry.now) (show_asked_by asked)) }
     ensures least { IfOk result (λ asked. 16384 ≤ asked.options.max_frame) }
     ensures most { IfOk result (λ asked. asked.options.max_frame ≤ 1048576) }
     ensures err { IfErr result (ShowWordsFail (map string_bytes words.entry.now)) }
@@ -49,14 +59,21 @@ pub fn show_args<'a>(alloc: Global, words: &'a [String]) -> Result<ShowWords<'a>
     let command = show_command(alloc)?;
     let matches = command.try_get_matches_from(words)?;
     let max_frame = matches.get_one::<u32>(MAX_FRAME).unwrap_or(LEAST_MAX_FRAME);
-    let options = options_of(&matches, max_frame);
+    let options = options_of(&matches, max_frame, colored);
     let file = file_of(&matches);
-    Ok(ShowWords { options, file })
+    let client = matches.get_str(CLIENT);
+    let server = matches.get_str(SERVER);
+    Ok(ShowWords {
+        options,
+        file,
+        client,
+        server,
+    })
 }
 
 // The options that the matches of `show` give, with this limit of payloads.
-fn options_of(matches: &ArgMatches<'_>, max_frame: u32) -> ShowOptions
-    ensures { result ≡ record (show_options_in (rows_of (found_of matches.now))) {
+fn options_of(matches: &ArgMatches<'_>, max_frame: u32, colored: bool) -> ShowOptions
+    ensures { result ≡ record (show_options_in colored (rows_of (found_of matches.now))) {
       max_frame = max_frame;
     } }
 {
@@ -69,20 +86,29 @@ fn options_of(matches: &ArgMatches<'_>, max_frame: u32) -> ShowOptions
         hex: is_set(matches, HEX),
         from,
         max_frame,
-        style: style_in(matches),
+        style: style_in(matches, colored),
     }
 }
 
 // rule: show (own) The words choose names, places, colors and JSON
 // How lines are printed, by the matches of `show`.
-fn style_in(matches: &ArgMatches<'_>) -> Style
-    ensures { result ≡ style_in (rows_of (found_of matches.now)) }
+fn style_in(matches: &ArgMatches<'_>, colored: bool) -> Style
+    ensures { result ≡ style_in colored (rows_of (found_of matches.now)) }
 {
     let json = is_set(matches, JSON);
     let names = is_set(matches, NAMES);
     let places = is_set(matches, OFFSETS);
-    let colors = is_named(matches, COLOR, "always");
-    style_of(json, names, places, colors)
+    style_of(json, names, places, colors_in(matches, colored))
+}
+
+// contract: show (own) With --color auto there are colors where the output is a terminal
+// rule: show (own) With --color auto there are colors where the output is a terminal
+// Whether there are colors, by the matches of `show`.
+fn colors_in(matches: &ArgMatches<'_>, colored: bool) -> bool
+    ensures { result ≡ colors_of colored
+        (first_of (codes "color") (rows_of (found_of matches.now))) }
+{
+    is_named(matches, COLOR, "always") || colored && is_named(matches, COLOR, "auto")
 }
 
 // How lines are printed.
@@ -126,6 +152,15 @@ const FILE: &str = "file";
 const FILE_HELP: &str = r"Read this file, and not standard input; - is standard
 input";
 
+const CLIENT: &str = "client";
+
+const CLIENT_HELP: &str = r"With --server: read the client's octets from this file,
+and show both sides, the client's first";
+
+const SERVER: &str = "server";
+
+const SERVER_HELP: &str = r"With --client: read the server's octets from this file";
+
 const NAMES: &str = "names";
 
 const NAMES_HELP: &str = r"Print settings by name, and names after error codes
@@ -139,7 +174,8 @@ its first octet, counted from 1, in ten digits";
 const COLOR: &str = "color";
 
 const COLOR_HELP: &str = r"Whether types are bold, fields faint and faults red:
-always or never [default: never]";
+always, never, or auto where standard output is a
+terminal and NO_COLOR is not set [default: never]";
 
 const JSON: &str = "json";
 
@@ -185,6 +221,12 @@ of fields and others have none. With --color always the type of a frame is bold,
 its fields are faint, and a fault, `rest N` and `unfinished block` are red. With
 --json each line is an object, in which --names and --offsets change nothing.
 --follow takes none of these.
+
+--client FILE --server FILE shows the octets of both sides, each from its file:
+the client's lines whole, after `> `, and then the server's, after `< `; with
+--json each object begins with its side. In what order the octets of one side
+and of the other came isn't known, so neither is checked by the SETTINGS of the
+other: --max-frame is the limit of both. --from says nothing.
 
 The rules of a connection (`h2 replay` checks them) and those of messages
 (section 8) are not checked.
@@ -246,15 +288,15 @@ pub(super) fn max_frame_arg<'a>(alloc: Global) -> Arg<'a>
         .help(MAX_FRAME_HELP)
 }
 
-// The option of the file as clap has it.
-fn file_arg<'a>(alloc: Global) -> Arg<'a>
-    ensures rule { rule_of result ≡ file_rule }
+// An option of a file as clap has it.
+fn path_arg<'a>(alloc: Global, name: &'a str, help: &'a str) -> Arg<'a>
+    ensures rule { rule_of result ≡ path_rule name.entry.now }
     ensures local { result.global ≡ false }
 {
-    Arg::new(alloc, FILE)
-        .long(FILE)
+    Arg::new(alloc, name)
+        .long(name)
         .value_name("FILE")
-        .help(FILE_HELP)
+        .help(help)
 }
 
 // The option of colors as clap has it.
@@ -265,7 +307,7 @@ fn color_arg<'a>(alloc: Global) -> Arg<'a>
     Arg::new(alloc, COLOR)
         .long(COLOR)
         .value_name("WHEN")
-        .value_parser(["always", "never"].as_slice())
+        .value_parser(["always", "never", "auto"].as_slice())
         // The help says the words, within 80 columns.
         .hide_possible_values(true)
         .help(COLOR_HELP)
@@ -288,14 +330,23 @@ fn shown_input_command<'a>(alloc: Global) -> Result<Command<'a>, AllocError>
         .arg(follow_arg(alloc))
 }
 
-/// The command as clap has it.
-pub(super) fn show_command<'a>(alloc: Global) -> Result<Command<'a>, AllocError>
-    ensures { IfOk result (λ command. IsShowCommand (app_of command)) }
+// The command without the files of both sides.
+fn styled_command<'a>(alloc: Global) -> Result<Command<'a>, AllocError>
+    ensures { IfOk result (λ command. IsStyledCommand (app_of command)) }
 {
     shown_input_command(alloc)?
-        .arg(file_arg(alloc))?
+        .arg(path_arg(alloc, FILE, FILE_HELP))?
         .arg(flag_arg(alloc, NAMES, NAMES_HELP))?
         .arg(flag_arg(alloc, OFFSETS, OFFSETS_HELP))?
         .arg(color_arg(alloc))?
         .arg(flag_arg(alloc, JSON, JSON_HELP))
+}
+
+/// The command as clap has it.
+pub(super) fn show_command<'a>(alloc: Global) -> Result<Command<'a>, AllocError>
+    ensures { IfOk result (λ command. IsShowCommand (app_of command)) }
+{
+    styled_command(alloc)?
+        .arg(path_arg(alloc, CLIENT, CLIENT_HELP))?
+        .arg(path_arg(alloc, SERVER, SERVER_HELP))
 }

@@ -4,9 +4,10 @@ ghost use Rattle.std.specs.Prelude.{◌≡◌, ◌≤◌, IfErr, IfOk, Some, fal
 ghost use Rattle.clap.specs.Words.{HasKind, app_of, rule_of};
 ghost use Rattle.h2_args.specs.Commands.{loop_app, required_rule, serve_app};
 ghost use Rattle.h2_args.specs.Commands.{with_numbers};
-ghost use Rattle.h2_args.specs.Words.{loop_faults, octets_asked, serve_faults, serve_options_of};
+ghost use Rattle.h2_args.specs.Words.{loop_faults, loop_options_of, serve_faults};
+ghost use Rattle.h2_args.specs.Words.{serve_options_of};
 
-use crate::options::{CommandText, named_command};
+use crate::options::{CommandText, flag_arg, is_set, named_command};
 use clap::builder::ValueParser;
 use clap::{Arg, ArgAction, Command, Error, value_parser};
 use h2_frame::limits::GREATEST_BODY;
@@ -22,6 +23,15 @@ pub struct ServeOptions {
     pub port: u16,
     /// The number of connections that are served, from 1 to 65,535.
     pub count: u16,
+}
+
+/// The options of `loop`.
+#[derive(Clone, Copy, Debug, PartialEq, Eq)]
+pub struct LoopOptions {
+    /// The number of octets to post, from 0 to [`MOST_POSTED`].
+    pub count: u32,
+    /// Whether megabytes and seconds are printed.
+    pub each_way: bool,
 }
 
 // contract: engines (own) serve, get and loop have their words
@@ -52,14 +62,15 @@ pub fn serve_args(alloc: Global, words: &[String]) -> Result<ServeOptions, Error
 
 // contract: engines (own) serve, get and loop have their words
 // rule: engines (own) serve, get and loop have their words
-/// Reads the words after `loop`: the number of octets to post, from 0 to [`MOST_POSTED`].
+/// Reads the words after `loop`.
 ///
 /// # Errors
 ///
 /// Those of [`crate::show_args`].
-pub fn loop_args(alloc: Global, words: &[String]) -> Result<u32, Error>
-    ensures ok { IfOk result (λ count. octets_asked (map string_bytes words.now) ≡ Some count) }
-    ensures most { IfOk result (λ count. count ≤ MOST_POSTED) }
+pub fn loop_args(alloc: Global, words: &[String]) -> Result<LoopOptions, Error>
+    ensures ok { IfOk result (λ options.
+        loop_options_of (map string_bytes words.now) ≡ Some options) }
+    ensures most { IfOk result (λ options. options.count ≤ MOST_POSTED) }
     ensures err { IfErr result (HasKind (loop_faults (map string_bytes words.now))) }
 {
     let command = loop_command(alloc)?;
@@ -68,7 +79,8 @@ pub fn loop_args(alloc: Global, words: &[String]) -> Result<u32, Error>
     let Some(count) = matches.get_one::<u32>(OCTETS) else {
         unreachable!();
     };
-    Ok(count)
+    let each_way = is_set(&matches, EACH_WAY);
+    Ok(LoopOptions { count, each_way })
 }
 
 const PORT: &str = "PORT";
@@ -82,6 +94,11 @@ const COUNT_HELP: &str = "How many connections are served, 1 to 65535";
 const OCTETS: &str = "N";
 
 const OCTETS_HELP: &str = "How many octets are posted, 0 to 1048576";
+
+const EACH_WAY: &str = "each-way";
+
+const EACH_WAY_HELP: &str = r"Print the megabytes posted and got, and the seconds that
+it took, on standard error";
 
 /// How `serve` responds, how it ends, and an example.
 const SERVED_AND_STATUSES: &str =
@@ -124,7 +141,8 @@ at most 4096 octets, which the other then reads.
 
 Exit status, with the line on standard error but for 0:
   0  the response has come, and the line `sent N got M status 200` is printed,
-     with M = N + 7
+     with M = N + 7; with --each-way, after it, a line on standard error:
+     `0.070000 MB posted, 0.070007 MB got, 0.004321 s`, of 10^6 octets a MB
   1  `N4 CutOff`: the response isn't complete, and neither end writes any more;
      `N2 Stream CODE` and `N6 Reset CODE` as at `h2 get`
   2  wrong arguments
@@ -192,8 +210,10 @@ pub(super) fn loop_command<'a>(alloc: Global) -> Result<Command<'a>, AllocError>
     let text = CommandText {
         called: "h2 loop",
         about: "Posts octets from a client to a server in one process",
-        usage: "h2 loop N",
+        usage: "h2 loop N [--each-way]",
         more: LOOPED_AND_STATUSES,
     };
-    named_command(alloc, "loop", text)?.arg(number_arg(alloc, OCTETS, lengths(), OCTETS_HELP))
+    named_command(alloc, "loop", text)?
+        .arg(number_arg(alloc, OCTETS, lengths(), OCTETS_HELP))?
+        .arg(flag_arg(alloc, EACH_WAY, EACH_WAY_HELP))
 }

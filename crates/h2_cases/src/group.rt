@@ -9,6 +9,7 @@ use h2_case_ends::{end, engine, pair};
 use std::alloc::Global;
 use std::fs::Files;
 use std::net::Net;
+use std::time::Clock;
 
 /// A group of cases, whose files lie in the folder of its name.
 #[derive(Clone, Copy)]
@@ -92,7 +93,7 @@ impl Group {
 }
 
 /// The answers to a case's commands, up to the first that has none.
-pub(crate) fn run_case<R: Net + Files>(
+pub(crate) fn run_case<R: Net + Files + Clock>(
     rt: &R,
     alloc: Global,
     group: Group,

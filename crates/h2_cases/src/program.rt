@@ -29,6 +29,7 @@ use std::alloc::Global;
 use std::fs::Files;
 use std::io::Read;
 use std::net::Net;
+use std::time::Clock;
 
 /// An input of more octets is not cut at each place.
 const MOST_CUT: usize = 400;
@@ -38,7 +39,7 @@ const MOST_EQUAL: usize = 1_000;
 
 /// The state of a case.
 #[derive(Drop)]
-struct Session<'a, N: Net + Files> {
+struct Session<'a, N: Net + Files + Clock> {
     net: &'a N,
     alloc: Global,
     input: Option<Input>,
@@ -124,8 +125,9 @@ fn add_errors(text: &mut Text, errors: &str) {
     }
 }
 
-// Runs the program, and returns its status. It has no contract, since no case needs one.
-fn run<N: Net + Files, R: Read>(
+// Runs the program, whose output is a terminal, and returns its status. It has no contract, since no
+// case needs one.
+fn run<N: Net + Files + Clock, R: Read>(
     net: &N,
     alloc: Global,
     line: &[String],
@@ -133,7 +135,7 @@ fn run<N: Net + Files, R: Read>(
     out: &mut Vec<u8>,
     err: &mut Vec<u8>,
 ) -> u8 {
-    h2_tool::run(net, alloc, line, input, out, err).code()
+    h2_tool::run(net, alloc, line, true, input, out, err).code()
 }
 
 // Adds what was printed, and a status.
@@ -149,7 +151,7 @@ fn add_printed(text: &mut Text, out: &[u8], err: &[u8], status: u8) {
 }
 
 // What the program prints with these words of an input, and its status.
-fn answer_of<N: Net + Files, R: Read>(
+fn answer_of<N: Net + Files + Clock, R: Read>(
     net: &N,
     alloc: Global,
     line: &[String],
@@ -163,7 +165,7 @@ fn answer_of<N: Net + Files, R: Read>(
 }
 
 // Adds the answer where no input was given.
-fn add_unread<N: Net + Files>(net: &N, alloc: Global, line: &[String], text: &mut Text) {
+fn add_unread<N: Net + Files + Clock>(net: &N, alloc: Global, line: &[String], text: &mut Text) {
     let mut input = Unreadable { was_read: false };
     text.push_text(&answer_of(net, alloc, line, &mut input));
     if input.was_read {
@@ -172,7 +174,7 @@ fn add_unread<N: Net + Files>(net: &N, alloc: Global, line: &[String], text: &mu
 }
 
 // Adds the answer to an input that is read in pieces, if it is another one than the first.
-fn add_other<N: Net + Files>(
+fn add_other<N: Net + Files + Clock>(
     net: &N,
     alloc: Global,
     line: &[String],
@@ -188,7 +190,7 @@ fn add_other<N: Net + Files>(
 }
 
 // Adds the answers that differ where octets are read in two pieces, cut at each place.
-fn add_cut<N: Net + Files>(
+fn add_cut<N: Net + Files + Clock>(
     net: &N,
     alloc: Global,
     line: &[String],
@@ -204,7 +206,7 @@ fn add_cut<N: Net + Files>(
 }
 
 // Adds the answer that differs where octets are read as hexadecimal text.
-fn add_hexadecimal<N: Net + Files>(
+fn add_hexadecimal<N: Net + Files + Clock>(
     net: &N,
     alloc: Global,
     line: &[String],
@@ -224,7 +226,7 @@ fn add_hexadecimal<N: Net + Files>(
 }
 
 // Adds the answer to words, and those that differ where the input is read otherwise.
-fn add_answers<N: Net + Files>(
+fn add_answers<N: Net + Files + Clock>(
     net: &N,
     alloc: Global,
     input: &Input,
@@ -278,7 +280,7 @@ fn add_exchange<N: Net>(net: &N, alloc: Global, count: u32, text: &mut Text) {
     }
 }
 
-impl<N: Net + Files> Session<'_, N> {
+impl<N: Net + Files + Clock> Session<'_, N> {
     // Adds to the input.
     fn add_input(&mut self, words: &mut Words<'_>) {
         match &mut self.input {
@@ -300,7 +302,7 @@ impl<N: Net + Files> Session<'_, N> {
     }
 }
 
-impl<N: Net + Files> Driver for Session<'_, N> {
+impl<N: Net + Files + Clock> Driver for Session<'_, N> {
     fn answer(&mut self, name: &str, words: &mut Words<'_>, text: &mut Text) {
         match name {
             "input" => self.input = Some(Input::read(self.alloc, words)),
@@ -314,7 +316,7 @@ impl<N: Net + Files> Driver for Session<'_, N> {
 }
 
 /// The answers to a case's commands, up to the first that has none.
-pub(crate) fn run_case<N: Net + Files>(net: &N, alloc: Global, case: &Case) -> Vec<Answer> {
+pub(crate) fn run_case<N: Net + Files + Clock>(net: &N, alloc: Global, case: &Case) -> Vec<Answer> {
     let session = Session {
         net,
         alloc,

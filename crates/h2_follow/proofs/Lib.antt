@@ -6,5 +6,6 @@ pub mod StretchLemmas
 mod Names
 pub mod PeakLemmas
 pub mod SideLemmas
+mod SidesLemmas
 mod TextLemmas
 pub mod examples

@@ -5,3 +5,4 @@ pub mod Unchecked
 pub mod Stretches
 pub mod Follows
 pub mod Follower
+pub mod Sides

@@ -314,7 +314,7 @@ fn hint_with(hint: Option<FollowHint>, is_noted: bool) -> Option<FollowHint> {
 // contract: follow (own) The status is 0 only where both sides are good to their ends
 // rule: follow (own) The status is 0 only where both sides are good to their ends
 // The status of both sides.
-fn both(client: Status, server: Status) -> Status
+pub(crate) fn both(client: Status, server: Status) -> Status
     ensures { result ≡ status_of_both client server }
 {
     match (client, server) {

@@ -2,6 +2,7 @@
 //!
 //! [`follow_input`] reads the text of `tshark -q -z follow,tcp,raw,N` from any reader and prints to
 //! any writer, so tests run it in memory. Each direction is shown as `h2_show` shows one stream.
+//! [`show_sides`] shows both sides of two inputs, each with the octets of one.
 #![tactic(auto)]
 
 mod follow;
@@ -12,9 +13,11 @@ mod marks;
 mod noting;
 mod one_side;
 mod peaks;
+mod sides;
 mod text;
 
 pub use follow::{FollowOptions, Followed, Unfollowed, follow_input};
 pub use h2_cli::{Failure, Status};
 pub use h2_show::Side;
 pub use hint::FollowHint;
+pub use sides::show_sides;

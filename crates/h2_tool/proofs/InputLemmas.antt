@@ -24,9 +24,11 @@ use Rattle.h2_follow.specs.declared.follow.Followed.{Followed}
 use Rattle.h2_follow.specs.declared.follow.Unfollowed.{Unfollowed}
 use Rattle.h2_follow.specs.Follows.{FollowsToBadLine, status_of_both}
 use Rattle.h2_args.specs.Words.{follow_options_of}
+use Rattle.h2_follow.specs.Sides.{HasBadHex}
+use Rattle.h2_tool.specs.Commands.{PrintsSides, ShowsAsked, SidesSo}
 use Rattle.h2_tool.specs.Commands.{EndsShowOne, EndsFollow, EndsReplayOne, EndsMessages, FollowsSo}
 use Rattle.h2_tool.specs.Commands.{MessagesSo, PrintsBoth, PrintsOfMessages, PrintsToBadLine}
-use Rattle.h2_tool.specs.Commands.{ReplaysSo, ShowsFile, ShowsSo}
+use Rattle.h2_tool.specs.Commands.{ReplaysSo, ShowsSo}
 
 -- No input has the status of wrong words.
 no_usage : (hex : Bool) (options : ShowOptions) (given : List ℕ)
@@ -79,27 +81,65 @@ input_ends_so options remaining before after (Err failure) status reports shows 
     subst (ShowsSo options remaining before after) (sym so)
     (bad_hex_shown options remaining before after failure (λ is. bad (ap Err is)))
 
--- So `show` ends with standard input,
-pub show_ends_so : (asked : ShowAsked) (words : List (List ℕ))
-    (remaining left before after : Option (List ℕ)) (status : Status) → ShowWordsAsk words asked
-    → asked.file ≡ None → ShowsSo asked.options remaining before after status
-    → EndsShowOne words remaining left before after status
-show_ends_so asked words remaining left before after status given none so = inl (record {
+-- So `show` ends with what is asked for.
+pub show_ends_so : (colored : Bool) (asked : ShowAsked) (words : List (List ℕ))
+    (remaining left before after : Option (List ℕ)) (status : Status)
+    → ShowWordsAsk colored words asked → ShowsAsked asked remaining left before after status
+    → EndsShowOne colored words remaining left before after status
+show_ends_so colored asked words remaining left before after status given so = inl (record {
   asked = asked;
   given = given;
-  so = rw none so;
+  so = so;
 })
 
--- and with a file.
-pub show_ends_with_file : (asked : ShowAsked) (words : List (List ℕ)) (file : List ℕ)
-    (remaining left before after : Option (List ℕ)) (status : Status) → ShowWordsAsk words asked
-    → asked.file ≡ Some file → ShowsFile asked.options remaining left before after status
-    → EndsShowOne words remaining left before after status
-show_ends_with_file asked words file remaining left before after status given some so = inl (record {
-  asked = asked;
-  given = given;
-  so = rw some so;
-})
+-- Two sides have no status of wrong words.
+no_usage_of_both : (client server : Status) → Usage ≡ status_of_both client server → ⊥
+no_usage_of_both Good Good same = cc
+no_usage_of_both Good Fault same = cc
+no_usage_of_both Good Usage same = cc
+no_usage_of_both Good Device same = cc
+no_usage_of_both Good Memory same = cc
+no_usage_of_both Fault server same = cc
+no_usage_of_both Usage server same = cc
+no_usage_of_both Device server same = cc
+no_usage_of_both Memory server same = cc
+
+-- The inputs of both sides were shown.
+sides_so : (options : ShowOptions) (client server before after : Option (List ℕ))
+    (status : Status) → PrintsSides options client server before after status
+    → SidesSo options client server before after status
+sides_so options client server before after Good prints = prints
+sides_so options client server before after Fault prints = prints
+sides_so options None server before after Usage prints = tt
+sides_so options (Some one) None before after Usage prints = tt
+sides_so options (Some one) (Some two) before after Usage prints =
+    absurd (no_usage_of_both prints.1.client_status prints.1.server_status prints.1.both)
+sides_so options client server before after Device prints = tt
+sides_so options client server before after Memory prints = tt
+
+-- They were not.
+bad_hex_of_sides : (options : ShowOptions) (client server before after : Option (List ℕ))
+    (failure : Failure) → (failure ≡ failures.BadHex → HasBadHex options client server)
+    → SidesSo options client server before after (failure_status failure)
+bad_hex_of_sides options client server before after failures.Device bad = tt
+bad_hex_of_sides options client server before after failures.Memory bad = tt
+bad_hex_of_sides options None server before after failures.BadHex bad = tt
+bad_hex_of_sides options (Some one) None before after failures.BadHex bad = tt
+bad_hex_of_sides options (Some one) (Some two) before after failures.BadHex bad = bad refl
+
+-- So showing the inputs of both sides ends with what came of them.
+pub sides_end_so : (options : ShowOptions) (client server before after : Option (List ℕ))
+    (shown : Result Shown Failure) (status : Status)
+    → IfOk shown (λ one. PrintsSides options client server before after one.status)
+    → (shown ≡ Err failures.BadHex → HasBadHex options client server)
+    → MatchResult shown (λ one. status ≡ one.status) (λ failure. status ≡ failure_status failure)
+    → SidesSo options client server before after status
+sides_end_so options client server before after (Ok one) status prints bad so =
+    subst (SidesSo options client server before after) (sym so)
+    (sides_so options client server before after one.status prints)
+sides_end_so options client server before after (Err failure) status prints bad so =
+    subst (SidesSo options client server before after) (sym so)
+    (bad_hex_of_sides options client server before after failure (λ is. bad (ap Err is)))
 
 -- The input was replayed.
 replays_so : (options : ReplayOptions) (remaining : Option (List ℕ)) (status : Status)
@@ -231,20 +271,9 @@ follows_so options remaining before after Fault prints = prints
 follows_so options None before after Usage prints = tt
 follows_so options (Some text) before after Usage prints = absurd (no_usage_followed prints)
   where
-    by : (client server : Status) → Usage ≡ status_of_both client server → ⊥
-    by Good Good same = cc
-    by Good Fault same = cc
-    by Good Usage same = cc
-    by Good Device same = cc
-    by Good Memory same = cc
-    by Fault server same = cc
-    by Usage server same = cc
-    by Device server same = cc
-    by Memory server same = cc
-
     no_usage_followed : PrintsBoth options text before after Usage → ⊥
     no_usage_followed prints =
-        by prints.1.2.client_status prints.1.2.server_status prints.1.2.ended
+        no_usage_of_both prints.1.2.client_status prints.1.2.server_status prints.1.2.ended
 follows_so options remaining before after Device prints = tt
 follows_so options remaining before after Memory prints = tt
 

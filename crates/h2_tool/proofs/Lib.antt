@@ -3,3 +3,4 @@ pub mod InputLemmas
 pub mod ProgramLemmas
 pub mod GetLemmas
 pub mod SocketLemmas
+mod RateLemmas

@@ -1,5 +1,5 @@
 -- How words that give no options end.
-use Rattle.std.proofs.Common.{◌≡◌, ◌⊎◌, inl, inr, ℕ, List, Option, refl, subst}
+use Rattle.std.proofs.Common.{◌≡◌, ◌⊎◌, inl, inr, Bool, ℕ, List, Option, refl, subst}
 use Rattle.clap.specs.Words.{HasKind, IsAmong, Kinds, kind_of}
 use Rattle.clap.specs.declared.error.Error.{Error}
 use Rattle.clap.specs.declared.error.kind.ErrorKind.{ErrorKind}
@@ -48,11 +48,11 @@ ends_by_words error faults before after Device has (inr wrong) =
 ends_by_words error faults before after Memory has answers = answers.1
 
 -- `show`
-pub show_fails : (words : List (List ℕ)) (remaining before after : Option (List ℕ)) (error : Error)
-    (status : Status) → ShowWordsFail words error
-    → AnswersWords (kind_of error) before after status
-    → EndsShowOne words remaining remaining before after status
-show_fails words remaining before after error status fails answers = inr (
+pub show_fails : (colored : Bool) (words : List (List ℕ))
+    (remaining before after : Option (List ℕ)) (error : Error) (status : Status)
+    → ShowWordsFail words error → AnswersWords (kind_of error) before after status
+    → EndsShowOne colored words remaining remaining before after status
+show_fails colored words remaining before after error status fails answers = inr (
   _,
   (fails.0, fails.1, refl),
   refl,

@@ -1,7 +1,7 @@
 -- What the commands of `h2` do, by the words that follow their names and the status with which they
 -- end.
 use Rattle.std.specs.Prelude.{◌≡◌, ◌≢◌, ◌⊎◌, ℕ, Bool, true, false, List, [], ◌∷◌, Option, Some}
-use Rattle.std.specs.Prelude.{Result, Ok, Err, IfSome, MatchBool, MatchOption, codes}
+use Rattle.std.specs.Prelude.{None, Result, Ok, Err, IfSome, MatchBool, codes}
 use Rattle.std.specs.Io.KnownBytes.{Appends}
 use Rattle.clap.specs.Words.{IsAmong, Kinds}
 use Rattle.clap.specs.declared.error.kind.ErrorKind.{ErrorKind}
@@ -14,6 +14,7 @@ use Rattle.h2_show.specs.Shown.{ShowsInput}
 use Rattle.h2_follow.specs.declared.follow.FollowOptions.{FollowOptions}
 use Rattle.h2_follow.specs.declared.hint.FollowHint.{FollowHint}
 use Rattle.h2_follow.specs.Follows.{FollowsText, FollowsToBadLine}
+use Rattle.h2_follow.specs.Sides.{HasBadHex, ShowsSides}
 use Rattle.h2_events.specs.declared.options.ReplayOptions.{ReplayOptions}
 use Rattle.h2_events.specs.Report.{ReplayReportsInput}
 use Rattle.h2_conn.specs.declared.why.Why.{Why}
@@ -22,7 +23,8 @@ use Rattle.h2_args.specs.Commands.{AreSides, SideNames, AreShowNames, ShowNames}
 use Rattle.h2_args.specs.Words.{ShowAsked, ShowWordsAsk, show_faults, ReplayWordsGive}
 use Rattle.h2_args.specs.Words.{replay_faults}
 use Rattle.h2_args.specs.Words.{serve_options_of, serve_faults, GetWords, get_words_of, get_faults}
-use Rattle.h2_args.specs.Words.{octets_asked, asks_messages}
+use Rattle.h2_args.specs.Words.{loop_options_of, asks_messages}
+use Rattle.h2_args.specs.declared.sockets.LoopOptions.{LoopOptions}
 use Rattle.h2_args.specs.Words.{asks_follow, follow_options_of, follow_faults}
 use Rattle.h2_args.specs.Words.{loop_faults, program_faults}
 use Rattle.h2_args.specs.declared.sockets.ServeOptions.{ServeOptions}
@@ -121,6 +123,12 @@ ShowsSo options remaining before after Usage =
 ShowsSo options remaining before after Device = Unit {0}
 ShowsSo options remaining before after Memory = Unit {0}
 
+-- What was appended to the output is the lines of the inputs of both sides.
+abbrev pub PrintsSides : ShowOptions → (client server before after : Option (List ℕ)) → Status
+    → Type 0
+PrintsSides options client server before after status = IfSome client (λ one. IfSome server (λ two.
+    (lines : List ℕ) × ShowsSides options one two status lines × Appends before after lines))
+
 -- How showing a file ends under these options. It can't be opened, and nothing is printed; or what
 -- it holds, of which nothing is said, is shown. Standard input is not read.
 -- rule: show (own) With --file the input is that of a file
@@ -131,29 +139,74 @@ pub data ShowsFile (options : ShowOptions) (remaining left before after : Option
   is_shown : (held : Option (List ℕ)) → ShowsSo options held before after status
       → left ≡ remaining → ShowsFile options remaining left before after status
 
--- How showing what is asked for ends: standard input, or a file.
+-- How showing the octets of both sides ends: of readers whose octets are known, and a writer whose
+-- contents are, before and after. `Usage` comes only where an input was to be hexadecimal, and isn't.
+-- rule: sides (own) The client's input is shown whole, and then the server's
+abbrev pub SidesSo : ShowOptions → (client server before after : Option (List ℕ)) → Status → Type 0
+SidesSo options client server before after Good =
+    PrintsSides options client server before after Good
+SidesSo options client server before after Fault =
+    PrintsSides options client server before after Fault
+SidesSo options client server before after Usage = IfSome client (λ one.
+    IfSome server (λ two. HasBadHex options (Some one) (Some two)))
+SidesSo options client server before after Device = Unit {0}
+SidesSo options client server before after Memory = Unit {0}
+
+-- How showing the files of both sides ends. One can't be opened, and nothing is printed; or what
+-- they hold, of which nothing is said, is shown. Standard input is not read.
+-- rule: sides (own) --client and --server go together, and without --file
+pub data ShowsFiles (options : ShowOptions) (remaining left before after : Option (List ℕ))
+    (status : Status) : Type 0 where
+  are_unopened : status ≡ Device → after ≡ before → left ≡ remaining
+      → ShowsFiles options remaining left before after status
+  are_shown : (client server : Option (List ℕ)) → SidesSo options client server before after status
+      → left ≡ remaining → ShowsFiles options remaining left before after status
+
+-- The files can't be given so: nothing is read, and nothing printed on standard output.
+-- rule: sides (own) --client and --server go together, and without --file
+abbrev pub RefusesFiles : (remaining left before after : Option (List ℕ)) → Status → Type 0
+RefusesFiles remaining left before after status =
+    (status ≡ Usage) × (after ≡ before) × (left ≡ remaining)
+
+-- How showing what is asked for ends: standard input, a file, or the files of both sides.
 -- rule: show (own) With --file the input is that of a file
+-- rule: sides (own) --client and --server go together, and without --file
+abbrev pub ShowsGiven : ShowOptions → (file client server : Option (List ℕ))
+    → (remaining left before after : Option (List ℕ)) → Status → Type 0
+ShowsGiven options None None None remaining left before after status =
+    ShowsSo options remaining before after status
+ShowsGiven options (Some file) None None remaining left before after status =
+    ShowsFile options remaining left before after status
+ShowsGiven options None (Some client) (Some server) remaining left before after status =
+    ShowsFiles options remaining left before after status
+ShowsGiven options (Some file) (Some client) (Some server) remaining left before after status =
+    RefusesFiles remaining left before after status
+ShowsGiven options file (Some client) None remaining left before after status =
+    RefusesFiles remaining left before after status
+ShowsGiven options file None (Some server) remaining left before after status =
+    RefusesFiles remaining left before after status
+
 abbrev pub ShowsAsked : ShowAsked → (remaining left before after : Option (List ℕ)) → Status
     → Type 0
-ShowsAsked asked remaining left before after status = MatchOption asked.file
-    (ShowsSo asked.options remaining before after status)
-    (λ file. ShowsFile asked.options remaining left before after status)
+ShowsAsked asked remaining left before after status =
+    ShowsGiven asked.options asked.file asked.client asked.server remaining left before after status
 
--- The words after `show` ask for something, and it ends so.
-pub record ShowsAsAsked (words : List (List ℕ)) (remaining left before after : Option (List ℕ))
-    (status : Status) : Type 0 where
+-- The words after `show` ask for something, and it ends so; `colored` says whether `--color auto`
+-- has colors.
+pub record ShowsAsAsked (colored : Bool) (words : List (List ℕ))
+    (remaining left before after : Option (List ℕ)) (status : Status) : Type 0 where
   pub asked : ShowAsked
-  pub given : ShowWordsAsk words asked
+  pub given : ShowWordsAsk colored words asked
   pub so : ShowsAsked asked remaining left before after status
 
 -- How `h2 show` ends without `--follow`: of a reader whose octets are known, `remaining` of which
 -- `left` are not read, and a writer whose contents are, before and after. Words that give no options
 -- read nothing.
 -- rule: show (own) The words choose the end and hexadecimal
-abbrev pub EndsShowOne : (words : List (List ℕ)) → (remaining left : Option (List ℕ))
-    → (before after : Option (List ℕ)) → Status → Type 0
-EndsShowOne words remaining left before after status =
-    ShowsAsAsked words remaining left before after status
+abbrev pub EndsShowOne : (colored : Bool) → (words : List (List ℕ))
+    → (remaining left : Option (List ℕ)) → (before after : Option (List ℕ)) → Status → Type 0
+EndsShowOne colored words remaining left before after status =
+    ShowsAsAsked colored words remaining left before after status
     ⊎ ((faults : Kinds) × ShowFaults words faults × (left ≡ remaining)
     × EndsByWords faults before after status)
 
@@ -201,15 +254,15 @@ EndsFollow words remaining left before after status =
     FollowsAsAsked words remaining before after status
     ⊎ ((left ≡ remaining) × EndsByWords (follow_faults words) before after status)
 
--- How `h2 show` ends.
+-- How `h2 show` ends; `colored` says whether `--color auto` has colors.
 -- rule: show (own) The words choose the end and hexadecimal
 -- rule: follow (own) The word --follow excludes --hex and --from
-abbrev pub EndsShow : (words : List (List ℕ)) → (remaining left : Option (List ℕ))
-    → (before after : Option (List ℕ)) → Status → Type 0
-EndsShow words remaining left before after status =
+abbrev pub EndsShow : (colored : Bool) → (words : List (List ℕ))
+    → (remaining left : Option (List ℕ)) → (before after : Option (List ℕ)) → Status → Type 0
+EndsShow colored words remaining left before after status =
     MatchBool (asks_follow words)
     (EndsFollow words remaining left before after status)
-    (EndsShowOne words remaining left before after status)
+    (EndsShowOne colored words remaining left before after status)
 
 -- How an end that takes an input ends under these options, of a reader whose octets are known.
 -- rule: replay (own) The words of replay choose the end and hexadecimal
@@ -427,7 +480,8 @@ PostsSo count before after Memory = FailsToPost count before after Memory
 -- rule: engines (own) serve, get and loop have their words
 abbrev pub EndsLoop : (words : List (List ℕ)) → (before after : Option (List ℕ)) → Status → Type 0
 EndsLoop words before after status =
-    ((count : ℕ) × (octets_asked words ≡ Some count) × PostsSo count before after status)
+    ((options : LoopOptions) × (loop_options_of words ≡ Some options)
+    × PostsSo options.count before after status)
     ⊎ EndsByWords (loop_faults words) before after status
 
 -- The first of the words, if there is one, is no command's name.

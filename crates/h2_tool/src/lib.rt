@@ -9,8 +9,10 @@ mod follow;
 mod get;
 mod messages;
 mod program;
+mod rates;
 mod replay;
 mod show;
+mod sides;
 mod sockets;
 
 pub use get::cmd_get;

@@ -19,23 +19,27 @@ use std::alloc::Global;
 use std::fs::Files;
 use std::io::{self, Read, Write};
 use std::net::Net;
+use std::time::Clock;
 
 // rule: show (own) The words choose the end and hexadecimal
 // contract: replay (own) The status is 0 only where an end took the whole input
 // contract: replay (own) The words of replay choose the end and hexadecimal
 /// Runs the program with the words after its name, and returns its exit status: that of the
 /// command, or for words without one [`Status::Good`] where they ask for help or the version and
-/// [`Status::Usage`] where they are wrong. Sockets and files are opened by `net` alone.
-pub fn run<N: Net + Files, R: Read, W: Write, E: Write>(
+/// [`Status::Usage`] where they are wrong. Sockets and files are opened by `net` alone, and the
+/// clock is its. `colored` says whether `--color auto` has colors: whether the output is a terminal
+/// that is to have them.
+pub fn run<N: Net + Files + Clock, R: Read, W: Write, E: Write>(
     net: &N,
     alloc: Global,
     words: &[String],
+    colored: bool,
     input: &mut R,
     out: &mut W,
     err: &mut E,
 ) -> Status
     ensures show { (others : List (List ℕ)) → map string_bytes words.now ≡ codes "show" ∷ others
-        → EndsShow others (R.remaining input.old) (R.remaining input.new) (W.contents out.old)
+        → EndsShow colored others (R.remaining input.old) (R.remaining input.new) (W.contents out.old)
         (W.contents out.new) result }
     ensures replay { (others : List (List ℕ)) → map string_bytes words.now ≡ codes "replay" ∷ others
         → EndsReplay others (R.remaining input.old) (R.remaining input.new) (W.contents out.old)
@@ -54,7 +58,7 @@ pub fn run<N: Net + Files, R: Read, W: Write, E: Write>(
 {
     if let Some((name, others)) = words.split_first() {
         match name.as_str() {
-            "show" => return cmd_show(net, alloc, others, input, out, err),
+            "show" => return cmd_show(net, alloc, others, colored, input, out, err),
             "replay" => return cmd_replay(alloc, others, input, out, err),
             "serve" => return cmd_serve(net, alloc, others, out, err),
             "get" => return cmd_get(net, alloc, others, out, err),

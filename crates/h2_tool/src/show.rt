@@ -2,11 +2,13 @@
 
 ghost use Rattle.std.specs.Prelude.{◌≡◌, List, ℕ, Option, map, string_bytes};
 ghost use Rattle.h2_cli.specs.declared.status.Status.TheVariants.{Device};
-ghost use Rattle.h2_tool.specs.Commands.{EndsShow, ShowsFile};
+ghost use Rattle.h2_args.specs.Words.{show_asked_by};
+ghost use Rattle.h2_tool.specs.Commands.{EndsShow, ShowsAsked, ShowsFile};
 
 use crate::follow::cmd_follow;
 use crate::program::{answer, end_input};
-use h2_args::{asks_follow, show_args};
+use crate::sides::{refuse_files, show_files};
+use h2_args::{ShowWords, asks_follow, show_args};
 use h2_cli::{Failure, Status};
 use h2_show::{ShowOptions, show_input};
 use std::alloc::Global;
@@ -28,32 +30,57 @@ use std::io::{self, ErrorKind, Read, Write};
 /// The status is that of [`show_input`] under the options that the words give, and what was printed
 /// are the lines of the input; for help it is [`Status::Good`] with nothing read, and for wrong
 /// words [`Status::Usage`]. With `--file` the input is that of a file; one that can't be opened is
-/// [`Status::Device`], and a line on standard error says why. With `--follow` the input is the text
+/// [`Status::Device`], and a line on standard error says why. With `--client` and `--server` both
+/// files are shown, as by [`h2_follow::show_sides`]; one of them alone, or both with `--file`, is
+/// [`Status::Usage`]. `colored` says whether `--color auto` has colors. With `--follow` the input is the text
 /// that tshark prints of both sides of a connection, and the status that of
 /// [`h2_follow::follow_input`].
 pub fn cmd_show<F: Files, R: Read, W: Write, E: Write>(
     files: &F,
     alloc: Global,
     words: &[String],
+    colored: bool,
     input: &mut R,
     out: &mut W,
     err: &mut E,
 ) -> Status
-    ensures { EndsShow (map string_bytes words.now) (R.remaining input.old) (R.remaining input.new)
-        (W.contents out.old) (W.contents out.new) result }
+    ensures { EndsShow colored (map string_bytes words.now) (R.remaining input.old)
+        (R.remaining input.new) (W.contents out.old) (W.contents out.new) result }
 {
     if asks_follow(words) {
         return cmd_follow(alloc, words, input, out, err);
     }
-    let asked = match show_args(alloc, words) {
-        Ok(asked) => asked,
-        Err(error) => return answer(&error, out, err),
-    };
-    if let Some(path) = asked.file {
-        return show_file(files, alloc, asked.options, path, out, err);
+    match show_args(alloc, words, colored) {
+        Ok(asked) => show_asked(files, alloc, asked, input, out, err),
+        Err(error) => answer(&error, out, err),
     }
-    let shown = show_input(alloc, asked.options, input, out);
-    end_input(shown, "--from server", err)
+}
+
+// rule: show (own) With --file the input is that of a file
+// rule: sides (own) --client and --server go together, and without --file
+// Shows what is asked for.
+fn show_asked<F: Files, R: Read, W: Write, E: Write>(
+    files: &F,
+    alloc: Global,
+    asked: ShowWords<'_>,
+    input: &mut R,
+    out: &mut W,
+    err: &mut E,
+) -> Status
+    ensures { ShowsAsked (show_asked_by asked.entry) (R.remaining input.old) (R.remaining input.new)
+        (W.contents out.old) (W.contents out.new) result }
+{
+    match (asked.file, asked.client, asked.server) {
+        (None, None, None) => {
+            let shown = show_input(alloc, asked.options, input, out);
+            end_input(shown, "--from server", err)
+        }
+        (Some(path), None, None) => show_file(files, alloc, asked.options, path, out, err),
+        (None, Some(client), Some(server)) => {
+            show_files(files, alloc, asked.options, (client, server), out, err)
+        }
+        _ => refuse_files(err),
+    }
 }
 
 // rule: show (own) With --file the input is that of a file
@@ -78,8 +105,8 @@ fn show_file<F: Files, W: Write, E: Write>(
     }
 }
 
-// Opens a file that isn't a folder.
-fn open<F: Files>(files: &F, path: &str) -> io::Result<F::File> {
+/// Opens a file that isn't a folder.
+pub(crate) fn open<F: Files>(files: &F, path: &str) -> io::Result<F::File> {
     let file = File::open(files, path)?;
     if file.metadata()?.is_dir() {
         return Err(io::Error::from(ErrorKind::IsADirectory));
@@ -88,8 +115,8 @@ fn open<F: Files>(files: &F, path: &str) -> io::Result<F::File> {
 }
 
 // rule (tested): show (own) A hint names a file that can't be opened, and why
-// Ends the command where a file can't be opened.
-fn end_unopened<E: Write>(path: &str, error: &io::Error, err: &mut E) -> Status
+/// Ends the command where a file can't be opened.
+pub(crate) fn end_unopened<E: Write>(path: &str, error: &io::Error, err: &mut E) -> Status
     ensures { result ≡ Device }
 {
     let why = match error.kind() {

@@ -6,12 +6,14 @@ ghost use Rattle.h2_net.specs.Endings.{status_with};
 ghost use Rattle.h2_tool.specs.Commands.{EndsServe, EndsLoop};
 
 use crate::program::answer;
-use h2_args::{loop_args, serve_args};
+use crate::rates::{micros_since, write_rates};
+use h2_args::{LoopOptions, loop_args, serve_args};
 use h2_cli::Status;
 use h2_net::{Ending, LinkError, exchange, print_exchange, report, serve_port};
 use std::alloc::Global;
 use std::io::Write;
 use std::net::Net;
+use std::time::{Clock, Instant};
 
 // rule: engines (own) serve, get and loop have their words
 /// Runs `h2 serve` with the words after `serve`: serves the given number of connections to a port
@@ -38,11 +40,13 @@ pub fn cmd_serve<N: Net, W: Write, E: Write>(
 }
 
 /// Runs `h2 loop` with the words after `loop`: posts octets from a client to a server, both in this
-/// process, over one TCP connection, and prints how many were sent and how many came back.
+/// process, over one TCP connection, and prints how many were sent and how many came back. With
+/// `--each-way` it prints on standard error how many megabytes that is, and how many seconds it took
+/// by the clock, if that can be read.
 ///
 /// The status is [`Status::Good`] where the response has come, and for help; [`Status::Usage`] for
 /// wrong words; and else that of [`h2_net::status_of`].
-pub fn cmd_loop<N: Net, W: Write, E: Write>(
+pub fn cmd_loop<N: Net + Clock, W: Write, E: Write>(
     net: &N,
     alloc: Global,
     words: &[String],
@@ -52,13 +56,27 @@ pub fn cmd_loop<N: Net, W: Write, E: Write>(
     ensures { EndsLoop (map string_bytes words.now) (W.contents out.old) (W.contents out.new)
         result }
 {
-    let count = match loop_args(alloc, words) {
-        Ok(count) => count,
+    let options = match loop_args(alloc, words) {
+        Ok(options) => options,
         Err(error) => return answer(&error, out, err),
     };
-    match exchange(net, alloc, count) {
-        Ok(fetched) => status_of_end(print_exchange(count, &fetched, out), err),
+    let start = Instant::now(net);
+    match exchange(net, alloc, options.count) {
+        Ok(fetched) => {
+            let micros = micros_since(net, start);
+            let printed = print_exchange(options.count, &fetched, out);
+            print_rates(options, fetched.body.len(), micros, err);
+            status_of_end(printed, err)
+        }
         Err(error) => report(Ending { error, hint: None }, err),
+    }
+}
+
+// Prints on standard error how many megabytes went each way, where the words ask for it.
+fn print_rates<E: Write>(options: LoopOptions, got: usize, micros: Option<u64>, err: &mut E) {
+    if let (true, Some(micros)) = (options.each_way, micros) {
+        // The status is that of the response, whether or not this write fails.
+        let _ = write_rates(u64::from(options.count), got as u64, micros, err);
     }
 }
 

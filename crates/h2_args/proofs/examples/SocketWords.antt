@@ -1,8 +1,8 @@
 -- Words after `serve` and `loop`, written out.
-use Rattle.h2_args.proofs.Names.{◌≡◌, [], ◌∷◌, codes, refl, Some, UnknownArgument, ValueValidation}
+use Rattle.h2_args.proofs.Names.{◌≡◌, [], ◌∷◌, codes, false, true, refl, Some, UnknownArgument, ValueValidation}
 use Rattle.clap.proofs.OnLiterals.{clap_on_literals}
 use Rattle.clap.specs.declared.error.kind.ErrorKind.TheVariants.{MissingRequiredArgument}
-use Rattle.h2_args.specs.Words.{loop_faults, octets_asked, serve_faults, serve_options_of}
+use Rattle.h2_args.specs.Words.{loop_faults, loop_options_of, serve_faults, serve_options_of}
 
 -- rule: engines (own) serve, get and loop have their words
 port_and_count : serve_options_of (codes "9001" ∷ codes "2" ∷ [])
@@ -31,11 +31,11 @@ one_word_too_many : serve_faults (codes "1" ∷ codes "2" ∷ codes "3" ∷ []) 
 unfolding clap_on_literals
 one_word_too_many = refl
 
-no_octets : octets_asked (codes "0" ∷ []) ≡ Some 0
+no_octets : loop_options_of (codes "0" ∷ []) ≡ Some (record { count = 0; each_way = false })
 unfolding clap_on_literals
 no_octets = refl
 
-most_octets : octets_asked (codes "1048576" ∷ []) ≡ Some 1048576
+most_octets : loop_options_of (codes "1048576" ∷ []) ≡ Some (record { count = 1048576; each_way = false })
 unfolding clap_on_literals
 most_octets = refl
 
@@ -43,6 +43,11 @@ above_the_most : loop_faults (codes "1048577" ∷ []) ≡ ValueValidation ∷ []
 unfolding clap_on_literals
 above_the_most = refl
 
-negative_after_dashes : octets_asked (codes "--" ∷ codes "-0" ∷ []) ≡ Some 0
+negative_after_dashes : loop_options_of (codes "--" ∷ codes "-0" ∷ []) ≡ Some (record { count = 0; each_way = false })
 unfolding clap_on_literals
 negative_after_dashes = refl
+
+each_way : loop_options_of (codes "--each-way" ∷ codes "7" ∷ [])
+    ≡ Some (record { count = 7; each_way = true })
+unfolding clap_on_literals
+each_way = refl

@@ -8,6 +8,7 @@ use h2_tool::run;
 use std::alloc::Global;
 use std::fs::Files;
 use std::net::{Ipv4Addr, Net, OpenListener, SocketAddr, TcpListener};
+use std::time::Clock;
 use std::test::Fail;
 
 /// What is reported where nothing listens at a port.
@@ -18,13 +19,13 @@ const IN_USE: &str = "N1 Device\nhint: the port is in use\n";
 
 /// Whether a line prints nothing and ends with N1, and with these lines on standard error. Nothing
 /// is read.
-fn fails<R: Net + Files>(rt: &R, alloc: Global, line: &str, lines: &str) -> Result<bool, Fail> {
+fn fails<R: Net + Files + Clock>(rt: &R, alloc: Global, line: &str, lines: &str) -> Result<bool, Fail> {
     ends_with(rt, alloc, line, Status::Device, lines)
 }
 
 /// Whether a line prints nothing and ends with this status, and with these lines on standard error.
 /// Nothing is read.
-fn ends_with<R: Net + Files>(
+fn ends_with<R: Net + Files + Clock>(
     rt: &R,
     alloc: Global,
     line: &str,
@@ -33,7 +34,7 @@ fn ends_with<R: Net + Files>(
 ) -> Result<bool, Fail> {
     let words = words_of(alloc, line)?;
     let (mut out, mut err) = (Vec::new(alloc), Vec::new(alloc));
-    let ended = run(rt, alloc, &words, &mut Failing, &mut out, &mut err);
+    let ended = run(rt, alloc, &words, false, &mut Failing, &mut out, &mut err);
     let is_reported = err.as_slice() == lines.as_bytes();
     Ok(ended == status && is_reported && out.is_empty())
 }
@@ -48,7 +49,7 @@ fn closed_port<R: Net>(rt: &R) -> Result<u16, Fail> {
 fn loop_to_a_full_device(rt: HostRuntime) -> Result<(), Fail> {
     let words = words_of(rt.alloc(), "loop 1")?;
     let (mut out, mut err) = (Failing, Vec::new(rt.alloc()));
-    let ended = run(&rt, rt.alloc(), &words, &mut Failing, &mut out, &mut err);
+    let ended = run(&rt, rt.alloc(), &words, false, &mut Failing, &mut out, &mut err);
     assert_eq!(rt; err.as_slice(), b"N1 Device\n".as_slice());
     assert_eq!(rt; ended, Status::Device);
     Ok(())

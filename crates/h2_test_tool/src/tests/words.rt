@@ -7,6 +7,7 @@ use std::alloc::Global;
 use std::fs::Files;
 use std::io::{self, ErrorKind};
 use std::net::Net;
+use std::time::Clock;
 use std::test::Fail;
 
 /// The words of a line, divided by one space.
@@ -21,9 +22,9 @@ pub(super) fn words_of(alloc: Global, line: &str) -> Result<Vec<String>, Fail> {
 }
 
 /// How the program ends that can neither read nor write.
-fn end_of<R: Net + Files>(rt: &R, alloc: Global, line: &str) -> Result<Status, Fail> {
+fn end_of<R: Net + Files + Clock>(rt: &R, alloc: Global, line: &str) -> Result<Status, Fail> {
     let words = words_of(alloc, line)?;
-    let status = run(rt, alloc, &words, &mut Failing, &mut Failing, &mut Failing);
+    let status = run(rt, alloc, &words, false, &mut Failing, &mut Failing, &mut Failing);
     Ok(status)
 }
 
@@ -75,6 +76,7 @@ fn shown<F: Files>(
         files,
         alloc,
         &words,
+        false,
         &mut text.as_bytes(),
         &mut out,
         &mut Failing,

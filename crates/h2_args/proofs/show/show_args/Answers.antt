@@ -2,7 +2,7 @@ use Rattle.h2_args.proofs.Names.{◌≡◌, ◌∙◌, ℕ, IfErr, map, string_b
 use Rattle.h2_args.proofs.Names.{arith, codes, IfErr-weaker, ExplainsUnsignedError}
 use Rattle.h2_args.proofs.Names.{HasUnsignedDigitsIfOk, ParsesUnsigned, HasKind, found_of, rows_of}
 use Rattle.h2_args.proofs.Names.{show_app, show_names, show_faults, Option, Text, App, fault_of}
-use Rattle.h2_args.proofs.Names.{is_simple_and_free, subst}
+use Rattle.h2_args.proofs.Names.{is_simple_and_free, subst, first_value-rows}
 use Rattle.std.proofs.lemmas.Result.{err_from_is_err_and}
 use Rattle.h2_show.specs.declared.options.ShowOptions.{ShowOptions}
 use Rattle.h2_args.specs.Words.{ShowAsked, show_asked_in, show_options_in}
@@ -26,26 +26,32 @@ limit c =
     (omega arith) (omega arith) (omega arith)
 
 -- what is asked for in equal words is equal
-same_asked : {options options_now : ShowOptions} {file file_now : Option Text}
-    → options ≡ options_now → file ≡ file_now
-    → ◌≡◌ {A = ShowAsked} (record { options = options; file = file })
-    (record { options = options_now; file = file_now })
-same_asked a b = λ i. record { options = a i; file = b i }
+same_asked : {options options_now : ShowOptions} {file file_now client client_now : Option Text}
+    {server server_now : Option Text}
+    → options ≡ options_now → file ≡ file_now → client ≡ client_now → server ≡ server_now
+    → ◌≡◌ {A = ShowAsked}
+    (record { options = options; file = file; client = client; server = server })
+    (record { options = options_now; file = file_now; client = client_now; server = server_now })
+same_asked a b c d = λ i. record { options = a i; file = b i; client = c i; server = d i }
 
 pub returns-clause-ok : goal.returns-clause-ok
 returns-clause-ok c =
     let is = c.in_ok-command.ensures in
     let rows = rows_of (found_of c.in_ok-matches.matches) in
     let given = limit (goal.at.returns-clause-ok c).After-get_one in
-    let read : show_options_in rows ≡ c.options_of-options.result =
+    let read : show_options_in c.args.colored rows ≡ c.options_of-options.result =
     sym (c.options_of-options.ensures
-    ∙ ap (λ (n : ℕ). record (show_options_in rows) { max_frame = n })
+    ∙ ap (λ (n : ℕ). record (show_options_in c.args.colored rows) { max_frame = n })
     (c.unwrap_or-max_frame.ensures ∙ given.read)) in (
       is.0,
       is.1,
-      given_by-Ok (show_app is.0) show_asked_in _ c.in_ok-command.command
+      given_by-Ok (show_app is.0) (show_asked_in c.args.colored) _ c.in_ok-command.command
           c.in_ok-matches.matches is.2 refl refl c.in_ok-matches.ensures.matches
-          c.in_ok-matches.ensures.kinds ∙ ap Some (same_asked read (sym c.file_of-file.ensures)),
+          c.in_ok-matches.ensures.kinds ∙ ap Some (same_asked read (sym c.file_of-file.ensures)
+          (sym (c.get_str-client.ensures
+          ∙ first_value-rows (found_of c.in_ok-matches.matches) (codes "client")))
+          (sym (c.get_str-server.ensures
+          ∙ first_value-rows (found_of c.in_ok-matches.matches) (codes "server")))),
     )
 
 pub returns-clause-least : goal.returns-clause-least

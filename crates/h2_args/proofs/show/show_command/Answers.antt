@@ -1,4 +1,4 @@
--- Each argument is one more rule, and the names are those that the two parsers lend.
+-- The files of both sides are two more rules.
 use Rattle.h2_args.proofs.Names.{◌≡◌, ◌∙◌, false, App, app_of, Arg, Command, Rule, rule_of}
 use Rattle.std.proofs.Common.{ap₂}
 use Rattle.std.proofs.lemmas.Result.{IfOk-weaker}
@@ -13,17 +13,11 @@ added old arg new before rule adds local is ruled = adds.shape local ∙ ap₂ w
 
 pub returns : goal.returns
 returns c =
-    let shown = c.in_ok-shown_input_command.ensures in
-    let colors = c.color_arg.ensures.rule in
-    let file = added _ _ _ _ _ c.in_ok-arg.ensures c.file_arg.ensures.local shown.2
-    c.file_arg.ensures.rule in
-    let named = added _ _ _ _ _ c.in_ok-arg-2.ensures c.flag_arg.ensures.local file
-    c.flag_arg.ensures.rule in
-    let placed = added _ _ _ _ _ c.in_ok-arg-3.ensures c.flag_arg-2.ensures.local named
-    c.flag_arg-2.ensures.rule in
-    let colored = added _ _ _ _ _ c.in_ok-arg-4.ensures c.color_arg.ensures.local placed colors.2 in
-    IfOk-weaker c.arg-5.result _ _ (λ r adds. (
-      (shown.0, colors.0),
-      (shown.1, colors.1),
-      added _ _ r _ _ adds c.flag_arg-3.ensures.local colored c.flag_arg-3.ensures.rule,
-    )) c.arg-5.ensures
+    let styled = c.in_ok-styled_command.ensures in
+    let client = added _ _ _ _ _ c.in_ok-arg.ensures c.path_arg.ensures.local styled.2
+    c.path_arg.ensures.rule in
+    IfOk-weaker c.arg-2.result _ _ (λ r adds. (
+      styled.0,
+      styled.1,
+      added _ _ r _ _ adds c.path_arg-2.ensures.local client c.path_arg-2.ensures.rule,
+    )) c.arg-2.ensures

@@ -11,22 +11,22 @@ returns-in-Err g c =
 
 pub returns-in-Ok-exchange : goal.returns-in-Ok-exchange
 returns-in-Ok-exchange g c =
-    let got : ExchangesPost c.in-Ok.count (Ok c.in-Ok-exchange.fetched) =
+    let got : ExchangesPost c.in-Ok.options.count (Ok c.in-Ok-exchange.fetched) =
     rw c.in-Ok-exchange.is at c.exchange.ensures in
     inl (
-      c.in-Ok.count,
+      c.in-Ok.options,
       c.in-Ok.ensures.ok,
-      loop_prints c.in-Ok.count _ _ c.in-Ok-exchange.fetched c.print_exchange.result
-          c.status_of_end.result got c.print_exchange.ensures.prints
-          c.print_exchange.ensures.err c.status_of_end.ensures,
+      loop_prints c.in-Ok.options.count _ _ c.in-Ok-exchange.fetched c.print_exchange-printed.result
+          c.status_of_end.result got c.print_exchange-printed.ensures.prints
+          c.print_exchange-printed.ensures.err c.status_of_end.ensures,
     )
 
 pub returns-in-Err-exchange : goal.returns-in-Err-exchange
 returns-in-Err-exchange g c =
-    let got : ExchangesPost c.in-Ok.count (Err c.in-Err-exchange.error) =
+    let got : ExchangesPost c.in-Ok.options.count (Err c.in-Err-exchange.error) =
     rw c.in-Err-exchange.is at c.exchange.ensures in
     inl (
-      c.in-Ok.count,
+      c.in-Ok.options,
       c.in-Ok.ensures.ok,
-      rw c.report.ensures (loop_ends_early c.in-Ok.count _ c.in-Err-exchange.error got),
+      rw c.report.ensures (loop_ends_early c.in-Ok.options.count _ c.in-Err-exchange.error got),
     )
