@@ -175,6 +175,7 @@ SECTIONS = {
     "show": "The program's h2 show",
     "follow": "The program's h2 show --follow",
     "sides": "The program's h2 show --client FILE --server FILE",
+    "page": "Both sides of a connection as a page",
     "replay": "A replay, and the program's h2 replay",
     "messages": "The program's h2 replay --messages",
     "c": "The functions for programs in C",

@@ -8,7 +8,7 @@ _h2() {
             'show --from') words='client server' ;;
             'show --max-frame') words='16384 65536 1048576' ;;
             'show --color') words='always never auto' ;;
-            'show '*) words='--hex --from --max-frame --follow --file --names --offsets --color --json --client --server --help' ;;
+            'show '*) words='--hex --from --max-frame --follow --file --names --offsets --color --json --client --server --page --help' ;;
             'replay --as') words='client server' ;;
             'replay '*) words='--hex --as --messages --help' ;;
             'serve '*) words='--help' ;;

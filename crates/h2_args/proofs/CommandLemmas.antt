@@ -40,11 +40,12 @@ pub follow_is_alone : IsAlone follow_app
 follow_is_alone = record { ready = refl; leaves = refl; free = refl; negates = refl }
 
 -- the second argument of `show --follow` alone is its limit of payloads
-only_follow_limit : (j : ℕ) (d : Rule) → j < 2
+only_follow_limit : (j : ℕ) (d : Rule) → j < 3
     → bytes_eq (slice_index_or follow_app.top.rules j d).id (codes "max-frame") ≡ true → j ≡ 1
 only_follow_limit zero d lt same = cc
 only_follow_limit (suc zero) d lt same = refl
-only_follow_limit (suc (suc j)) d lt same = absurd (omega arith)
+only_follow_limit (suc (suc zero)) d lt same = cc
+only_follow_limit (suc (suc (suc j))) d lt same = absurd (omega arith)
 
 pub follow_names_limit :
     IsNamedAt follow_app 1 (number_option_rule (codes "max-frame") 16384 1048576)

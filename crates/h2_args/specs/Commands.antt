@@ -129,11 +129,13 @@ abbrev pub show_app : ShowNames → App
 show_app names = with_rule (with_rule (styled_app names) (path_rule (codes "client")))
     (path_rule (codes "server"))
 
--- `show --follow [--max-frame N]`
+-- `show --follow [--max-frame N] [--page FILE]`
 -- rule: follow (own) The word --follow excludes --hex and --from
+-- rule: page (own) With --page a page is written to a file in place of the lines
 abbrev pub follow_app : App
-follow_app = with_rule (with_rule (named_app (codes "show")) follow_rule)
-    (number_option_rule (codes "max-frame") 16384 1048576)
+follow_app = with_rule
+    (with_rule (with_rule (named_app (codes "show")) follow_rule)
+    (number_option_rule (codes "max-frame") 16384 1048576)) (path_rule (codes "page"))
 
 -- the command is `show`
 abbrev pub IsShowCommand : App → Type 0

@@ -17,6 +17,7 @@ use Rattle.h2_show.specs.declared.options.Style.{Style}
 use Rattle.h2_show.specs.declared.options.Style.TheVariants.{Plain, Text as Marked, Json}
 use Rattle.h2_args.specs.Commands.{AreSides, SideNames, program_app, replay_app, show_app}
 use Rattle.h2_args.specs.Commands.{AreShowNames, ShowNames}
+use Rattle.h2_args.specs.declared.follow.FollowWords.{FollowWords}
 use Rattle.h2_args.specs.declared.show.ShowWords.{ShowWords}
 use Rattle.h2_args.specs.Commands.{follow_app, serve_app, get_app, loop_app}
 use Rattle.h2_args.specs.declared.get.GetOptions.{GetOptions}
@@ -137,15 +138,29 @@ has_word words wanted = list_any (λ word. bytes_eq word wanted) words
 abbrev pub asks_follow : List Text → Bool
 asks_follow words = has_word words (codes "--follow")
 
+-- What words with `--follow` ask for: how the text is shown, and the file that a page is written to.
+-- rule: page (own) With --page a page is written to a file in place of the lines
+pub record FollowAsked : Type 0 where
+  pub options : FollowOptions
+  pub page : Option Text
+
 -- what the matches of `show --follow` say
 -- rule: follow (own) The word --follow excludes --hex and --from
-abbrev pub follow_options_in : List Row → FollowOptions
-follow_options_in rows = record { max_frame = number_or 16384 (one_of (codes "max-frame") rows) }
+abbrev pub follow_asked_in : List Row → FollowAsked
+follow_asked_in rows = record {
+  options = record { max_frame = number_or 16384 (one_of (codes "max-frame") rows) };
+  page = first_of (codes "page") rows;
+}
 
--- The options that words with `--follow` give, if they have no fault.
+-- What words with `--follow` ask for, if they have no fault.
 -- rule: follow (own) The word --follow excludes --hex and --from
-abbrev pub follow_options_of : List Text → Option FollowOptions
-follow_options_of = given_by follow_app follow_options_in
+abbrev pub follow_asked_of : List Text → Option FollowAsked
+follow_asked_of = given_by follow_app follow_asked_in
+
+-- what words of the code ask for
+abbrev pub follow_asked_by : FollowWords → FollowAsked
+follow_asked_by asked =
+    record { options = asked.options; page = option_map (λ file. file.now) asked.page }
 
 -- the kinds of error that they may have
 -- rule: follow (own) The word --follow excludes --hex and --from

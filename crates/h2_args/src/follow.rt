@@ -3,19 +3,33 @@
 ghost use Rattle.std.specs.Prelude.{◌≡◌, ◌≤◌, IfErr, IfOk, Some, false, map, string_bytes};
 ghost use Rattle.clap.specs.Words.{app_of, HasKind, rule_of};
 ghost use Rattle.h2_args.specs.Commands.{follow_app, follow_rule};
-ghost use Rattle.h2_args.specs.Words.{asks_follow, follow_faults, follow_options_of};
+ghost use Rattle.h2_args.specs.Words.{asks_follow, follow_asked_by, follow_asked_of};
+ghost use Rattle.h2_args.specs.Words.{follow_faults};
 
 use crate::options::{CommandText, has_word, named_command};
-use crate::show::{MAX_FRAME, max_frame_arg};
+use crate::show::{MAX_FRAME, max_frame_arg, path_arg};
 use clap::{Arg, ArgAction, Command, Error};
 use h2_follow::FollowOptions;
 use h2_frame::limits::LEAST_MAX_FRAME;
 use std::alloc::{AllocError, Global};
 
+/// What the words after `show` ask for, one of which is `--follow`.
+#[derive(Clone, Copy, Debug, PartialEq, Eq)]
+pub struct FollowWords<'a> {
+    /// How the text is shown.
+    pub options: FollowOptions,
+    /// The file that a page is written to, in place of the lines.
+    pub page: Option<&'a str>,
+}
+
 const FOLLOW: &str = "follow";
 
 const FOLLOW_HELP: &str = r"Read the text that tshark prints of both sides of a
 connection, and show both; without --hex and --from";
+
+const PAGE: &str = "page";
+
+const PAGE_HELP: &str = r"Write a page of HTML to this file in place of the lines";
 
 // contract: follow (own) The word --follow excludes --hex and --from
 // rule: follow (own) The word --follow excludes --hex and --from
@@ -28,22 +42,28 @@ pub fn asks_follow(words: &[String]) -> bool
 
 // contract: follow (own) The word --follow excludes --hex and --from
 // rule: follow (own) The word --follow excludes --hex and --from
+// contract: page (own) With --page a page is written to a file in place of the lines
+// rule: page (own) With --page a page is written to a file in place of the lines
 /// Reads the words after `show`, one of which is `--follow`.
 ///
 /// # Errors
 ///
 /// Those of [`crate::show_args`].
-pub fn follow_args(alloc: Global, words: &[String]) -> Result<FollowOptions, Error>
-    ensures ok { IfOk result (λ options.
-        follow_options_of (map string_bytes words.now) ≡ Some options) }
-    ensures least { IfOk result (λ options. 16384 ≤ options.max_frame) }
-    ensures most { IfOk result (λ options. options.max_frame ≤ 1048576) }
-    ensures err { IfErr result (HasKind (follow_faults (map string_bytes words.now))) }
+pub fn follow_args<'a>(alloc: Global, words: &'a [String]) -> Result<FollowWords<'a>, Error>
+    ensures ok { IfOk result (λ asked.
+        follow_asked_of (map string_bytes words.entry.now) ≡ Some (follow_asked_by asked)) }
+    ensures least { IfOk result (λ asked. 16384 ≤ asked.options.max_frame) }
+    ensures most { IfOk result (λ asked. asked.options.max_frame ≤ 1048576) }
+    ensures err { IfErr result (HasKind (follow_faults (map string_bytes words.entry.now))) }
 {
     let command = follow_command(alloc)?;
     let matches = command.try_get_matches_from(words)?;
     let max_frame = matches.get_one::<u32>(MAX_FRAME).unwrap_or(LEAST_MAX_FRAME);
-    Ok(FollowOptions { max_frame })
+    let page = matches.get_str(PAGE);
+    Ok(FollowWords {
+        options: FollowOptions { max_frame },
+        page,
+    })
 }
 
 /// The flag as clap has it.
@@ -61,7 +81,7 @@ pub(super) fn follow_arg<'a>(alloc: Global) -> Arg<'a>
 const TEXT: CommandText<'static> = CommandText {
     called: "h2 show",
     about: "Prints the frames of both sides of a connection, of what tshark prints of it",
-    usage: "h2 show --follow [--max-frame N] < TEXT",
+    usage: "h2 show --follow [--max-frame N] [--page FILE] < TEXT",
     more: "`h2 show --help` says what the lines and the statuses mean.",
 };
 
@@ -71,5 +91,6 @@ fn follow_command<'a>(alloc: Global) -> Result<Command<'a>, AllocError>
 {
     named_command(alloc, "show", TEXT)?
         .arg(follow_arg(alloc))?
-        .arg(max_frame_arg(alloc))
+        .arg(max_frame_arg(alloc))?
+        .arg(path_arg(alloc, PAGE, PAGE_HELP))
 }

@@ -14,7 +14,7 @@ mod replay;
 mod show;
 mod sockets;
 
-pub use follow::{asks_follow, follow_args};
+pub use follow::{FollowWords, asks_follow, follow_args};
 pub use get::{GetOptions, get_args};
 pub use program::no_command;
 pub use replay::{asks_messages, replay_args};

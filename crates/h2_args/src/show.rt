@@ -251,6 +251,9 @@ at the end each side says what is unfinished, the client first. The client is
 the node whose octets come first, where they begin as the preface, and else the
 other. The status is 0 only where both sides are good to their ends. A line
 that is not of tshark's text ends all with `bad hex`; the hint has its number.
+With --page FILE beside --follow no lines are printed, but a page of HTML is
+written to FILE, which a browser draws: two lifelines, a row a frame, a colour a
+stream, the windows of the connection, and faults in red; a click folds a stream.
 Frames and header tables are checked by the SETTINGS of the other side: a
 greater value is in force from them on, a smaller one from the ACK on. Frames
 of up to the octets of --max-frame are taken in any case.
@@ -288,8 +291,8 @@ pub(super) fn max_frame_arg<'a>(alloc: Global) -> Arg<'a>
         .help(MAX_FRAME_HELP)
 }
 
-// An option of a file as clap has it.
-fn path_arg<'a>(alloc: Global, name: &'a str, help: &'a str) -> Arg<'a>
+/// An option of a file as clap has it.
+pub(super) fn path_arg<'a>(alloc: Global, name: &'a str, help: &'a str) -> Arg<'a>
     ensures rule { rule_of result ≡ path_rule name.entry.now }
     ensures local { result.global ≡ false }
 {

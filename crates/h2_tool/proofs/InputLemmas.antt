@@ -23,9 +23,9 @@ use Rattle.h2_follow.specs.declared.follow.FollowOptions.{FollowOptions}
 use Rattle.h2_follow.specs.declared.follow.Followed.{Followed}
 use Rattle.h2_follow.specs.declared.follow.Unfollowed.{Unfollowed}
 use Rattle.h2_follow.specs.Follows.{FollowsToBadLine, status_of_both}
-use Rattle.h2_args.specs.Words.{follow_options_of}
+use Rattle.h2_args.specs.Words.{FollowAsked, follow_asked_of}
 use Rattle.h2_follow.specs.Sides.{HasBadHex}
-use Rattle.h2_tool.specs.Commands.{PrintsSides, ShowsAsked, SidesSo}
+use Rattle.h2_tool.specs.Commands.{PagesSo, PrintsSides, ShowsAsked, SidesSo}
 use Rattle.h2_tool.specs.Commands.{EndsShowOne, EndsFollow, EndsReplayOne, EndsMessages, FollowsSo}
 use Rattle.h2_tool.specs.Commands.{MessagesSo, PrintsBoth, PrintsOfMessages, PrintsToBadLine}
 use Rattle.h2_tool.specs.Commands.{ReplaysSo, ShowsSo}
@@ -287,10 +287,9 @@ bad_line_so options remaining before after failures.Device bad = tt
 bad_line_so options remaining before after failures.Memory bad = tt
 bad_line_so options remaining before after failures.BadHex bad = bad refl
 
--- So `show --follow` ends with what came of its text.
-pub follow_ends_so : (options : FollowOptions) (words : List (List ℕ))
-    (remaining left before after : Option (List ℕ)) (followed : Result Followed Unfollowed)
-    (status : Status) → follow_options_of words ≡ Some options
+-- So showing a text ends with what came of it.
+pub text_ends_so : (options : FollowOptions) (remaining before after : Option (List ℕ))
+    (followed : Result Followed Unfollowed) (status : Status)
     → IfOk followed (λ one. IfSome remaining (λ text.
     PrintsBoth options text before after one.status))
     → IfErr followed (λ one. one.failure ≡ failures.BadHex
@@ -298,22 +297,13 @@ pub follow_ends_so : (options : FollowOptions) (words : List (List ℕ))
     × FollowsToBadLine options.max_frame text one.hint lines × Appends before after lines))
     → MatchResult followed (λ one. status ≡ one.status)
     (λ one. status ≡ failure_status one.failure)
-    → EndsFollow words remaining left before after status
-follow_ends_so options words remaining left before after (Ok one) status asked follows bad so =
-    inl (record {
-      options = options;
-      asked = asked;
-      so = subst (λ (some : Status). FollowsSo options remaining before after some) (sym so)
-          (follows_so options remaining before after one.status follows);
-    })
-follow_ends_so options words remaining left before after (Err one) status asked follows bad so =
-    inl (record {
-      options = options;
-      asked = asked;
-      so = subst (λ (some : Status). FollowsSo options remaining before after some) (sym so)
-          (bad_line_so options remaining before after one.failure
-          (λ is. with_hint remaining (bad is)));
-    })
+    → FollowsSo options remaining before after status
+text_ends_so options remaining before after (Ok one) status follows bad so =
+    subst (λ (some : Status). FollowsSo options remaining before after some) (sym so)
+    (follows_so options remaining before after one.status follows)
+text_ends_so options remaining before after (Err one) status follows bad so =
+    subst (λ (some : Status). FollowsSo options remaining before after some) (sym so)
+    (bad_line_so options remaining before after one.failure (λ is. with_hint remaining (bad is)))
   where
     with_hint : (known : Option (List ℕ))
         → IfSome known (λ text. (lines : List ℕ)
@@ -321,3 +311,21 @@ follow_ends_so options words remaining left before after (Err one) status asked 
         → IfSome known (λ text. PrintsToBadLine options text before after)
     with_hint None prints = tt
     with_hint (Some text) prints = (one.hint, prints.0, prints.1, prints.2)
+
+-- So `show --follow` ends with lines,
+pub follow_ends_so : (asked : FollowAsked) (words : List (List ℕ))
+    (remaining left before after : Option (List ℕ)) (status : Status)
+    → follow_asked_of words ≡ Some asked → asked.page ≡ None
+    → FollowsSo asked.options remaining before after status
+    → EndsFollow words remaining left before after status
+follow_ends_so asked words remaining left before after status given none so =
+    inl (record { asked = asked; given = given; so = rw none so })
+
+-- and with a page.
+pub follow_ends_with_page : (asked : FollowAsked) (words : List (List ℕ)) (file : List ℕ)
+    (remaining left before after : Option (List ℕ)) (status : Status)
+    → follow_asked_of words ≡ Some asked → asked.page ≡ Some file
+    → PagesSo asked.options remaining before after status
+    → EndsFollow words remaining left before after status
+follow_ends_with_page asked words file remaining left before after status given some so =
+    inl (record { asked = asked; given = given; so = rw some so })

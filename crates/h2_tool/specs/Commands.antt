@@ -1,7 +1,7 @@
 -- What the commands of `h2` do, by the words that follow their names and the status with which they
 -- end.
 use Rattle.std.specs.Prelude.{◌≡◌, ◌≢◌, ◌⊎◌, ℕ, Bool, true, false, List, [], ◌∷◌, Option, Some}
-use Rattle.std.specs.Prelude.{None, Result, Ok, Err, IfSome, MatchBool, codes}
+use Rattle.std.specs.Prelude.{None, Result, Ok, Err, IfSome, MatchBool, MatchOption, codes}
 use Rattle.std.specs.Io.KnownBytes.{Appends}
 use Rattle.clap.specs.Words.{IsAmong, Kinds}
 use Rattle.clap.specs.declared.error.kind.ErrorKind.{ErrorKind}
@@ -25,7 +25,7 @@ use Rattle.h2_args.specs.Words.{replay_faults}
 use Rattle.h2_args.specs.Words.{serve_options_of, serve_faults, GetWords, get_words_of, get_faults}
 use Rattle.h2_args.specs.Words.{loop_options_of, asks_messages}
 use Rattle.h2_args.specs.declared.sockets.LoopOptions.{LoopOptions}
-use Rattle.h2_args.specs.Words.{asks_follow, follow_options_of, follow_faults}
+use Rattle.h2_args.specs.Words.{FollowAsked, asks_follow, follow_asked_of, follow_faults}
 use Rattle.h2_args.specs.Words.{loop_faults, program_faults}
 use Rattle.h2_args.specs.declared.sockets.ServeOptions.{ServeOptions}
 use Rattle.h2_link.specs.declared.error.LinkError.{LinkError}
@@ -239,12 +239,27 @@ FollowsSo options remaining before after Usage =
 FollowsSo options remaining before after Device = Unit {0}
 FollowsSo options remaining before after Memory = Unit {0}
 
--- The words with `--follow` give options, and it ends so under these.
+-- How writing a page ends: nothing is printed, and the page is made of the lines that showing the
+-- text prints, of which the status is, unless the file can't be written.
+-- rule: page (own) With --page a page is written to a file in place of the lines
+pub record PagesSo (options : FollowOptions) (remaining before after : Option (List ℕ))
+    (status : Status) : Type 0 where
+  pub lines : Option (List ℕ)
+  pub so : FollowsSo options remaining (Some []) lines status
+  pub unwritten : after ≡ before
+
+-- How it ends with what is asked for: lines, or a page.
+abbrev pub FollowsAsked : FollowAsked → (remaining before after : Option (List ℕ)) → Status → Type 0
+FollowsAsked asked remaining before after status = MatchOption asked.page
+    (FollowsSo asked.options remaining before after status)
+    (λ file. PagesSo asked.options remaining before after status)
+
+-- The words with `--follow` ask for something, and it ends so.
 pub record FollowsAsAsked (words : List (List ℕ)) (remaining before after : Option (List ℕ))
     (status : Status) : Type 0 where
-  pub options : FollowOptions
-  pub asked : follow_options_of words ≡ Some options
-  pub so : FollowsSo options remaining before after status
+  pub asked : FollowAsked
+  pub given : follow_asked_of words ≡ Some asked
+  pub so : FollowsAsked asked remaining before after status
 
 -- How `h2 show` ends with `--follow`. Words that give no options read nothing.
 -- rule: follow (own) The word --follow excludes --hex and --from

@@ -1,22 +1,26 @@
 //! The command `h2 show --follow`.
 
-ghost use Rattle.std.specs.Prelude.{◌≡◌, MatchResult, map, string_bytes};
+ghost use Rattle.std.specs.Prelude.{◌≡◌, List, ℕ, MatchResult, Option, map, string_bytes};
 ghost use Rattle.h2_cli.specs.Status.{failure_status};
-ghost use Rattle.h2_tool.specs.Commands.{EndsFollow};
+ghost use Rattle.h2_tool.specs.Commands.{EndsFollow, PagesSo};
 
 use crate::program::{answer, give_up};
+use crate::show::end_unopened;
 use h2_args::follow_args;
 use h2_cli::{Hint, Status, write_hint};
-use h2_follow::{FollowHint, Followed, Unfollowed, follow_input};
+use h2_follow::{FollowHint, FollowOptions, Followed, Unfollowed, follow_input};
+use h2_page::page_of;
 use std::alloc::Global;
-use std::io::{Read, Write};
+use std::fs::{File, Files, OpenFile};
+use std::io::{self, Read, Write};
 
 // contract: follow (own) The word --follow excludes --hex and --from
 // rule: follow (own) The word --follow excludes --hex and --from
 // contract: follow (own) The status is 0 only where both sides are good to their ends
 // rule: follow (own) The status is 0 only where both sides are good to their ends
 /// Runs `h2 show` with words one of which is `--follow`.
-pub(crate) fn cmd_follow<R: Read, W: Write, E: Write>(
+pub(crate) fn cmd_follow<F: Files, R: Read, W: Write, E: Write>(
+    files: &F,
     alloc: Global,
     words: &[String],
     input: &mut R,
@@ -26,12 +30,51 @@ pub(crate) fn cmd_follow<R: Read, W: Write, E: Write>(
     ensures { EndsFollow (map string_bytes words.now) (R.remaining input.old)
         (R.remaining input.new) (W.contents out.old) (W.contents out.new) result }
 {
-    let options = match follow_args(alloc, words) {
-        Ok(options) => options,
+    let asked = match follow_args(alloc, words) {
+        Ok(asked) => asked,
         Err(error) => return answer(&error, out, err),
     };
-    let followed = follow_input(alloc, options, input, out);
+    if let Some(path) = asked.page {
+        return follow_page(files, alloc, asked.options, path, input, err);
+    }
+    let followed = follow_input(alloc, asked.options, input, out);
     end_text(followed, err)
+}
+
+// contract: page (own) With --page a page is written to a file in place of the lines
+// rule: page (own) With --page a page is written to a file in place of the lines
+// Writes the page of a text to a file. Where the text is refused, there is none.
+fn follow_page<F: Files, R: Read, E: Write>(
+    files: &F,
+    alloc: Global,
+    options: FollowOptions,
+    path: &str,
+    input: &mut R,
+    err: &mut E,
+) -> Status
+    ensures { (known : Option (List ℕ))
+        → PagesSo options (R.remaining input.old) known known result }
+{
+    let mut lines = Vec::new(alloc);
+    let followed = follow_input(alloc, options, input, &mut lines);
+    let written = if followed.is_ok() {
+        write_page(files, alloc, path, &lines)
+    } else {
+        Ok(())
+    };
+    match written {
+        Ok(()) => end_text(followed, err),
+        Err(error) => end_unopened(path, &error, err),
+    }
+}
+
+// rule: page (own) With --page a page is written to a file in place of the lines
+// Writes the page of lines to a file.
+fn write_page<F: Files>(files: &F, alloc: Global, path: &str, lines: &[u8]) -> io::Result<()> {
+    let page = page_of(alloc, lines)?;
+    let mut file = File::create(files, path)?;
+    file.write_all(&page)?;
+    file.flush()
 }
 
 // rule: follow (own) The status is 0 only where both sides are good to their ends

@@ -34,7 +34,7 @@ use std::io::{self, ErrorKind, Read, Write};
 /// files are shown, as by [`h2_follow::show_sides`]; one of them alone, or both with `--file`, is
 /// [`Status::Usage`]. `colored` says whether `--color auto` has colors. With `--follow` the input is the text
 /// that tshark prints of both sides of a connection, and the status that of
-/// [`h2_follow::follow_input`].
+/// [`h2_follow::follow_input`]; with `--page` a page is written to a file in place of the lines.
 pub fn cmd_show<F: Files, R: Read, W: Write, E: Write>(
     files: &F,
     alloc: Global,
@@ -48,7 +48,7 @@ pub fn cmd_show<F: Files, R: Read, W: Write, E: Write>(
         (R.remaining input.new) (W.contents out.old) (W.contents out.new) result }
 {
     if asks_follow(words) {
-        return cmd_follow(alloc, words, input, out, err);
+        return cmd_follow(files, alloc, words, input, out, err);
     }
     match show_args(alloc, words, colored) {
         Ok(asked) => show_asked(files, alloc, asked, input, out, err),
