@@ -1,6 +1,7 @@
 -- How `show` and `replay` end with an input that was read.
 use Rattle.std.proofs.Common.{◌≡◌, inl, ℕ, Bool, true, false, List, Option, Some, None, refl}
-use Rattle.std.proofs.Common.{IfErr, IfOk, IfSome, MatchBool, MatchResult, Result, Ok, Err, ap, subst, sym}
+use Rattle.std.proofs.Common.{IfErr, IfOk, IfSome, MatchBool, MatchResult, Result, Ok, Err, ap}
+use Rattle.std.proofs.Common.{subst, sym}
 use Rattle.std.specs.Io.KnownBytes.{Appends}
 use Rattle.h2_cli.specs.declared.failure.Failure.{Failure}
 use Rattle.h2_cli.specs.declared.failure.Failure.TheVariants as failures

@@ -4,3 +4,4 @@ pub mod ProgramLemmas
 pub mod GetLemmas
 pub mod SocketLemmas
 mod RateLemmas
+mod PageLemmas

@@ -32,8 +32,8 @@ use std::io::{self, ErrorKind, Read, Write};
 /// words [`Status::Usage`]. With `--file` the input is that of a file; one that can't be opened is
 /// [`Status::Device`], and a line on standard error says why. With `--client` and `--server` both
 /// files are shown, as by [`h2_follow::show_sides`]; one of them alone, or both with `--file`, is
-/// [`Status::Usage`]. `colored` says whether `--color auto` has colors. With `--follow` the input is the text
-/// that tshark prints of both sides of a connection, and the status that of
+/// [`Status::Usage`]. `colored` says whether `--color auto` has colors. With `--follow` the input
+/// is the text that tshark prints of both sides of a connection, and the status that of
 /// [`h2_follow::follow_input`]; with `--page` a page is written to a file in place of the lines.
 pub fn cmd_show<F: Files, R: Read, W: Write, E: Write>(
     files: &F,

@@ -8,8 +8,8 @@ use h2_tool::run;
 use std::alloc::Global;
 use std::fs::Files;
 use std::net::{Ipv4Addr, Net, OpenListener, SocketAddr, TcpListener};
-use std::time::Clock;
 use std::test::Fail;
+use std::time::Clock;
 
 /// What is reported where nothing listens at a port.
 const REFUSED: &str = "N1 Device\nhint: the connection was refused: nothing listens at that port\n";
@@ -19,7 +19,12 @@ const IN_USE: &str = "N1 Device\nhint: the port is in use\n";
 
 /// Whether a line prints nothing and ends with N1, and with these lines on standard error. Nothing
 /// is read.
-fn fails<R: Net + Files + Clock>(rt: &R, alloc: Global, line: &str, lines: &str) -> Result<bool, Fail> {
+fn fails<R: Net + Files + Clock>(
+    rt: &R,
+    alloc: Global,
+    line: &str,
+    lines: &str,
+) -> Result<bool, Fail> {
     ends_with(rt, alloc, line, Status::Device, lines)
 }
 
@@ -49,7 +54,15 @@ fn closed_port<R: Net>(rt: &R) -> Result<u16, Fail> {
 fn loop_to_a_full_device(rt: HostRuntime) -> Result<(), Fail> {
     let words = words_of(rt.alloc(), "loop 1")?;
     let (mut out, mut err) = (Failing, Vec::new(rt.alloc()));
-    let ended = run(&rt, rt.alloc(), &words, false, &mut Failing, &mut out, &mut err);
+    let ended = run(
+        &rt,
+        rt.alloc(),
+        &words,
+        false,
+        &mut Failing,
+        &mut out,
+        &mut err,
+    );
     assert_eq!(rt; err.as_slice(), b"N1 Device\n".as_slice());
     assert_eq!(rt; ended, Status::Device);
     Ok(())

@@ -7,8 +7,8 @@ use std::alloc::Global;
 use std::fs::Files;
 use std::io::{self, ErrorKind};
 use std::net::Net;
-use std::time::Clock;
 use std::test::Fail;
+use std::time::Clock;
 
 /// The words of a line, divided by one space.
 pub(super) fn words_of(alloc: Global, line: &str) -> Result<Vec<String>, Fail> {
@@ -24,7 +24,15 @@ pub(super) fn words_of(alloc: Global, line: &str) -> Result<Vec<String>, Fail> {
 /// How the program ends that can neither read nor write.
 fn end_of<R: Net + Files + Clock>(rt: &R, alloc: Global, line: &str) -> Result<Status, Fail> {
     let words = words_of(alloc, line)?;
-    let status = run(rt, alloc, &words, false, &mut Failing, &mut Failing, &mut Failing);
+    let status = run(
+        rt,
+        alloc,
+        &words,
+        false,
+        &mut Failing,
+        &mut Failing,
+        &mut Failing,
+    );
     Ok(status)
 }
 

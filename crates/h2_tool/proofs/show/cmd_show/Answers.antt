@@ -6,7 +6,8 @@ use Rattle.h2_tool.proofs.InputLemmas.{show_ends_so}
 use Rattle.h2_tool.proofs.show.cmd_show.Goals as goal
 
 pub returns-then-asks_follow : goal.returns-then-asks_follow
-returns-then-asks_follow g c = rw (sym c.asks_follow.ensures ∙ c.if-asks_follow.true) c.cmd_follow.ensures
+returns-then-asks_follow g c =
+    rw (sym c.asks_follow.ensures ∙ c.if-asks_follow.true) c.cmd_follow.ensures
 
 pub returns-in-Err : goal.returns-in-Err
 returns-in-Err g c =
