@@ -1,5 +1,5 @@
 -- What happens at a connection of a host, one step after another.
-use Rattle.std.proofs.Common.{◌≡◌, ◌⊎◌, ◌∙◌, inl, inr, refl, sym, subst, true, false, None, ℕ, rules}
+use Rattle.std.proofs.Common.{◌≡◌, ◌⊎◌, ◌∙◌, inl, inr, refl, sym, subst, true, false, None, ℕ}
 use Rattle.h2_handlers.specs.Exchanges.{Relations, handling_of}
 use Rattle.h2_handlers.specs.Steps.{Handles}
 use Rattle.h2_handlers.proofs.StepsMade.{nothing_handles, then_handles}
@@ -16,8 +16,8 @@ use Rattle.h2_seat.specs.declared.seat.Phase.TheVariants.{Up, Ending, Over}
 use Rattle.h2_seat.specs.declared.seat.Seat.{Seat}
 use Rattle.h2_seat.specs.declared.why.Why.{Why}
 use Rattle.h2_seat.specs.declared.why.Why.TheVariants.{Ended}
-use Rattle.h2_seat.specs.Seats.{Acts, AreCounts, GoesOn, NotesPhase, SeatHandles}
-use Rattle.h2_seat.specs.Seats.{SeatSteps, answer_of, is_phase_over, phase_late, phase_passed}
+use Rattle.h2_seat.specs.Seats.{Acts, AreCounts, IsUpOrStopped, NotesPhase, SeatHandles}
+use Rattle.h2_seat.specs.Seats.{SeatSteps, answer_in, is_phase_over, phase_late, phase_passed}
 
 module _ {H W : Type 0} {rel : Relations H W} where
   -- Nothing has happened at it.
@@ -50,7 +50,7 @@ module _ {H W : Type 0} {rel : Relations H W} where
   pub steps_so : {old mid new : Seat H W} {own : Own} {answer : Answer} → SeatHandles rel old mid
       → (is_phase_over old.phase ≡ true → mid.phase ≡ old.phase)
       → (is_phase_over old.phase ≡ false → Acts rel old own mid) → new.handled ≡ mid.handled
-      → new.phase ≡ mid.phase → answer ≡ answer_of new.phase → SeatSteps rel old own answer new
+      → new.phase ≡ mid.phase → answer ≡ answer_in new.phase → SeatSteps rel old own answer new
   steps_so {mid} {new} handles over acts same phase answers = record {
     handles = seat_then handles (seat_same mid new same);
     answers = answers;
@@ -66,7 +66,7 @@ module _ {H W : Type 0} {rel : Relations H W} where
   }
 
 -- It goes on, or can't, and so again.
-pub goes_on_then : (one two three : Phase) → GoesOn one two → GoesOn two three → GoesOn one three
+pub goes_on_then : (one two three : Phase) → IsUpOrStopped one two → IsUpOrStopped two three → IsUpOrStopped one three
 goes_on_then one two three (inl first) (inl second) = inl (second ∙ first)
 goes_on_then one two three (inr first) (inl second) = inr (rw second first)
 goes_on_then one two three first (inr second) = inr second

@@ -59,8 +59,8 @@ why_stopped stops.TooManyResets = whys.Failed EnhanceYourCalm
 why_stopped stops.Memory = whys.Refused bounds.Memory
 
 -- It is where it was, or it can't go on.
-abbrev pub GoesOn : (old new : Phase) → Type 0
-GoesOn old new = (new ≡ old) ⊎ ((stop : Stop) × (why_of new ≡ Some (why_stopped stop)))
+abbrev pub IsUpOrStopped : (old new : Phase) → Type 0
+IsUpOrStopped old new = (new ≡ old) ⊎ ((stop : Stop) × (why_of new ≡ Some (why_stopped stop)))
 
 -- where it is once something has taken too long
 abbrev pub phase_late : Option Late → Phase → (time : ℕ) → Phase
@@ -82,7 +82,7 @@ abbrev pub MakesPhase : {H W : Type 0} → Own → (old : Seat H W) → (new : P
 MakesPhase (owns.Passed now) old new =
     new ≡ phase_passed old.phase old.times old.limits (max old.time now)
 MakesPhase (owns.Refused bound) old new = new ≡ Over (whys.Refused bound)
-MakesPhase own old new = GoesOn old.phase new
+MakesPhase own old new = IsUpOrStopped old.phase new
 
 -- This is what the peer has sent that asks for work, but for malformed requests, which the server
 -- counts.
@@ -119,14 +119,14 @@ pub record Acts {H W : Type 0} (rel : Relations H W) (old : Seat H W) (own : Own
   pub noted : NotesPhase mid.phase mid new.phase
 
 -- what is answered
-abbrev pub answer_of : Phase → Answer
-answer_of phase = if is_phase_over phase then answers.Over else answers.Goes
+abbrev pub answer_in : Phase → Answer
+answer_in phase = if is_phase_over phase then answers.Over else answers.Goes
 
 -- A step of a host: only what may happen at a server with its handler has happened; one that is
 -- over stays so; another has made the step, and then what follows from it.
 pub record SeatSteps {H W : Type 0} (rel : Relations H W) (old : Seat H W) (own : Own)
     (answer : Answer) (new : Seat H W) : Type 0 where
   pub handles : SeatHandles rel old new
-  pub answers : answer ≡ answer_of new.phase
+  pub answers : answer ≡ answer_in new.phase
   pub over : is_phase_over old.phase ≡ true → new.phase ≡ old.phase
   pub acts : is_phase_over old.phase ≡ false → Acts rel old own new

@@ -4,8 +4,8 @@ ghost use Rattle.std.specs.Prelude.{◌≡◌, ◌+◌, ◌*◌, length, max, tr
 ghost use Rattle.h2_host.specs.Parties.{IsRefusal};
 ghost use Rattle.h2_times.specs.Times.{overdue_of};
 ghost use Rattle.h2_handlers.specs.Exchanges.{relations};
-ghost use Rattle.h2_seat.specs.Seats.{SeatHandles, AreCounts, Acts, GoesOn, MakesPhase};
-ghost use Rattle.h2_seat.specs.Seats.{NotesPhase, answer_of, is_phase_over, phase_late};
+ghost use Rattle.h2_seat.specs.Seats.{SeatHandles, AreCounts, Acts, IsUpOrStopped, MakesPhase};
+ghost use Rattle.h2_seat.specs.Seats.{NotesPhase, answer_in, is_phase_over, phase_late};
 ghost use Rattle.h2_seat.specs.Seats.{phase_passed};
 
 use crate::seat::{Phase, Seat};
@@ -44,7 +44,7 @@ impl<W: Drop, H: Handler<Work = W>> Seat<H, W> {
 
     /// What it answers to a step.
     pub(crate) fn answer(&self) -> Answer
-        ensures { result ≡ answer_of self.now.phase }
+        ensures { result ≡ answer_in self.now.phase }
     {
         if self.is_over() {
             return Answer::Over;
@@ -84,7 +84,7 @@ impl<W: Drop, H: Handler<Work = W>> Seat<H, W> {
     fn came(&mut self, octets: &[u8])
         ensures handles { SeatHandles (relations H.heads H.bodies H.trails H.gives H.ends) self.old
             self.new }
-        ensures phase { GoesOn self.old.phase self.new.phase }
+        ensures phase { IsUpOrStopped self.old.phase self.new.phase }
     {
         self.took = true;
         let most = self.most_told();
@@ -110,7 +110,7 @@ impl<W: Drop, H: Handler<Work = W>> Seat<H, W> {
     fn take_kept(&mut self)
         ensures handles { SeatHandles (relations H.heads H.bodies H.trails H.gives H.ends) self.old
             self.new }
-        ensures phase { GoesOn self.old.phase self.new.phase }
+        ensures phase { IsUpOrStopped self.old.phase self.new.phase }
     {
         let most = self.most_told();
         let from = self.used.min(self.kept.len());
@@ -133,7 +133,7 @@ impl<W: Drop, H: Handler<Work = W>> Seat<H, W> {
         ensures handles { SeatHandles (relations H.heads H.bodies H.trails H.gives H.ends) self.old
             self.new }
         ensures room { length room.new ≡ length room.old }
-        ensures phase { GoesOn self.old.phase self.new.phase }
+        ensures phase { IsUpOrStopped self.old.phase self.new.phase }
     {
         self.take_waiting();
         self.send(room);
@@ -143,7 +143,7 @@ impl<W: Drop, H: Handler<Work = W>> Seat<H, W> {
     fn take_waiting(&mut self)
         ensures handles { SeatHandles (relations H.heads H.bodies H.trails H.gives H.ends) self.old
             self.new }
-        ensures phase { GoesOn self.old.phase self.new.phase }
+        ensures phase { IsUpOrStopped self.old.phase self.new.phase }
     {
         let waits = !self.took && !self.kept.is_empty();
         self.took = false;
@@ -157,7 +157,7 @@ impl<W: Drop, H: Handler<Work = W>> Seat<H, W> {
         ensures handles { SeatHandles (relations H.heads H.bodies H.trails H.gives H.ends) self.old
             self.new }
         ensures room { length room.new ≡ length room.old }
-        ensures phase { GoesOn self.old.phase self.new.phase }
+        ensures phase { IsUpOrStopped self.old.phase self.new.phase }
     {
         if self.is_failed() {
             return;
@@ -175,7 +175,7 @@ impl<W: Drop, H: Handler<Work = W>> Seat<H, W> {
     fn take_away(&mut self, count: usize)
         ensures handles { SeatHandles (relations H.heads H.bodies H.trails H.gives H.ends) self.old
             self.new }
-        ensures phase { GoesOn self.old.phase self.new.phase }
+        ensures phase { IsUpOrStopped self.old.phase self.new.phase }
     {
         match self.handled.consume(count) {
             Ok(count) => self.went = self.went.saturating_add(count as u64),
