@@ -1,0 +1,39 @@
+//! A connection as a host has it.
+
+use crate::seat::Seat;
+use h2_handlers::Handler;
+use h2_host::{Answer, Own, Party};
+
+impl<W: Drop, H: Handler<Work = W>> Party for Seat<H, W> {
+    ghost use Rattle.h2_handlers.specs.Exchanges.{relations};
+    ghost use Rattle.h2_seat.specs.Seats.{SeatSteps};
+
+    ghost steps = { λ old own octets answer new. SeatSteps (relations H.heads H.bodies H.trails
+        H.gives H.ends) old own answer new };
+
+    ghost held_of = { λ seat. seat.holds };
+
+    ghost ready_of = { λ seat. seat.ready };
+
+    fn step(&mut self, own: Own, octets: &[u8], room: &mut [u8]) -> Answer {
+        self.act(own, octets, room);
+        self.count();
+        self.answer()
+    }
+
+    fn held(&self) -> usize {
+        self.holds
+    }
+
+    fn is_ready(&self) -> bool {
+        self.ready
+    }
+
+    fn wants_input(&self) -> bool {
+        self.may_take()
+    }
+
+    fn output(&self) -> (&[u8], &[u8]) {
+        self.handled.waiting_octets()
+    }
+}
