@@ -253,7 +253,7 @@ other. The status is 0 only where both sides are good to their ends. A line
 that is not of tshark's text ends all with `bad hex`; the hint has its number.
 With --page FILE beside --follow no lines are printed, but a page of HTML is
 written to FILE, which a browser draws: two lifelines, a row a frame, a colour a
-stream, the windows of the connection, and faults in red; a click folds a stream.
+stream, the windows of the connection, faults in red; a click folds a stream.
 Frames and header tables are checked by the SETTINGS of the other side: a
 greater value is in force from them on, a smaller one from the ACK on. Frames
 of up to the octets of --max-frame are taken in any case.
