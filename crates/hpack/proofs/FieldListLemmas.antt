@@ -114,6 +114,29 @@ are_between before octets name value start name_len end joined starts named ends
       value_there = rw (at_end, joined, starts, named) (value_between before name value);
     }
 
+-- the octets of a name and a value that were appended together
+pub joined_after : (before octets name value : List ℕ) (start : ℕ)
+    → octets ≡ before ++ (name ++ value) → start ≡ length before
+    → octets_between octets start (length octets) ≡ name ++ value
+joined_after before octets name value start joined starts =
+    let after : drop start octets ≡ name ++ value =
+    rw (joined, starts) (drop-append_seam before (name ++ value)) in
+    let count : length octets - start ≡ length (name ++ value) = omega (
+      arith,
+      starts,
+      ap (λ (xs : List ℕ). length xs) joined,
+      length-append before (name ++ value),
+    ) in
+    ap₂ (λ (n : ℕ) (xs : List ℕ). take n xs) count after ∙ take-length (name ++ value)
+
+-- A name and a value, by their octets together.
+pub halves_of : (name value octets : List ℕ) (name_len : ℕ) → octets ≡ name ++ value
+    → name_len ≡ length name → (take name_len octets ≡ name) × (drop name_len octets ≡ value)
+halves_of name value octets name_len joined named = (
+  rw (joined, named) (take-append_seam name value),
+  rw (joined, named) (drop-append_seam name value),
+)
+
 -- A field whose octets are alone in a vector is its first octets and the others.
 pub read_alone : (old new : List ℕ) (field : Field) (read : ReadField)
     → AppendsField old new field read → old ≡ []

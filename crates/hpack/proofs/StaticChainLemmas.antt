@@ -6,6 +6,7 @@ use Rattle.hpack.proofs.Names.{bucket_of, Field, Sought, is_sought, LeadsTo, Are
 use Rattle.std.proofs.Common.{map, eqb-true}
 use Rattle.std.proofs.lemmas.Bool.{eq-eqb}
 use Rattle.hpack.specs.declared.encode.static_chains.TheConstants.{FIRST_PLACES, SKIPS}
+use Rattle.hpack.specs.declared.encode.static_chains.TheConstants.{VALUE_LENGTHS}
 use Rattle.hpack.proofs.IndexLemmas.{sought_name}
 
 -- the buckets of the static table's names
@@ -49,7 +50,7 @@ unfolding buckets leads all_linked
 skips_link = refl
 
 -- A test that fails says that two numbers differ.
-differs : (one sought : ℕ) → not (one == sought) ≡ true → one ≢ sought
+pub differs : (one sought : ℕ) → not (one == sought) ≡ true → one ≢ sought
 differs one sought is = λ same.
     let yes : (one == sought) ≡ true = eq-eqb one sought same in
     (cc)
@@ -118,3 +119,23 @@ pub name_in_bucket : (sought : Sought) (field : Field) (hash : ℕ) → hash ≡
 name_in_bucket sought field hash is one same =
     ap (λ (n : List ℕ). bucket_of 128 (hash_from 0 n)) (sought_name sought field one same)
     ∙ sym (ap (bucket_of 128) is)
+
+-- computed: how many octets the values have
+lengths_of_values : map (λ (one : Entry). length one.value) static_entries ≡ VALUE_LENGTHS
+unfolding static_entries
+lengths_of_values = refl
+
+-- one of the lengths
+length_at : (entries : List Entry) (place : ℕ) (other : Entry) → place < length entries
+    → get_or (map (λ (one : Entry). length one.value) entries) place 0
+    ≡ length (get_or entries place other).value
+length_at [] place other lt = absurd (omega arith)
+length_at (one ∷ entries) zero other lt = refl
+length_at (one ∷ entries) (suc place) other lt = length_at entries place other (omega arith)
+
+-- The length of the value of an entry.
+pub value_length : (place : ℕ) (other : Entry) → place < 61
+    → get_or VALUE_LENGTHS place 0 ≡ length (get_or static_entries place other).value
+value_length place other lt =
+    ap (λ (ns : List ℕ). get_or ns place 0) (sym lengths_of_values)
+    ∙ length_at static_entries place other (omega (arith, lt, static_length))

@@ -2,8 +2,10 @@
 use Rattle.hpack.proofs.Names.{◌≡◌, ◌≢◌, ℕ, zero, suc, ◌+◌, ◌-◌, ◌<◌, ◌≤◌, ◌==◌, ◌&&◌, nat_eq, Bool}
 use Rattle.hpack.proofs.Names.{true, false, List, [], ◌∷◌, length, get_or, take, drop, refl, sym}
 use Rattle.hpack.proofs.Names.{ap, ◌∙◌, subst, arith, length-drop, and_parts, ne_eqb, get_or-drop}
+use Rattle.hpack.proofs.Names.{inl, inr, cases_eq, Field, Entry, is_sought, Exact}
 use Rattle.hpack.proofs.Names.{length-take-le, drop-drop, le_bytes_8, same_octets, AreOctetsByPlace}
-use Rattle.std.specs.Int.{w64, from_le_bytes, to_le_bytes}
+use Rattle.std.specs.Int.{w32, w64, from_le_bytes, to_le_bytes}
+use Rattle.std.proofs.lemmas.Nat.{le_bytes_4}
 use Rattle.std.proofs.lemmas.Bool.{eq-eqb}
 use Rattle.hpack.proofs.SearchLemmas.{fails}
 use Rattle.hpack.proofs.WrittenTables.{same_octets-true}
@@ -22,6 +24,13 @@ pub other_lengths : (xs ys : List ℕ) → length xs ≢ length ys
 other_lengths xs ys other =
     ne_eqb (length xs) (length ys) other
     ∙ sym (fails (same_octets xs ys) (λ same. other (same_octets-length xs ys same)))
+
+-- An entry whose value has another length isn't sought with the value.
+pub other_value : (field : Field) (one : Entry) → length one.value ≢ length field.value
+    → false ≡ is_sought Exact field one
+other_value field one other =
+    sym (fails (is_sought Exact field one) (λ same. other (same_octets-length one.value field.value
+    (and_parts (same_octets one.name field.name) (same_octets one.value field.value) same).1)))
 
 -- Where the first octets are the same, the others decide.
 same_rest : (count : ℕ) (xs ys : List ℕ) → count ≤ length xs → count ≤ length ys
@@ -95,6 +104,12 @@ last_same xs ys last others_last one two long same_length is_last is_others_last
     sym first ∙ (ap (to_le_bytes w64) same ∙ (second
     ∙ ap (λ (n : ℕ). drop (n - 8) ys) (sym same_length)))
 
+-- What octets have in common decides where it differs.
+differs_by : (word : List ℕ → ℕ) (xs ys : List ℕ) → (word xs ≡ word ys → ⊥)
+    → false ≡ same_octets xs ys
+differs_by word xs ys differ =
+    sym (fails (same_octets xs ys) (λ same. differ (ap word (same_octets-true xs ys same))))
+
 -- The same octets are the same.
 same_octets-refl : (xs : List ℕ) → true ≡ same_octets xs xs
 same_octets-refl [] = refl
@@ -153,3 +168,63 @@ last_differs xs ys last others_last one two is_last is_others_last is_one is_two
     is_two ∙ ap (λ (os : List ℕ). from_le_bytes w64 os) is_others_last in
     sym (fails (same_octets xs ys)
     (λ same. differ (first ∙ (ap word (same_octets-true xs ys same) ∙ sym second))))
+
+-- Octets aren't the same whose first four aren't.
+pub halves_differ : (xs ys : List ℕ) (first others_first : ℕ)
+    → first ≡ from_le_bytes w32 (take 4 xs) → others_first ≡ from_le_bytes w32 (take 4 ys)
+    → (first ≡ others_first → ⊥) → false ≡ same_octets xs ys
+halves_differ xs ys first others_first is_first is_others_first differ =
+    differs_by (λ (os : List ℕ). from_le_bytes w32 (take 4 os)) xs ys
+    (λ same. differ (is_first ∙ (same ∙ sym is_others_first)))
+
+-- Four octets, by their word.
+fours_same : (xs ys : List ℕ) → length xs ≡ 4 → length ys ≡ 4 → AreOctetsByPlace xs
+    → AreOctetsByPlace ys → from_le_bytes w32 xs ≡ from_le_bytes w32 ys → xs ≡ ys
+fours_same xs ys count others_count octets others same =
+    sym (le_bytes_4 xs (from_le_bytes w32 xs) count octets refl)
+    ∙ (ap (to_le_bytes w32) same
+    ∙ le_bytes_4 ys (from_le_bytes w32 ys) others_count others refl)
+
+-- Fewer than eight octets are the same whose first four and last four are.
+halves_same : (xs ys : List ℕ) → 4 ≤ length xs → length xs < 8 → length xs ≡ length ys
+    → AreOctetsByPlace xs → AreOctetsByPlace ys
+    → from_le_bytes w32 (take 4 xs) ≡ from_le_bytes w32 (take 4 ys)
+    → from_le_bytes w32 (drop (length xs - 4) xs) ≡ from_le_bytes w32 (drop (length ys - 4) ys)
+    → true ≡ same_octets xs ys
+halves_same xs ys long short same_length octets others first last =
+    let front : take 4 xs ≡ take 4 ys = fours_same (take 4 xs) (take 4 ys)
+    (length-take-le 4 xs long) (length-take-le 4 ys (omega (arith, same_length)))
+    (octets_take 4 xs octets) (octets_take 4 ys others) first in
+    let back : drop (length xs - 4) xs ≡ drop (length ys - 4) ys =
+    fours_same (drop (length xs - 4) xs) (drop (length ys - 4) ys)
+    (omega (arith, length-drop (length xs - 4) xs)) (omega (arith, length-drop (length ys - 4) ys))
+    (octets_drop (length xs - 4) xs (drop (length xs - 4) xs) refl octets)
+    (octets_drop (length ys - 4) ys (drop (length ys - 4) ys) refl others) last in
+    let skip = 8 - length xs in
+    let place : length xs - 4 + skip ≡ 4 = omega arith in
+    let others_place : length ys - 4 + skip ≡ 4 = omega (arith, same_length) in
+    let mine : drop skip (drop (length xs - 4) xs) ≡ drop 4 xs =
+    drop-drop skip (length xs - 4) xs ∙ ap (λ (n : ℕ). drop n xs) place in
+    let theirs : drop skip (drop (length ys - 4) ys) ≡ drop 4 ys =
+    drop-drop skip (length ys - 4) ys ∙ ap (λ (n : ℕ). drop n ys) others_place in
+    let rest : drop 4 xs ≡ drop 4 ys =
+    sym mine ∙ (ap (λ (os : List ℕ). drop skip os) back ∙ theirs) in
+    same_octets-refl (drop 4 xs) ∙ (ap (λ (os : List ℕ). same_octets (drop 4 xs) os) rest
+    ∙ same_rest 4 xs ys long (omega (arith, same_length)) front)
+
+-- Of fewer than eight octets whose first four are the same, the last four decide.
+pub halves_decide : (xs ys : List ℕ) (first others_first last others_last : ℕ)
+    → 4 ≤ length xs → length xs < 8 → length xs ≡ length ys
+    → AreOctetsByPlace xs → AreOctetsByPlace ys
+    → first ≡ from_le_bytes w32 (take 4 xs) → others_first ≡ from_le_bytes w32 (take 4 ys)
+    → last ≡ from_le_bytes w32 (drop (length xs - 4) xs)
+    → others_last ≡ from_le_bytes w32 (drop (length ys - 4) ys)
+    → first ≡ others_first → nat_eq last others_last ≡ same_octets xs ys
+halves_decide xs ys first others_first last others_last long short same_length octets others
+    is_first is_others_first is_last is_others_last same = elim (cases_eq last others_last) [
+      | inl e ↦ eq-eqb last others_last e ∙ halves_same xs ys long short same_length octets others
+          (sym is_first ∙ (same ∙ is_others_first)) (sym is_last ∙ (e ∙ is_others_last))
+      | inr other ↦ ne_eqb last others_last other
+          ∙ differs_by (λ (os : List ℕ). from_le_bytes w32 (drop (length os - 4) os)) xs ys
+          (λ e. other (is_last ∙ (e ∙ sym is_others_last)))
+    ]

@@ -64,10 +64,12 @@ fn read_next(
         builder.add_again()?;
         return Ok((1, repeatable));
     }
-    let count = read_one(alloc, table, octets, builder)?;
-    if count == 1 && first >= 0x80 {
-        return Ok((count, first));
+    // Each branch has its own copy of the next call, which then knows what the field is.
+    if first >= 0x80 {
+        let count = read_one(alloc, table, octets, builder)?;
+        return Ok((count, if count == 1 { first } else { NO_INDEX }));
     }
+    let count = read_one(alloc, table, octets, builder)?;
     Ok((count, NO_INDEX))
 }
 

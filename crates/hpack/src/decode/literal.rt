@@ -1,6 +1,6 @@
 //! Literals and indices (RFC 7541, sections 6.1 and 6.2).
 
-ghost use Rattle.std.specs.Prelude.{◌≡◌, ℕ, ◌≤◌, ◌++◌, length, take, OnOk, IfOk, IfErr};
+ghost use Rattle.std.specs.Prelude.{◌≡◌, ℕ, ◌≤◌, ◌++◌, length, take, drop, OnOk, IfOk, IfErr};
 ghost use Rattle.std.specs.Prelude.{List as Items};
 ghost use Rattle.hpack.specs.Blocks.{LiteralName, after_literal, is_sensitive};
 ghost use Rattle.hpack.specs.Tables.{added_to};
@@ -9,8 +9,8 @@ ghost use Rattle.hpack.specs.Prefixes.{EncodesIndex, prefix_bits_of};
 
 use crate::decode::texts::{int_at, text_at};
 use crate::table::dynamic_table::Table;
-use crate::table::eviction::size_of_octets;
-use crate::table::lookup::{STATIC_COUNT, entry_at};
+use crate::table::eviction::OVERHEAD;
+use crate::table::lookup::{entry_at, joined_at};
 use crate::types::entry::Entry;
 use crate::types::fault::Fault;
 use crate::types::literal::Literal;
@@ -56,15 +56,7 @@ pub(crate) fn indexed_at(
     ensures fault { IfErr result (PrefixFault (IsIndex table.now.entries) octets.now) }
 {
     let (index, count) = int_at(INDEX_PREFIX, octets)?;
-    if index <= STATIC_COUNT {
-        let Some((name, value)) = entry_at(table, index) else {
-            return Err(Fault::Compression);
-        };
-        out.extend_from_slice(name)?;
-        out.extend_from_slice(value)?;
-        return Ok((name.len(), count));
-    }
-    let Some((joined, name_len)) = table.joined((index - STATIC_COUNT) as usize) else {
+    let Some((joined, name_len)) = joined_at(table, index) else {
         return Err(Fault::Compression);
     };
     out.extend_from_slice(joined)?;
@@ -98,8 +90,7 @@ pub(crate) fn literal_at(
 {
     let start = out.len();
     let (name_len, count) = parts_at(table, index_prefix_bits(kind), octets, out)?;
-    let name_end = start + name_len;
-    add_literal(alloc, table, kind, &out[start..name_end], &out[name_end..])?;
+    add_literal(alloc, table, kind, &out[start..], name_len)?;
     let sensitive = kind == Literal::NeverIndexed;
     Ok(ReadField {
         name_len,
@@ -108,37 +99,45 @@ pub(crate) fn literal_at(
     })
 }
 
-/// Adds a copy of a literal's name and value to the table, where its kind says so.
+/// Adds a copy of a literal's name and value to the table, where its kind says so. The name is the
+/// first octets, and the value the others.
 #[inline(always)]
 fn add_literal(
     alloc: Global,
     table: &mut Table,
     kind: Literal,
-    name: &[u8],
-    value: &[u8],
+    joined: &[u8],
+    name_len: usize,
 ) -> Result<(), AllocError>
+    requires { name_len ≤ length joined.now }
     ensures { OnOk result (table.new ≡ after_literal kind table.old
-        (record { name = name.now; value = value.now })) }
+        (record { name = take name_len joined.now; value = drop name_len joined.now })) }
 {
     if kind == Literal::WithIndexing {
-        return add_copy(alloc, table, name, value);
+        return add_copy(alloc, table, joined, name_len);
     }
     Ok(())
 }
 
 // rule: HPACK 4.4 An entry larger than the maximum empties the table
-/// Adds a copy of the name and the value to the table. No copy is made of what is larger than the
-/// table's maximum, which empties it.
+/// Adds a copy of the name and the value, which follows it, to the table. No copy is made of what
+/// is larger than the table's maximum, which empties it.
 #[inline(always)]
-fn add_copy(alloc: Global, table: &mut Table, name: &[u8], value: &[u8]) -> Result<(), AllocError>
+fn add_copy(
+    alloc: Global,
+    table: &mut Table,
+    joined: &[u8],
+    name_len: usize,
+) -> Result<(), AllocError>
+    requires { name_len ≤ length joined.now }
     ensures { OnOk result (table.new ≡ added_to table.old
-        (record { name = name.now; value = value.now })) }
+        (record { name = take name_len joined.now; value = drop name_len joined.now })) }
 {
-    if size_of_octets(name, value) > table.maximum() as usize {
+    if joined.len() + OVERHEAD > table.maximum() as usize {
         table.clear();
         return Ok(());
     }
-    table.add(Entry::copy_of(alloc, name, value)?);
+    table.add(Entry::copy_of_joined(alloc, joined, name_len)?);
     Ok(())
 }
 

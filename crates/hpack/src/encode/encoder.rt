@@ -14,10 +14,12 @@ use crate::encode::size_updates::SizeUpdates;
 use crate::table::dynamic_table::Table;
 use crate::types::fault::Fault;
 use crate::types::field::Field;
-use crate::types::list_size::list_size;
 use std::alloc::Global;
 use std::fmt;
 use std::marker::Model;
+
+/// The octets that are reserved for a field before its encoding is known: more than most have.
+const FIELD_ROOM: usize = 32;
 
 /// Encodes the blocks of one direction of a connection, in order.
 #[derive(Drop)]
@@ -116,7 +118,8 @@ impl Encoder {
         ensures err { IfErr result (λ fault. (fault ≡ Fault.Memory)
             × (out.new.items ≡ out.old.items) × (self.new ≡ self.old)) }
     {
-        self.encode_sized(fields, list_size(fields), out)
+        out.reserve(fields.len().saturating_mul(FIELD_ROOM))?;
+        self.append_whole(fields, out)
     }
 
     // rule: HPACK 3.1 What is encoded is a block of the list
@@ -142,6 +145,19 @@ impl Encoder {
             × (out.new.items ≡ out.old.items) × (self.new ≡ self.old)) }
     {
         reserve_block(fields, size, out)?;
+        self.append_whole(fields, out)
+    }
+
+    /// Appends the block of the fields. On `Err` neither the encoder nor `out` has changed.
+    fn append_whole(&mut self, fields: &[Field], out: &mut Vec<u8>) -> Result<(), Fault>
+        requires { list_size fields.now < 2 ^ 35 }
+        ensures ok { OnOk result ((out.new.items ≡ out.old.items ++ block_of self.old fields.now)
+            × (self.new ≡ after_block self.old fields.now)) }
+        ensures block { OnOk result ((limit : ℕ) → self.old.limit ≤ limit
+            → Block self.old.table limit (block_of self.old fields.now) fields.now self.new.table) }
+        ensures err { IfErr result (λ fault. (fault ≡ Fault.Memory)
+            × (out.new.items ≡ out.old.items) × (self.new ≡ self.old)) }
+    {
         let start = out.len();
         if self.append_block(fields, out).is_err() {
             out.truncate(start);

@@ -1,13 +1,15 @@
 //! Looking for the entry of a field in the static table.
 
-ghost use Rattle.std.specs.Prelude.{◌≡◌, ◌-◌, ◌<◌, ◌≤◌, length, drop, slice_index_or};
+ghost use Rattle.std.specs.Prelude.{◌≡◌, ◌-◌, ◌<◌, ◌≤◌, true, false, length, take, drop};
+ghost use Rattle.std.specs.Prelude.{slice_index_or};
+ghost use Rattle.std.specs.Int.{w32, from_le_bytes};
 ghost use Rattle.hpack.specs.Entry.{Entry};
 ghost use Rattle.hpack.specs.Hashes.{hash_from};
 ghost use Rattle.hpack.specs.Choice.{same_octets};
 ghost use Rattle.hpack.specs.Sought.{is_sought, first_index, AreOctetsByPlace};
 ghost use Rattle.hpack.specs.Static.{static_entries};
 
-use crate::encode::static_chains::{first_place, skip_after};
+use crate::encode::static_chains::{first_place, skip_after, value_len};
 use crate::table::static_table::static_entry;
 use crate::types::field::Field;
 
@@ -60,6 +62,33 @@ fn is_static_match(sought: Sought, field: &Field, place: usize) -> bool
     ensures { (other : Entry) → result
         ≡ is_sought sought field.now (slice_index_or static_entries place other) }
 {
+    if differs_in_length(sought, field, place) {
+        return false;
+    }
+    is_entry_match(sought, field, place)
+}
+
+/// Whether a value is looked for that has another length than that of the entry at a place, as most
+/// values that differ have.
+#[inline(always)]
+fn differs_in_length(sought: Sought, field: &Field, place: usize) -> bool
+    requires { place < 61 }
+    ensures { (other : Entry) → result ≡ true → false
+        ≡ is_sought sought field.now (slice_index_or static_entries place other) }
+{
+    match sought {
+        Sought::Exact => value_len(place) != field.value.as_slice().len(),
+        Sought::Name => false,
+    }
+}
+
+/// Whether the entry of the static table at a place is looked for, by its octets.
+#[inline(always)]
+fn is_entry_match(sought: Sought, field: &Field, place: usize) -> bool
+    requires { place < 61 }
+    ensures { (other : Entry) → result
+        ≡ is_sought sought field.now (slice_index_or static_entries place other) }
+{
     match static_entry(place as u64 + 1) {
         Some((name, value)) => is_match(sought, field, name, value),
         None => false,
@@ -85,12 +114,46 @@ fn have_same_words(octets: &[u8], others: &[u8]) -> bool
     let others = of_length(others, octets.len());
     let (Some(last), Some(others_last)) = (octets.last_chunk::<8>(), others.last_chunk::<8>())
     else {
-        return octets == others;
+        return have_same_halves(octets, others);
     };
     if u64::from_le_bytes(*last) != u64::from_le_bytes(*others_last) {
         return false;
     }
     have_same_beginnings(octets, others)
+}
+
+/// Whether octets are the same that are as many, and fewer than eight: the first four, and then
+/// the last four.
+#[inline(always)]
+fn have_same_halves(octets: &[u8], others: &[u8]) -> bool
+    requires few { length octets.now < 8 }
+    requires length { length octets.now ≡ length others.now }
+    requires octets { AreOctetsByPlace octets.now }
+    requires others { AreOctetsByPlace others.now }
+    ensures { result ≡ same_octets octets.now others.now }
+{
+    if octets.len() < 4 {
+        return octets == others;
+    }
+    let (first, last) = halves(octets);
+    let (others_first, others_last) = halves(others);
+    if first != others_first {
+        return false;
+    }
+    last == others_last
+}
+
+/// The words of the first four octets, and of the last four.
+#[inline(always)]
+fn halves(octets: &[u8]) -> (u32, u32)
+    requires { 4 ≤ length octets.now }
+    ensures first { result.0 ≡ from_le_bytes w32 (take 4 octets.now) }
+    ensures last { result.1 ≡ from_le_bytes w32 (drop (length octets.now - 4) octets.now) }
+{
+    let (Some(first), Some(last)) = (octets.first_chunk::<4>(), octets.last_chunk::<4>()) else {
+        unreachable!();
+    };
+    (u32::from_le_bytes(*first), u32::from_le_bytes(*last))
 }
 
 /// All octets of a slice whose length is known: the compiler then knows it too.

@@ -1,6 +1,6 @@
 //! Chains through the entries of the static table, by the hashes of their names.
 
-ghost use Rattle.std.specs.Prelude.{◌≡◌, ◌+◌, ◌<◌, ◌^◌, drop, slice_index_or};
+ghost use Rattle.std.specs.Prelude.{◌≡◌, ◌+◌, ◌<◌, ◌^◌, length, drop, slice_index_or};
 ghost use Rattle.hpack.specs.Entry.{Entry};
 ghost use Rattle.hpack.specs.Static.{static_entries};
 ghost use Rattle.hpack.specs.Hashes.{bucket_of};
@@ -28,6 +28,16 @@ pub(crate) fn skip_after(place: usize) -> usize
     usize::from(SKIPS[place])
 }
 
+/// How many octets the value of the entry at a place has.
+#[inline(always)]
+pub(crate) fn value_len(place: usize) -> usize
+    requires { place < 61 }
+    ensures { (other : Entry) → result
+        ≡ length (slice_index_or static_entries place other).value }
+{
+    usize::from(VALUE_LENGTHS[place])
+}
+
 /// For each of 128 buckets, the place of the first entry whose name is in it, or 61.
 static FIRST_PLACES: [u8; 128] = [
     24, 61, 61, 61, 35, 57, 51, 61, 61, 61, 61, 31, 58, 34, 61, 38, 46, 16, 61, 25, 61, 53, 61, 61,
@@ -43,4 +53,10 @@ static SKIPS: [u8; 61] = [
     61, 0, 61, 0, 61, 0, 61, 0, 0, 0, 0, 0, 0, 61, 61, 61, 61, 61, 61, 61, 61, 61, 61, 61, 61, 61,
     61, 61, 61, 61, 61, 61, 61, 61, 61, 61, 61, 61, 61, 61, 61, 61, 61, 61, 61, 61, 61, 61, 61, 61,
     61, 61, 61, 61, 61, 61, 61, 61, 61, 61, 61,
+];
+
+/// For each entry, how many octets its value has.
+static VALUE_LENGTHS: [u8; 61] = [
+    0, 3, 4, 1, 11, 4, 5, 3, 3, 3, 3, 3, 3, 3, 0, 13, 0, 0, 0, 0, 0, 0, 0, 0, 0, 0, 0, 0, 0, 0, 0,
+    0, 0, 0, 0, 0, 0, 0, 0, 0, 0, 0, 0, 0, 0, 0, 0, 0, 0, 0, 0, 0, 0, 0, 0, 0, 0, 0, 0, 0, 0,
 ];

@@ -30,9 +30,7 @@ pub(crate) fn size_of_octets(name: &[u8], value: &[u8]) -> usize
     ensures name { AllByRecursion IsOctet name.now }
     ensures value { AllByRecursion IsOctet value.now }
 {
-    name.len()
-        .saturating_add(value.len())
-        .saturating_add(OVERHEAD)
+    (name.len() + value.len()).saturating_add(OVERHEAD)
 }
 
 // contract: HPACK 4.4 The oldest entries leave until the size is at most the maximum

@@ -50,6 +50,29 @@ impl Entry {
         })
     }
 
+    /// An entry with a copy of the octets: the first are the name, and the others the value.
+    ///
+    /// # Errors
+    ///
+    /// [`AllocError`] where the allocation was refused.
+    #[inline(always)]
+    pub(crate) fn copy_of_joined(
+        alloc: Global,
+        joined: &[u8],
+        name_len: usize,
+    ) -> Result<Entry, AllocError>
+        requires { name_len ≤ length joined.now }
+        ensures { IfOk result (λ entry. entry ≡ record {
+          name = take name_len joined.now;
+          value = drop name_len joined.now;
+        }) }
+    {
+        Ok(Entry {
+            octets: Vec::from_slice(alloc, joined)?,
+            name_len,
+        })
+    }
+
     /// The name and then the value, and how long the name is.
     #[inline(always)]
     pub(crate) fn joined(&self) -> (&[u8], usize)

@@ -15,8 +15,8 @@ returns-then-first-repeatable-clause-ok c =
           c.in_ok-add_again.ensures.ok is,
     )
 
-pub returns-then-first-ge128-clause-ok : goal.returns-then-first-ge128-clause-ok
-returns-then-first-ge128-clause-ok c =
+pub returns-then-count-eq1-clause-ok : goal.returns-then-count-eq1-clause-ok
+returns-then-count-eq1-clause-ok c =
     let octets = c.args.octets.now in
     let read = c.in_ok-count.ensures.ok in (
       read.1,
@@ -27,20 +27,33 @@ returns-then-first-ge128-clause-ok c =
           (omega (arith, c.if-first-ge128.true)) read.2 read.3,
     )
 
-pub returns-then-first-ge128-clause-long : goal.returns-then-first-ge128-clause-long
-returns-then-first-ge128-clause-long c =
+pub returns-then-count-eq1-clause-long : goal.returns-then-count-eq1-clause-long
+returns-then-count-eq1-clause-long c =
     let read = c.in_ok-count.ensures.ok in
     some_read c.args.table.now _ c.args.octets.now c.in_ok-count.count read.0 read.1 read.2
 
-pub returns-clause-ok : goal.returns-clause-ok
-returns-clause-ok c =
+pub returns-else-count-eq1-clause-ok : goal.returns-else-count-eq1-clause-ok
+returns-else-count-eq1-clause-ok c =
     let read = c.in_ok-count.ensures.ok in (
       read.1,
       λ done is. reads_other c.args.table.now _ (take c.in_ok-count.count c.args.octets.now)
           c.args.builder.now _ done read.0 read.2 read.3,
     )
 
-pub returns-clause-long : goal.returns-clause-long
-returns-clause-long c =
+pub returns-else-count-eq1-clause-long : goal.returns-else-count-eq1-clause-long
+returns-else-count-eq1-clause-long c =
     let read = c.in_ok-count.ensures.ok in
     some_read c.args.table.now _ c.args.octets.now c.in_ok-count.count read.0 read.1 read.2
+
+pub returns-clause-ok : goal.returns-clause-ok
+returns-clause-ok c =
+    let read = c.in_ok-count-2.ensures.ok in (
+      read.1,
+      λ done is. reads_other c.args.table.now _ (take c.in_ok-count-2.count c.args.octets.now)
+          c.args.builder.now _ done read.0 read.2 read.3,
+    )
+
+pub returns-clause-long : goal.returns-clause-long
+returns-clause-long c =
+    let read = c.in_ok-count-2.ensures.ok in
+    some_read c.args.table.now _ c.args.octets.now c.in_ok-count-2.count read.0 read.1 read.2

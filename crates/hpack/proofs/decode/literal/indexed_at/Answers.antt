@@ -1,34 +1,29 @@
-use Rattle.hpack.proofs.Names.{List, ℕ, ◌++◌, take, drop, sym, ap, ◌∙◌, arith, length-take-le}
+use Rattle.hpack.proofs.Names.{List, ℕ, ◌++◌, take, drop, sym, ap, ◌∙◌, length-take-le}
 use Rattle.std.proofs.lemmas.List.{take-append-drop}
-use Rattle.hpack.proofs.LookupLemmas.{entry-dynamic, entry-no_dynamic}
 use Rattle.hpack.proofs.PrefixLemmas.{octets_after, split_at_count, index_no_entry}
 use Rattle.hpack.proofs.decode.literal.indexed_at.Goals as goal
 
-pub returns-in_default-joined-clause-fault : goal.returns-in_default-joined-clause-fault
-returns-in_default-joined-clause-fault c =
+pub returns-in_default-clause-fault : goal.returns-in_default-clause-fault
+returns-in_default-clause-fault c =
     let octets = c.args.octets.now in
-    let entries = c.args.table.now.entries in
     let count = c.in_ok-index.count in
-    index_no_entry entries c.in_ok-index.index octets (take count octets)
+    index_no_entry c.args.table.now.entries c.in_ok-index.index octets (take count octets)
     (octets_after octets count) (split_at_count octets count) c.in_ok-index.ensures.ok.1
-    (entry-no_dynamic entries c.in_ok-index.index (omega (arith, c.if-index-le-STATIC_COUNT.false))
-    c.in_default-joined.ensures)
+    c.in_default.ensures
 
 pub returns-clause-ok : goal.returns-clause-ok
 returns-clause-ok c =
-    let joined = c.in-Some-joined.joined.now in
-    let name_len = c.in-Some-joined.name_len in
-    let index = c.in_ok-index.index in (
+    let joined = c.in-Some.joined.now in
+    let name_len = c.in-Some.name_len in (
       take name_len joined,
       drop name_len joined,
-      c.in_ok-extend_from_slice-3.ensures.items ∙ ap (λ (xs : List ℕ). c.args.out.now.items ++ xs)
+      c.in_ok-extend_from_slice.ensures.items ∙ ap (λ (xs : List ℕ). c.args.out.now.items ++ xs)
           (sym (take-append-drop name_len joined)),
-      sym (length-take-le name_len joined c.in-Some-joined.ensures.1),
+      sym (length-take-le name_len joined c.in-Some.ensures.0),
       c.in_ok-index.ensures.ok.0,
       record {
-        index = index;
+        index = c.in_ok-index.index;
         encoded = c.in_ok-index.ensures.ok.1;
-        named = entry-dynamic c.args.table.now.entries index
-            (omega (arith, c.if-index-le-STATIC_COUNT.false)) ∙ c.in-Some-joined.ensures.2;
+        named = c.in-Some.ensures.1;
       },
     )

@@ -1,12 +1,11 @@
 use Rattle.hpack.proofs.Names.{◌∙◌, ℕ, List, length, ap, sym, subst, AreOctetsByPlace, same_octets}
-use Rattle.hpack.proofs.SearchLemmas.{same_octets-pointwise}
 use Rattle.hpack.proofs.WordLemmas.{last_same, last_differs}
 use Rattle.hpack.proofs.encode.search.have_same_words.Goals as goal
 
 pub returns-in_default : goal.returns-in_default
 returns-in_default c =
-    c.eq.ensures ∙ (same_octets-pointwise c.args.octets.now c.of_length-others.result.now
-    ∙ ap (λ (os : List ℕ). same_octets c.args.octets.now os) c.of_length-others.ensures)
+    c.have_same_halves.ensures
+    ∙ ap (λ (os : List ℕ). same_octets c.args.octets.now os) c.of_length-others.ensures
 
 pub returns-then-from_le_bytes : goal.returns-then-from_le_bytes
 returns-then-from_le_bytes c =
