@@ -335,7 +335,9 @@ BJ_CALL int bj_change_settings(bj_end *end, const bj_config *config);
  * BJ_MEMORY. */
 BJ_CALL int bj_ready(bj_end *end);
 
-/* Lends the output that waits, in two parts, of which the first comes first; each may be empty. */
+/* Lends the first two parts of the output that waits, of which the first comes first. Both are
+ * empty only where none waits; a long body that was given lies in parts of its own, so call it
+ * again once these are taken away. */
 BJ_CALL int bj_waiting(bj_end *end, bj_span *first, bj_span *second);
 
 /* Takes octets of the output away, at most count of them, which were written; says how many.

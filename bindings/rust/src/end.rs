@@ -283,8 +283,9 @@ impl<Role> End<Role> {
         check(unsafe { ffi::bj_change_settings(self.place(), &config.raw()) })
     }
 
-    /// Makes the output ready, and lends it, in two parts, of which the first comes first; each
-    /// may be empty. What was written of it is taken away by [`consume`](End::consume).
+    /// Makes the output ready, and lends its first two parts, of which the first comes first: both
+    /// are empty only where none waits. What was written of it is taken away by
+    /// [`consume`](End::consume); then call it again.
     ///
     /// # Errors
     ///

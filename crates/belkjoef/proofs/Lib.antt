@@ -3,6 +3,7 @@ pub mod ConnCopies
 pub mod CopiedFields
 pub mod CopiedOctets
 pub mod CopiesOut
+pub mod FirstParts
 pub mod LentFields
 pub mod LooseValues
 pub mod MadeConns

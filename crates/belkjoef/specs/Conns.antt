@@ -1,5 +1,5 @@
 -- A connection without the rules of messages, in a place of C's.
-use Rattle.std.specs.Prelude.{◌≡◌, ℕ, ℤ, Bool, List, ◌++◌, Option, None, Some, Result, length}
+use Rattle.std.specs.Prelude.{◌≡◌, ℕ, ℤ, Bool, List, Option, None, Some, Result, length}
 use Rattle.std.specs.Prelude.{option_map}
 use Rattle.std.specs.Borrow.{Bor}
 use Rattle.hpack.specs.declared.types.field.Field.{Field}
@@ -25,7 +25,7 @@ use Rattle.belkjoef.specs.declared.readers.BjSettings.{BjSettings}
 use Rattle.belkjoef.specs.Calls.{found_number, found_or}
 use Rattle.belkjoef.specs.Lent.{span_of}
 use Rattle.belkjoef.specs.Numbers.{ok, held, no_memory, config_number, refusal_number}
-use Rattle.belkjoef.specs.Output.{output_waiting}
+use Rattle.belkjoef.specs.Output.{FirstWait}
 use Rattle.belkjoef.specs.WhyNumbers.{why_number}
 
 -- It is a new connection of this role, with these values.
@@ -86,7 +86,7 @@ abbrev pub ConsumesConn : ℕ → Conn → Result ℕ Refusal → Conn → Type 
 ConsumesConn count old outcome new =
     ConnAnswers old (PutOut count) (answer_by (λ given. Count given) outcome) new
 
--- The output is lent in two parts, and nothing has changed.
+-- The first two parts of the output are lent, and nothing has changed.
 -- rule: c (own) The output that waits is lent, or copied and taken away
 pub record LendsConnOutput (answer : ℤ) (first second : BjSpan) (old new : HeldConn) : Type 0
   where
@@ -95,8 +95,7 @@ pub record LendsConnOutput (answer : ℤ) (first second : BjSpan) (old new : Hel
     pub told : answer ≡ ok
     pub first_is : first ≡ span_of one
     pub second_is : second ≡ span_of two
-    pub wait : (values : Values) (log : Log) → ConnRepresents values old.conn log
-        → one.now ++ two.now ≡ output_waiting log
+    pub wait : FirstWait old.conn one.now two.now
     pub same : new ≡ old
 
 -- Whatever has happened, this is what a reader of the connection says.

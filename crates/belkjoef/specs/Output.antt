@@ -1,7 +1,8 @@
 -- Output that is lent or copied to C.
-use Rattle.std.specs.Prelude.{◌≡◌, ℕ, ℤ, List, ◌++◌, length, take, drop, min, false, IsOk}
+use Rattle.std.specs.Prelude.{◌≡◌, ◌<◌, ℕ, ℤ, List, ◌++◌, length, take, drop, min, false, IsOk}
 use Rattle.std.specs.Prelude.{Result, Ok, Err, Option, None, Some}
 use Rattle.std.specs.Borrow.{Bor}
+use Rattle.std.specs.Io.{StartsWith}
 use Rattle.h2_spec_log.specs.declared.refusal.Refusal.{Refusal}
 use Rattle.h2_spec_log.specs.Acts.{Values, PutOut, Count, Refused}
 use Rattle.h2_spec_log.specs.CallRules.{returns_before_put_out}
@@ -9,6 +10,7 @@ use Rattle.h2_spec_log.specs.Log.{Log, waiting}
 use Rattle.h2_spec_log.specs.LogView.{log_view}
 use Rattle.h2_spec_log.specs.LogCalls.{MayAnswer, with_call}
 use Rattle.h2_conn.specs.Conn.{ConnRepresents}
+use Rattle.h2_conn.specs.declared.conn.Conn.{Conn}
 use Rattle.h2_ends.specs.declared.end.End.{End}
 use Rattle.h2_ends.specs.Ends.{EndLog}
 use Rattle.h2_ends.specs.EndTakes.{end_with_log}
@@ -27,6 +29,13 @@ output_waiting log = drop log.given log.written
 abbrev pub OctetsWait : End → List ℕ → Type 0
 OctetsWait end octets = (values : Values) (log : Log) → ConnRepresents values end.conn log
     → octets ≡ output_waiting log
+
+-- Whatever has happened, the first octets that wait lie in these two parts: none only where none
+-- waits.
+abbrev pub FirstWait : Conn → (one two : List ℕ) → Type 0
+FirstWait conn one two = (values : Values) (log : Log) → ConnRepresents values conn log
+    → StartsWith (output_waiting log) (one ++ two)
+    × (0 < length (output_waiting log) → 0 < length one)
 
 -- Whatever has happened, nothing is returned before output is taken away, so that takes no memory.
 abbrev pub IsReadyOutput : End → Type 0
@@ -50,7 +59,7 @@ FineIfReady (Some held) answer = (values : Values) (log : Log)
     → ConnRepresents values (held_end held).conn log
     → returns_before_put_out (log_view log) ≡ false → answer ≡ ok
 
--- The output is lent in two parts, and nothing has changed.
+-- The first two parts of the output are lent, and nothing has changed.
 -- rule: c (own) The output that waits is lent, or copied and taken away
 pub record LendsOutput (answer : ℤ) (first second : BjSpan) (old new : Held) : Type 0 where
   pub one : Bor (List ℕ)
@@ -58,7 +67,7 @@ pub record LendsOutput (answer : ℤ) (first second : BjSpan) (old new : Held) :
   pub told : answer ≡ ok
   pub first_is : first ≡ span_of one
   pub second_is : second ≡ span_of two
-  pub wait : OctetsWait (held_end old) (one.now ++ two.now)
+  pub wait : FirstWait (held_end old).conn one.now two.now
   pub same : new ≡ old
 
 -- The output is made ready, and then as many octets as wait and as there is room for are copied

@@ -9,7 +9,7 @@ ghost use Rattle.belkjoef.specs.Numbers.{answer_number, count_in, ok};
 
 use crate::conn::{BjConn, HeldConn};
 use crate::numbers::{EMPTY, OK, of_answer, of_count};
-use crate::output::{BjSpan, copy_both};
+use crate::output::{BjSpan, copy_waiting};
 use h2_ends::Refusal;
 use std::alloc::Global;
 
@@ -30,7 +30,8 @@ pub extern "C" fn bj_conn_ready(alloc: Global, conn: &mut BjConn) -> i32
 }
 
 // contract: c (own) The output that waits is lent, or copied and taken away
-/// Lends the output that waits, in two parts, the first of which comes first.
+/// Lends the first two parts of the output that waits, the first of which comes first: both are
+/// empty only where none waits.
 #[unsafe(no_mangle)]
 pub extern "C" fn bj_conn_waiting(
     alloc: Global,
@@ -46,9 +47,9 @@ pub extern "C" fn bj_conn_waiting(
     let Some(held) = conn.open(alloc) else {
         return EMPTY;
     };
-    let (one, two) = held.conn.waiting_octets();
+    let one = held.conn.waiting_from(0);
     first.say(one);
-    second.say(two);
+    second.say(held.conn.waiting_from(one.len()));
     conn.keep(held);
     OK
 }
@@ -107,8 +108,7 @@ impl HeldConn {
         if let Err(refusal) = self.conn.ready() {
             return Err(refusal);
         }
-        let (one, two) = self.conn.waiting_octets();
-        let count = copy_both(one, two, buffer);
+        let count = copy_waiting(&self.conn, buffer);
         self.conn.consume(count)
     }
 }

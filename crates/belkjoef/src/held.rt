@@ -12,7 +12,7 @@ ghost use Rattle.belkjoef.specs.Readers.{AnswersLog, IsFull, IsDrained, AnswersQ
 ghost use Rattle.belkjoef.specs.Readers.{SaysUnsent, SaysLog, SaysMalformed, failed_with};
 ghost use Rattle.belkjoef.specs.Readers.{flow_of_data};
 ghost use Rattle.belkjoef.specs.Given.{PumpsPass};
-ghost use Rattle.belkjoef.specs.Output.{OctetsWait, IsReadyOutput, OkIfReady};
+ghost use Rattle.belkjoef.specs.Output.{IsReadyOutput, OkIfReady};
 ghost use Rattle.belkjoef.specs.WhyNumbers.{SaysWhy};
 
 use crate::kept::KeptFields;
@@ -51,16 +51,6 @@ impl Side {
         match self {
             Side::Client(client) => client.conn(),
             Side::Server(server) => server.conn(),
-        }
-    }
-
-    /// The output that waits, in two parts.
-    pub(crate) fn waiting_octets(&self) -> (&[u8], &[u8])
-        ensures { OctetsWait (end_in self.now) (result.0.now ++ result.1.now) }
-    {
-        match self {
-            Side::Client(client) => client.waiting_octets(),
-            Side::Server(server) => server.waiting_octets(),
         }
     }
 }

@@ -1,6 +1,7 @@
 //! The output.
 
 ghost use Rattle.std.specs.Prelude.{◌≡◌, ◌++◌, None, length, take, drop, min};
+ghost use Rattle.h2_conn.specs.Conn.{octets_queued};
 ghost use Rattle.belkjoef.specs.Calls.{OnPlace, Answers, AnswersWith, ReadiesEnd, ConsumesEnd};
 ghost use Rattle.belkjoef.specs.Helds.{held_end, KeepsAllElse};
 ghost use Rattle.belkjoef.specs.Lent.{span_of};
@@ -10,6 +11,7 @@ ghost use Rattle.belkjoef.specs.Output.{LendsOutput, EndCopiesOut, HoldsReady, F
 use crate::held::Held;
 use crate::numbers::{EMPTY, OK, of_answer, of_count};
 use crate::place::{BjEnd, address};
+use h2_conn::Conn;
 use h2_ends::Refusal;
 use std::alloc::Global;
 
@@ -51,7 +53,8 @@ pub extern "C" fn bj_ready(alloc: Global, end: &mut BjEnd) -> i32
 
 // contract: c (own) The output that waits is lent, or copied and taken away
 // rule: c (own) The output that waits is lent, or copied and taken away
-/// Lends the output that waits, in two parts, the first of which comes first.
+/// Lends the first two parts of the output that waits, the first of which comes first: both are
+/// empty only where none waits.
 #[unsafe(no_mangle)]
 pub extern "C" fn bj_waiting(
     alloc: Global,
@@ -67,9 +70,9 @@ pub extern "C" fn bj_waiting(
     let Some(held) = end.open(alloc) else {
         return EMPTY;
     };
-    let (one, two) = held.side.waiting_octets();
+    let one = held.side.conn().waiting_from(0);
     first.say(one);
-    second.say(two);
+    second.say(held.side.conn().waiting_from(one.len()));
     end.keep(held);
     OK
 }
@@ -125,20 +128,22 @@ impl Held {
         if let Err(refusal) = self.ready() {
             return Err(refusal);
         }
-        let (one, two) = self.side.waiting_octets();
-        let count = copy_both(one, two, buffer);
+        let count = copy_waiting(self.side.conn(), buffer);
         self.consume(count)
     }
 }
 
-/// Copies octets of two slices, one after the other, as many as there is room for, and answers how
-/// many.
-pub(crate) fn copy_both(one: &[u8], two: &[u8], buffer: &mut [u8]) -> usize
-    ensures count { result ≡ min (length buffer.old) (length (one.now ++ two.now)) }
-    ensures copied { buffer.new ≡ take result (one.now ++ two.now) ++ drop result buffer.old }
+/// Copies as many octets of the output that waits as there is room for, and answers how many.
+pub(crate) fn copy_waiting(conn: &Conn, buffer: &mut [u8]) -> usize
+    ensures count { result ≡ min (length buffer.old) (length (octets_queued conn.now)) }
+    ensures copied { buffer.new ≡ take result (octets_queued conn.now) ++ drop result buffer.old }
 {
-    let first = copy(one, buffer);
-    first + copy(two, &mut buffer[first..])
+    let most = conn.waiting().min(buffer.len());
+    let mut count = 0usize;
+    while count < most {
+        count += copy(conn.waiting_from(count), &mut buffer[count..]);
+    }
+    count
 }
 
 /// Copies as many octets as there is room for, and answers how many.

@@ -36,7 +36,7 @@ use crate::cuts::{Cut, Cutting, answers_in_cuts, read_frames};
 use crate::notes::{Notes, Taker, Used, add_taken, add_taken_once};
 use crate::numbers::{Number, add_changed, numbers_of};
 use crate::replayed::add_replay;
-use h2_case::case::Case;
+use h2_case::case::{Case, CaseError};
 use h2_case::driver::{Answer, Driver};
 use h2_case::fields::read_fields;
 use h2_case::octets::add_frames;
@@ -108,8 +108,7 @@ fn output(alloc: Global, conn: &mut Conn) -> Vec<u8> {
         if conn.ready().is_err() {
             break;
         }
-        let (first, last) = conn.waiting_octets();
-        if out.extend_from_slice(first).is_err() || out.extend_from_slice(last).is_err() {
+        if conn.append_waiting(0, &mut out).is_err() {
             break;
         }
         if matches!(conn.consume(usize::MAX), Ok(0) | Err(_)) {
@@ -121,9 +120,10 @@ fn output(alloc: Global, conn: &mut Conn) -> Vec<u8> {
 
 // Adds the frames of the queued output.
 fn add_lent(alloc: Global, conn: &Conn, words: &mut Words<'_>, text: &mut Text) {
-    let (first, last) = conn.waiting_octets();
-    let mut lent = copy_of(alloc, first, words);
-    extend(&mut lent, last, words);
+    let mut lent = Vec::new(alloc);
+    if conn.append_waiting(0, &mut lent).is_err() {
+        words.fail(CaseError::Memory);
+    }
     add_frames(text, &lent);
 }
 

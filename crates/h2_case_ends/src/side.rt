@@ -236,23 +236,21 @@ impl Side {
         match self {
             Side::Client(client) => {
                 client.ready()?;
-                let (first, second) = client.waiting_octets();
-                append(out, first, second)?;
+                append(out, client.conn())?;
                 client.consume(usize::MAX)
             }
             Side::Server(server) => {
                 server.ready()?;
-                let (first, second) = server.waiting_octets();
-                append(out, first, second)?;
+                append(out, server.conn())?;
                 server.consume(usize::MAX)
             }
         }
     }
 }
 
-// Appends two slices.
-fn append(out: &mut Vec<u8>, first: &[u8], second: &[u8]) -> Result<(), Refusal> {
-    if out.extend_from_slice(first).is_err() || out.extend_from_slice(second).is_err() {
+// Appends the output that waits.
+fn append(out: &mut Vec<u8>, conn: &Conn) -> Result<(), Refusal> {
+    if conn.append_waiting(0, out).is_err() {
         return Err(Refusal::Memory);
     }
     Ok(())

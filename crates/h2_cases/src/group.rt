@@ -6,6 +6,7 @@ use h2_case::driver::Answer;
 use h2_case::layers::{block, flow, frame, hpack_blocks, text, wire};
 use h2_case_conn::{conn, message};
 use h2_case_ends::{end, engine, pair};
+use h2_net::WriteParts;
 use std::alloc::Global;
 use std::fs::Files;
 use std::net::Net;
@@ -98,7 +99,10 @@ pub(crate) fn run_case<R: Net + Files + Clock>(
     alloc: Global,
     group: Group,
     case: &Case,
-) -> Vec<Answer> {
+) -> Vec<Answer>
+where
+    R::Stream: WriteParts,
+{
     match group {
         Group::Text => text::run_case(alloc, case),
         Group::Hpack => hpack_blocks::run_case(alloc, case),

@@ -14,6 +14,7 @@ mod program;
 use group::{GROUPS, Group, run_case};
 use h2_case::case::read_cases;
 use h2_case::report::{Counts, report_case, report_file};
+use h2_net::WriteParts;
 use std::alloc::Global;
 use std::io::Write;
 use std::process::ExitCode;
@@ -27,7 +28,10 @@ fn check_file<R: std::net::Net + fs::Files + std::time::Clock, W: Write>(
     file: &str,
     text: &str,
     out: &mut W,
-) -> io::Result<Counts> {
+) -> io::Result<Counts>
+where
+    R::Stream: WriteParts,
+{
     let cases = match read_cases(alloc, text) {
         Ok(cases) if !cases.is_empty() => cases,
         _ => return report_file(file, out),

@@ -24,7 +24,7 @@ use h2_case::octets::{add_hex, add_octets};
 use h2_case::text::Text;
 use h2_case::words::Words;
 use h2_case_conn::cuts::answers_of;
-use h2_net::exchange;
+use h2_net::{WriteParts, exchange};
 use std::alloc::Global;
 use std::fs::Files;
 use std::io::Read;
@@ -134,7 +134,10 @@ fn run<N: Net + Files + Clock, R: Read>(
     input: &mut R,
     out: &mut Vec<u8>,
     err: &mut Vec<u8>,
-) -> u8 {
+) -> u8
+where
+    N::Stream: WriteParts,
+{
     h2_tool::run(net, alloc, line, true, input, out, err).code()
 }
 
@@ -156,7 +159,10 @@ fn answer_of<N: Net + Files + Clock, R: Read>(
     alloc: Global,
     line: &[String],
     input: &mut R,
-) -> Text {
+) -> Text
+where
+    N::Stream: WriteParts,
+{
     let (mut out, mut err) = (Vec::new(alloc), Vec::new(alloc));
     let mut text = Text::new(alloc);
     let status = run(net, alloc, line, input, &mut out, &mut err);
@@ -165,7 +171,10 @@ fn answer_of<N: Net + Files + Clock, R: Read>(
 }
 
 // Adds the answer where no input was given.
-fn add_unread<N: Net + Files + Clock>(net: &N, alloc: Global, line: &[String], text: &mut Text) {
+fn add_unread<N: Net + Files + Clock>(net: &N, alloc: Global, line: &[String], text: &mut Text)
+where
+    N::Stream: WriteParts,
+{
     let mut input = Unreadable { was_read: false };
     text.push_text(&answer_of(net, alloc, line, &mut input));
     if input.was_read {
@@ -181,7 +190,10 @@ fn add_other<N: Net + Files + Clock>(
     mut pieces: Pieces<'_>,
     whole: &Text,
     text: &mut Text,
-) {
+)
+where
+    N::Stream: WriteParts,
+{
     let other = answer_of(net, alloc, line, &mut pieces);
     if other.as_str() != whole.as_str() {
         pieces.add_how(text);
@@ -197,7 +209,10 @@ fn add_cut<N: Net + Files + Clock>(
     octets: &[u8],
     whole: &Text,
     text: &mut Text,
-) {
+)
+where
+    N::Stream: WriteParts,
+{
     if octets.len() <= MOST_CUT {
         for place in 1..octets.len() {
             add_other(net, alloc, line, Pieces::cut(octets, place), whole, text);
@@ -213,7 +228,10 @@ fn add_hexadecimal<N: Net + Files + Clock>(
     octets: &[u8],
     whole: &Text,
     text: &mut Text,
-) {
+)
+where
+    N::Stream: WriteParts,
+{
     let mut digits = Text::new(alloc);
     add_hex(&mut digits, octets);
     match digits.finish() {
@@ -232,7 +250,10 @@ fn add_answers<N: Net + Files + Clock>(
     input: &Input,
     words: &mut Words<'_>,
     text: &mut Text,
-) {
+)
+where
+    N::Stream: WriteParts,
+{
     let octets = input.octets.as_slice();
     let mut line = read_line(alloc, words);
     let whole = answer_of(net, alloc, &line, &mut Pieces::whole(octets));
@@ -267,7 +288,10 @@ fn add_body(text: &mut Text, body: &[u8]) {
 }
 
 // Adds the response to a POST of `count` octets.
-fn add_exchange<N: Net>(net: &N, alloc: Global, count: u32, text: &mut Text) {
+fn add_exchange<N: Net>(net: &N, alloc: Global, count: u32, text: &mut Text)
+where
+    N::Stream: WriteParts,
+{
     match exchange(net, alloc, count) {
         Ok(fetched) => {
             if !fetched.interims.is_empty() || fetched.trailers.is_some() {
@@ -280,7 +304,10 @@ fn add_exchange<N: Net>(net: &N, alloc: Global, count: u32, text: &mut Text) {
     }
 }
 
-impl<N: Net + Files + Clock> Session<'_, N> {
+impl<N: Net + Files + Clock> Session<'_, N>
+where
+    N::Stream: WriteParts,
+{
     // Adds to the input.
     fn add_input(&mut self, words: &mut Words<'_>) {
         match &mut self.input {
@@ -302,7 +329,10 @@ impl<N: Net + Files + Clock> Session<'_, N> {
     }
 }
 
-impl<N: Net + Files + Clock> Driver for Session<'_, N> {
+impl<N: Net + Files + Clock> Driver for Session<'_, N>
+where
+    N::Stream: WriteParts,
+{
     fn answer(&mut self, name: &str, words: &mut Words<'_>, text: &mut Text) {
         match name {
             "input" => self.input = Some(Input::read(self.alloc, words)),
@@ -316,7 +346,10 @@ impl<N: Net + Files + Clock> Driver for Session<'_, N> {
 }
 
 /// The answers to a case's commands, up to the first that has none.
-pub(crate) fn run_case<N: Net + Files + Clock>(net: &N, alloc: Global, case: &Case) -> Vec<Answer> {
+pub(crate) fn run_case<N: Net + Files + Clock>(net: &N, alloc: Global, case: &Case) -> Vec<Answer>
+where
+    N::Stream: WriteParts,
+{
     let session = Session {
         net,
         alloc,

@@ -40,3 +40,5 @@ mod TakeStart
 pub mod Names
 -- Worked rows.
 mod examples
+-- Parts of what waits.
+pub mod WaitingParts

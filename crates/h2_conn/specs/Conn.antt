@@ -1,5 +1,7 @@
 -- When a connection represents the log of an end, and the connection after its calls.
-use Rattle.std.specs.Prelude.{◌≡◌, ℕ, ◌+◌, ◌||◌, if◌then◌else◌, List, ◌++◌, take, drop}
+use Rattle.std.specs.Prelude.{◌≡◌, ◌<◌, ℕ, ◌+◌, ◌||◌, if◌then◌else◌, List, ◌++◌, length}
+use Rattle.std.specs.Prelude.{take, drop}
+use Rattle.std.specs.Io.{StartsWith}
 use Rattle.std.specs.Prelude.{Option, Some, None, is_some, Result, Ok, Err}
 use Rattle.h2_spec_log.specs.declared.refusal.Refusal.{Refusal}
 use Rattle.h2_spec_log.specs.Acts.{Values, Act, Answer, Refused, PutOut, Count, shown}
@@ -65,6 +67,18 @@ GivesOut old count given before after =
     (values : Values) (log : Log) → ConnRepresents values old log
     → after ≡ before ++ drop log.given
     (take (log.given + given) (with_call log (PutOut count) (Count given)).written)
+
+-- the octets that a connection has queued
+abbrev pub octets_queued : Conn → List ℕ
+octets_queued conn = conn.inner.end.output.waiting
+
+-- Octets of the output that waits begin at a place, some at least where some wait there.
+-- rule: calls (own) An end lends its output, and says the place of a fault
+abbrev pub LendsFrom : Conn → (at : ℕ) → (part : List ℕ) → Type 0
+LendsFrom conn at part =
+    (values : Values) (log : Log) → ConnRepresents values conn log
+    → StartsWith (drop at (drop log.given log.written)) part
+    × (at < length (drop log.given log.written) → 0 < length part)
 
 -- the number of the stream that a client opens next; none once the connection has failed, and at a
 -- server

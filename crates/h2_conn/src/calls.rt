@@ -15,10 +15,12 @@ ghost use Rattle.h2_conn.specs.Conn.{ConnAnswers, ConnRepresents, ConnShows, ans
 
 use crate::conn::Conn;
 use crate::why::Why;
+use bytes::Bytes;
 use h2_flow::Config;
 use h2_frame::Code;
 use h2_spec_log::Refusal;
 use hpack::Field;
+use std::alloc::Global;
 
 impl Conn {
     /// Opens a stream with a field section; `end` sets END_STREAM, so that nothing follows on it.
@@ -75,6 +77,35 @@ impl Conn {
             → result ≢ Err Refusal.Memory }
     {
         self.inner.end.send_data(id, octets, end)
+    }
+
+    // contract: calls (own) A call that sends nothing takes no memory
+    /// Sends octets of a body as [`Conn::data`], with no copy of them where they are many: they
+    /// wait where they lie, and are let go once they are taken away.
+    ///
+    /// # Errors
+    ///
+    /// [`Refusal::Closed`] (C1), [`Refusal::NoSuchStream`] (C2), [`Refusal::Ended`] (C3),
+    /// [`Refusal::OutputFull`] (C7) and [`Refusal::Memory`] (C12), in this order. Nothing has
+    /// changed.
+    pub fn data_shared(
+        &mut self,
+        id: u32,
+        octets: Bytes<Global>,
+        end: bool,
+    ) -> Result<usize, Refusal>
+        ensures answers { ConnAnswers self.old (SendData id octets end)
+            (answer_by (λ count. Count count) result) self.new }
+        ensures within { IfOk result (λ count. count ≤ length octets) }
+        ensures octets { AllByRecursion IsOctet octets }
+
+        // A call that sends nothing takes no memory.
+        ensures nothing { (values : Values) (log : Log) → ConnRepresents values self.old log
+            → sends_no_data (log_view log) id octets end ≡ true
+            → result ≢ Err Refusal.Memory }
+    {
+        are_octets(octets.as_slice());
+        self.inner.end.send_shared_data(id, octets, end)
     }
 
     /// Returns credit of `count` octets, which were reported and are owed, for a stream and the
@@ -191,4 +222,11 @@ impl Conn {
         self.inner.limit_payloads();
         Ok(())
     }
+}
+
+/// The items of a slice are octets: a proof learns this from the call, which does nothing.
+fn are_octets(octets: &[u8])
+    ensures { AllByRecursion IsOctet octets.now }
+{
+    let _len = octets.len();
 }

@@ -13,7 +13,7 @@ ghost use Rattle.h2_spec_log.specs.Settings.{value_read};
 ghost use Rattle.h2_spec_log.specs.Windows.{first_window};
 ghost use Rattle.h2_spec_log.specs.CallRules.{reader_room, reader_owed, reader_due, refusal_of};
 ghost use Rattle.std.specs.Option.{option_map};
-ghost use Rattle.h2_conn.specs.Conn.{ConnRepresents, reader_next_number};
+ghost use Rattle.h2_conn.specs.Conn.{ConnRepresents, reader_next_number, octets_queued};
 ghost use Rattle.h2_conn.specs.Counts.{last_flow};
 ghost use Rattle.h2_conn.specs.Why.{IsWhy, code_of_why};
 
@@ -32,6 +32,7 @@ impl Conn {
             → result ≡ waiting log }
         ensures bound { (values : Values) (log : Log) → ConnRepresents values self.now log
             → result ≤ 262161 }
+        ensures queued { result ≡ length (octets_queued self.now) }
     {
         self.inner.end.waiting()
     }

@@ -169,7 +169,7 @@ impl Endpoint {
     // rule: calls (own) A call does what it says, or is refused for its first condition
     /// The stream, if it may be sent on.
     #[inline(always)]
-    fn sendable(&self, id: u32) -> Result<Stream, Refusal>
+    pub(crate) fn sendable(&self, id: u32) -> Result<Stream, Refusal>
         ensures ok { IfOk result (λ stream. (self.now.failed ≡ None)
             × (stream_at (end_of self.now) id ≡ Some (stream_view stream))
             × (stream.state.ended_out ≡ false) × (length self.now.output.waiting < 65536)) }
@@ -194,7 +194,7 @@ impl Endpoint {
 
     // rule: 6.9.1 DATA is sent within both windows
     /// The number of octets, of `count`, that may be sent on a stream now.
-    fn sendable_octets(&self, stream: &Stream, count: usize) -> usize
+    pub(crate) fn sendable_octets(&self, stream: &Stream, count: usize) -> usize
         requires { is_far stream.now.send_window ≡ false }
         ensures { result ≡ data_count (end_view (end_of self.now)) (Some (stream_view stream.now))
             count }
@@ -298,7 +298,7 @@ impl Endpoint {
     // rule: 4.2 (own) Payloads of at most 65,536 octets are sent, where the peer reads them
     /// The greatest payload that is sent now, in octets: what the peer reads, and 65,536 at most
     /// (section 4.2).
-    fn most_octets(&self) -> usize
+    pub(crate) fn most_octets(&self) -> usize
         ensures value { result ≡ (end_view (end_of self.now)).max_payload }
         ensures least { 16384 ≤ result }
         ensures small { result ≤ 65536 }
@@ -395,7 +395,7 @@ impl Endpoint {
 
 /// Whether a call sends nothing: no octet may be sent, and it isn't an empty slice that ends the
 /// stream.
-fn sends_nothing(octets: &[u8], end: bool, count: usize) -> bool
+pub(crate) fn sends_nothing(octets: &[u8], end: bool, count: usize) -> bool
     ensures { result ≡ (count == 0 && not (length octets.now == 0 && end)) }
 {
     count == 0 && !(octets.is_empty() && end)

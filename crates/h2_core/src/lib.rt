@@ -19,6 +19,7 @@ mod receive_block;
 mod receive_settings;
 mod receive_update;
 mod settings_frame;
+mod shared_calls;
 mod status;
 mod step_error;
 mod stream_steps;

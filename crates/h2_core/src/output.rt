@@ -1,8 +1,9 @@
 //! The queued output of an end, and putting it out.
 
-ghost use Rattle.std.specs.Prelude.{◌≡◌, ◌+◌, ◌≤◌, ◌++◌, length, min, true, false, None};
+ghost use Rattle.std.specs.Prelude.{◌≡◌, ◌+◌, ◌≤◌, ◌<◌, length, drop, min, true, false, None};
 ghost use Rattle.std.specs.Prelude.{IfOk, IfErr, IsOk, if◌then◌else◌, vec_len};
 ghost use Rattle.std.specs.Vec.{vec_capacity};
+ghost use Rattle.std.specs.Io.{StartsWith};
 ghost use Rattle.h2_spec_log.specs.CallRules.{returns_before_put_out};
 ghost use Rattle.h2_spec_machine.specs.End.{end_view};
 ghost use Rattle.h2_spec_machine.specs.Machine.{before_put_out_at};
@@ -124,10 +125,12 @@ impl Endpoint {
 
     // contract: calls (own) An end lends its output, and says the place of a fault
     // rule: calls (own) An end lends its output, and says the place of a fault
-    /// Lends the queued output, in two slices, the first of which comes first. It takes no memory.
-    pub fn waiting_octets(&self) -> (&[u8], &[u8])
-        ensures { result.0.now ++ result.1.now ≡ self.now.output.waiting }
+    /// Lends the queued output from a place on, as much as lies there in one piece. It takes no
+    /// memory.
+    pub fn waiting_from(&self, at: usize) -> &[u8]
+        ensures part { StartsWith (drop at self.now.output.waiting) result.now }
+        ensures some { at < length self.now.output.waiting → 0 < length result.now }
     {
-        self.output.as_slices()
+        self.output.waiting_from(at)
     }
 }

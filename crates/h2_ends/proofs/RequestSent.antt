@@ -76,7 +76,7 @@ outgoing_by : (end : EndLog) (id : ℕ) (message : Message) (b : Bool)
     → tokens_out end id ≡ FieldsToken message.head.items b ∷ end_tokens b
     → is_too_large (trailer_fields (message_value message).trailers) ≡ false
     → IsOutgoing end id (if b then outgoings.Sent else outgoings.Waiting (record {
-      body = message.body;
+      body = record { items = message.body.items };
       sent = 0;
       trailers = message.trailers;
     }))

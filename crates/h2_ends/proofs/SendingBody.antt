@@ -50,6 +50,17 @@ rest_is left body is =
     (length-drop left.sent body) (take-length (drop left.sent body))
     ∙ ap (λ (line : List ℕ). drop left.sent line) is
 
+-- So is what is left of it, where so many octets are sent.
+pub left_is : (left : Waiting) (count : ℕ) → count ≡ length left.body.items - left.sent
+    → take count (drop left.sent left.body.items) ≡ octets_left left
+left_is left count is = ap (λ (n : ℕ). take n (drop left.sent left.body.items)) is
+    ∙ rest_is left left.body.items refl
+
+-- How many octets are left.
+pub left_size : (left : Waiting) (count : ℕ) → count ≡ length left.body.items
+    → count - left.sent ≡ length (octets_left left)
+left_size left count is = omega (arith, is, length-drop left.sent left.body.items)
+
 -- So few octets were sent that their sum is exact.
 exact : (sum n total : ℕ) → total ≡ min (sum + n) 18446744073709551615 → sum + n ≤ 262161
     → sum + n ≡ total

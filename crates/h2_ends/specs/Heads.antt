@@ -37,7 +37,7 @@ abbrev pub outgoing_for : Message → Outgoing
 outgoing_for message =
     if is_head_alone (message_value message) then outgoings.Sent
     else outgoings.Waiting (record {
-      body = message.body;
+      body = record { items = message.body.items };
       sent = 0;
       trailers = message.trailers;
     })

@@ -5,6 +5,7 @@ pub mod Passes
 pub mod Passing
 pub mod Turns
 pub mod Ends
+pub mod Bodies
 pub mod EndEvents
 pub mod Loans
 pub mod Represents

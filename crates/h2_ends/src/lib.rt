@@ -12,6 +12,7 @@
 //! write first and call again.
 #![tactic(auto)]
 
+mod body;
 mod client;
 mod control;
 mod end;

@@ -1,5 +1,6 @@
 //! What a stream of an end has to send, and what was read of it.
 
+use crate::body::Body;
 use h2_message::{BodyLength, Reading};
 use hpack::Field;
 
@@ -7,7 +8,7 @@ use hpack::Field;
 #[derive(Debug, Drop)]
 pub(crate) struct Waiting {
     /// The body.
-    pub(crate) body: Vec<u8>,
+    pub(crate) body: Body,
     /// How many of its octets were sent.
     pub(crate) sent: usize,
     /// The trailers.

@@ -139,10 +139,11 @@ fn send_share(
     let most = pass.share_size(id);
     pass.rest = most;
     if waiting.sent < waiting.body.len() {
-        let rest = &waiting.body[waiting.sent..];
-        let size = rest.len().min(most);
-        let ends = size == rest.len() && waiting.trailers.is_none();
-        match conn.data(id, &rest[..size], ends) {
+        let all = waiting.body.len();
+        let left = all - waiting.sent;
+        let size = left.min(most);
+        let ends = size == left && waiting.trailers.is_none();
+        match waiting.body.send(conn, id, waiting.sent, size, ends) {
             Ok(sent) => {
                 waiting.sent += sent;
                 pass.rest = most.saturating_sub(sent);

@@ -15,6 +15,7 @@ ghost use Rattle.h2_ends.specs.Represents.{EndRepresents, EndPumps, EndReleases,
 ghost use Rattle.h2_ends.specs.Represents.{EndResponds};
 ghost use Rattle.h2_ends.specs.Sends.{IsNextIn, PumpsOn, Sends, StopsBy, WaitsAsBefore};
 
+use crate::body::Body;
 use crate::end::End;
 use crate::outgoing::{Outgoing, Stream, Waiting};
 use crate::refusal::EndRefusal;
@@ -295,8 +296,10 @@ fn send(
     ensures { Sends conn.old id waiting.old count.old result conn.new waiting.new count.new }
 {
     while waiting.sent < waiting.body.len() {
-        let rest = &waiting.body[waiting.sent..];
-        match conn.data(id, rest, waiting.trailers.is_none()) {
+        let all = waiting.body.len();
+        let left = all - waiting.sent;
+        let ends = waiting.trailers.is_none();
+        match waiting.body.send(conn, id, waiting.sent, left, ends) {
             Ok(0) => return Ok(SendState::Stuck),
             Ok(sent) => {
                 waiting.sent += sent;
@@ -336,7 +339,7 @@ fn outgoing_of(message: Message) -> Outgoing
     }
     let Message { body, trailers, .. } = message;
     Outgoing::Waiting(Waiting {
-        body,
+        body: Body::new(body),
         sent: 0,
         trailers,
     })

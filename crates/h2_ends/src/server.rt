@@ -11,7 +11,7 @@ ghost use Rattle.h2_spec_log.specs.CallRules.{returns_before_put_out};
 ghost use Rattle.h2_spec_log.specs.Limits.{full_output};
 ghost use Rattle.h2_spec_log.specs.Log.{Log, waiting, reader_next_live};
 ghost use Rattle.h2_spec_log.specs.LogView.{log_view};
-ghost use Rattle.h2_conn.specs.Conn.{ConnRepresents, GivesOut, answer_by};
+ghost use Rattle.h2_conn.specs.Conn.{ConnRepresents, GivesOut, answer_by, LendsFrom};
 ghost use Rattle.h2_conn.specs.Counts.{last_flow};
 ghost use Rattle.h2_message.specs.Values.{message_value};
 ghost use Rattle.h2_ends.specs.Ends.{EndLog};
@@ -372,13 +372,12 @@ impl Server {
     }
 
     // contract: calls (own) An end lends its output, and says the place of a fault
-    /// Lends the output that waits, in two slices, the first of which comes first: see
-    /// [`Conn::waiting_octets`]. After [`Server::ready`] it is all that can be written now.
-    pub fn waiting_octets(&self) -> (&[u8], &[u8])
-        ensures { (values : Values) (log : Log) → ConnRepresents values self.now.end.conn log
-            → result.0.now ++ result.1.now ≡ drop log.given log.written }
+    /// Lends the output that waits from a place on, as much as lies there in one piece: see
+    /// [`Conn::waiting_from`]. After [`Server::ready`] it is all that can be written now.
+    pub fn waiting_from(&self, at: usize) -> &[u8]
+        ensures { LendsFrom self.now.end.conn at result.now }
     {
-        self.end.conn.waiting_octets()
+        self.end.conn.waiting_from(at)
     }
 
     // contract: 8.1 (own) The other calls of a client and a server are the connection's
@@ -404,7 +403,7 @@ impl Server {
     // contract: 8.1 (own) The other calls of a client and a server are the connection's
     /// Takes away at most `count` octets of the output, which were written from where they lie,
     /// and returns their number: see [`Conn::consume`]. Call [`Server::ready`] before each
-    /// [`Server::waiting_octets`], and give the number of octets that were written.
+    /// [`Server::waiting_from`], and give the number of octets that were written.
     ///
     /// # Errors
     ///

@@ -30,7 +30,7 @@ pub mod ResponderHears
 pub mod ResponderOutput
 pub mod ResponderRefusals
 pub mod ResponderStalls
-pub mod WritesBoth
+pub mod WritesParts
 pub mod ResponderWrites
 pub mod SameRequests
 pub mod SentAll

@@ -1,14 +1,14 @@
 //! What drives a server or a client, over a link or over octets that it is handed.
 
-ghost use Rattle.std.specs.Prelude.{◌≡◌, ◌≤◌, ◌<◌, ◌-◌, ◌^◌, ◌++◌, [], Bool, true, false, length};
+ghost use Rattle.std.specs.Prelude.{◌≡◌, ◌≤◌, ◌<◌, ◌-◌, ◌^◌, [], Bool, true, false, length, drop, Ok};
 ghost use Rattle.std.specs.Prelude.{IfOk, IfErr, IsOk, OnErr, OnOk};
 ghost use Rattle.std.specs.Io.KnownBytes.{Appends};
 ghost use Rattle.h2_spec_log.specs.Acts.{PutOut, Count, Values};
 ghost use Rattle.h2_spec_log.specs.CallRules.{returns_before_put_out};
 ghost use Rattle.h2_spec_log.specs.Log.{Log};
 ghost use Rattle.h2_spec_log.specs.LogView.{log_view};
-ghost use Rattle.h2_conn.specs.Conn.{ConnRepresents, GivesOut, answer_by};
-ghost use Rattle.h2_link.specs.Links.{StallsAtNoProgress, WritesAll};
+ghost use Rattle.h2_conn.specs.Conn.{ConnRepresents, GivesOut, answer_by, octets_queued};
+ghost use Rattle.h2_link.specs.Links.{StallsAtNoProgress, WritesAll, Takes, failures_after};
 ghost use Rattle.h2_ends.specs.Represents.{EndAnswers, EndPumps, EndReleases};
 ghost use Rattle.h2_engines.specs.Failures.{EndsWriting, IsOfCall, failures_at_end, failures_by};
 ghost use Rattle.h2_engines.specs.Linked.{traffic};
@@ -24,8 +24,9 @@ use crate::room::room_for_input;
 use h2_conn::Conn;
 use h2_ends::{EndRefusal, Refusal};
 use h2_frame::limits::FULL_OUTPUT;
-use h2_link::{Link, LinkError, write_all};
+use h2_link::{Link, LinkError, LinkFault};
 use std::alloc::Global;
+use std::io::IoSlice;
 
 /// What a machine made of a piece.
 #[derive(Drop)]
@@ -128,8 +129,7 @@ fn write_out<M: Machine, L: Link>(machine: &mut M, link: &mut L) -> Result<(), L
         if machine.conn().waiting() == 0 {
             return Ok(());
         }
-        let (first, second) = machine.conn().waiting_octets();
-        let written = write_both(link, first, second);
+        let written = write_waiting(link, machine.conn());
         let consumed = machine.consume(usize::MAX);
         written?;
         unless_refused(consumed)?;
@@ -137,16 +137,55 @@ fn write_out<M: Machine, L: Link>(machine: &mut M, link: &mut L) -> Result<(), L
     Err(LinkError::NoProgress)
 }
 
-/// Writes all octets of two slices, the first before the second.
-fn write_both<L: Link>(link: &mut L, first: &[u8], second: &[u8]) -> Result<(), LinkError>
+/// Writes all octets that wait, in order, in as many calls as it takes.
+fn write_waiting<L: Link>(link: &mut L, conn: &Conn) -> Result<(), LinkError>
     requires { L.faults link.old < 2 ^ 64 - 1 }
     ensures writes { WritesAll (L.taken link.old) (L.taken link.new) (L.faults link.old)
-        (L.faults link.new) result (first.now ++ second.now) }
+        (L.faults link.new) result (octets_queued conn.now) }
     ensures gives_none { Appends (L.given link.old) (L.given link.new) [] }
     ensures stalled { StallsAtNoProgress result (L.stalled link.new) }
 {
-    write_all(link, first)?;
-    write_all(link, second)
+    let waiting = conn.waiting();
+    let mut written = 0usize;
+    for _ in 0..waiting {
+        if written == waiting {
+            break;
+        }
+        let count = write_from(link, conn, written)?;
+        if count == 0 {
+            return Err(LinkError::NoProgress);
+        }
+        written += count;
+    }
+    Ok(())
+}
+
+/// Writes octets that wait from a place on, at which some wait, as many parts as a link writes at
+/// once. Answers how many were written.
+fn write_from<L: Link>(link: &mut L, conn: &Conn, at: usize) -> Result<usize, LinkFault>
+    requires failures { L.faults link.old < 2 ^ 64 - 1 }
+    requires fits { length (octets_queued conn.now) < 2 ^ 64 }
+    requires some { at < length (octets_queued conn.now) }
+    ensures takes { Takes (L.taken link.old) (L.taken link.new) result
+        (drop at (octets_queued conn.now)) }
+    ensures gives_none { Appends (L.given link.old) (L.given link.new) [] }
+    ensures ended { L.ended link.new ≡ L.ended link.old }
+    ensures failures { L.faults link.new ≡ failures_after (L.faults link.old) result }
+    ensures stalled { result ≡ Ok 0 → L.stalled link.new ≡ true }
+{
+    let first = conn.waiting_from(at);
+    let past_first = at + first.len();
+    let second = conn.waiting_from(past_first);
+    let past_second = past_first + second.len();
+    let third = conn.waiting_from(past_second);
+    let past_third = past_second + third.len();
+    let fourth = conn.waiting_from(past_third);
+    link.write_parts(&[
+        IoSlice::new(first),
+        IoSlice::new(second),
+        IoSlice::new(third),
+        IoSlice::new(fourth),
+    ])
 }
 
 /// Does what is due, once all that waits is written, where it is written to a link.

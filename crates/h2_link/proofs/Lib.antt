@@ -1,2 +1,3 @@
 pub mod GivesLemmas
 pub mod TakesLemmas
+pub mod PartsLemmas

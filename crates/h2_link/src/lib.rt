@@ -5,10 +5,12 @@ mod error;
 mod interrupted;
 mod link;
 mod memory;
+mod parts;
 mod writing;
 
 pub use error::LinkError;
 pub use interrupted::{read_some, write_some};
 pub use link::{Link, LinkFault};
 pub use memory::MemoryLink;
+pub use parts::first_part;
 pub use writing::write_all;

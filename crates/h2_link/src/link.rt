@@ -2,9 +2,12 @@
 
 ghost use Rattle.std.specs.Prelude.{◌≡◌, ◌<◌, ◌-◌, ◌^◌, ℕ, Bool, List, [], Option, length};
 ghost use Rattle.std.specs.Io.KnownBytes.{Appends};
+ghost use Rattle.std.specs.Io.Slices.{io_slices_bytes};
 ghost use Rattle.h2_link.specs.Links.{failures_after, ended_after, stalled_after, Gives};
 ghost use Rattle.h2_link.specs.Links.{Takes};
 
+use crate::parts::first_part;
+use std::io::IoSlice;
 use thiserror::Error;
 
 /// A call of a link has failed. Nothing more is known of it.
@@ -58,6 +61,24 @@ pub trait Link {
         ensures stalled { stalled self.new
             ≡ stalled_after (stalled self.old) (length octets.now) result }
         ensures failures { faults self.new ≡ failures_after (faults self.old) result };
+
+    /// Writes the first of the octets that lie in several parts, in order, and answers how many.
+    ///
+    /// # Errors
+    ///
+    /// [`LinkFault`] where the write failed: some first octets may have been written.
+    fn write_parts(&mut self, parts: &[IoSlice<'_>]) -> Result<usize, LinkFault>
+        requires { faults self.old < 2 ^ 64 - 1 }
+        ensures takes { Takes (taken self.old) (taken self.new) result
+            (io_slices_bytes parts.now) }
+        ensures gives_none { Appends (given self.old) (given self.new) [] }
+        ensures ended { ended self.new ≡ ended self.old }
+        ensures stalled { stalled self.new ≡ stalled_after (stalled self.old)
+            (length (io_slices_bytes parts.now)) result }
+        ensures failures { faults self.new ≡ failures_after (faults self.old) result }
+    {
+        self.write(first_part(parts))
+    }
 
     /// How many of its calls have failed: one more after each that does, and after no other.
     fn failures(&self) -> u64

@@ -5,6 +5,7 @@ pub mod Names
 mod PostedRequest
 mod PostingLemmas
 pub mod Printing
+mod PartsSent
 mod ReadingLemmas
 pub mod SendingLemmas
 mod ServingLemmas

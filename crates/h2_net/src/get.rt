@@ -17,6 +17,7 @@ ghost use Rattle.h2_net.specs.Printing.{IsPhraseOf, PrintsResponse, status_line}
 
 use crate::ending::{Ending, client_hint};
 use crate::location::Location;
+use crate::parts::WriteParts;
 use crate::stream_link::StreamLink;
 use h2_cli::hint_of_connecting;
 use h2_engines::{Config, Fetched, Field, Link, LinkError, Message, fetch_link};
@@ -34,6 +35,8 @@ use std::net::{Net, OpenStream, TcpStream};
 ///
 /// Those of [`fetch_location`].
 pub fn get_location<N: Net>(net: &N, alloc: Global, location: &Location) -> Result<Fetched, Ending>
+where
+    N::Stream: WriteParts,
     ensures gets { GetsLocation location.now (without_hint result) }
     ensures hint { IfErr result HasClientHint }
 {
@@ -61,6 +64,8 @@ pub fn fetch_location<N: Net>(
     location: &Location,
     message: Message,
 ) -> Result<Fetched, Ending>
+where
+    N::Stream: WriteParts,
     ensures fetches { FetchesRequest (message_value message) (without_hint result) }
     ensures hint { IfErr result HasClientHint }
 {
@@ -88,7 +93,7 @@ fn address_of(location: &Location) -> (&str, u16)
 
 /// Makes a request over a link, as [`fetch_link`] does, and sends all that is held for it. Where the
 /// fetch fails the hint says what is likely the cause.
-fn fetch_with_hint<S: Read + Write + OpenStream>(
+fn fetch_with_hint<S: Read + WriteParts + OpenStream>(
     alloc: Global,
     link: &mut StreamLink<S>,
     message: Message,

@@ -11,6 +11,7 @@ ghost use Rattle.h2_net.specs.Loopback.{PostsOn, post_request};
 ghost use Rattle.h2_net.specs.Printing.{exchange_line};
 
 use crate::get::status_value;
+use crate::parts::WriteParts;
 use crate::stream_link::StreamLink;
 use h2_engines::{Config, Fetched, Fetcher, Field, Link, LinkError, Message, Responder};
 use h2_link::write_all;
@@ -57,6 +58,8 @@ struct Carried {
 /// [`LinkError::Stream`] (N2), [`LinkError::Reset`] (N6), [`LinkError::Refused`] (N7) and each
 /// other [`LinkError::NoProgress`] (N5) would be faults of the ends.
 pub fn exchange<N: Net>(net: &N, alloc: Global, count: u32) -> Result<Fetched, LinkError>
+where
+    N::Stream: WriteParts,
     ensures { ExchangesPost count result }
 {
     let mut ends = new_ends(net, alloc, count)?;
@@ -75,6 +78,8 @@ pub fn exchange<N: Net>(net: &N, alloc: Global, count: u32) -> Result<Fetched, L
 // rule: engines (own) h2 loop posts octets, and its line says how many came
 /// Two ends, of which the client is to post so many octets, and their connection.
 fn new_ends<N: Net>(net: &N, alloc: Global, count: u32) -> Result<Ends<N::Stream>, LinkError>
+where
+    N::Stream: WriteParts,
     ensures failures { IfOk result NoneHasFailed }
     ensures posts { IfOk result (λ ends. IsPosting count ends.client) }
     ensures err { IfErr result (λ error. error ≢ LinkError.Refused) }
@@ -92,7 +97,7 @@ fn new_ends<N: Net>(net: &N, alloc: Global, count: u32) -> Result<Ends<N::Stream
 // rule: engines (own) h2 loop posts octets, and its line says how many came
 /// Lets both ends write in turns, until a round in which neither does. Answers whether the response
 /// is whole.
-fn carry_all<S: Read + Write + OpenStream>(
+fn carry_all<S: Read + WriteParts + OpenStream>(
     ends: &mut Ends<S>,
     carried: &mut Carried,
 ) -> Result<bool, LinkError>
@@ -171,6 +176,8 @@ fn joined<N: Net>(
     net: &N,
     alloc: Global,
 ) -> Result<(StreamLink<N::Stream>, StreamLink<N::Stream>), LinkError>
+where
+    N::Stream: WriteParts,
     ensures failures { IfOk result (λ links. (links.0.failures ≡ 0) × (links.1.failures ≡ 0)) }
     ensures err { IfErr result (λ error. error ≢ LinkError.Refused) }
 {
@@ -184,7 +191,7 @@ fn joined<N: Net>(
 }
 
 /// The client writes, and the server takes that.
-fn client_turn<S: Read + Write + OpenStream>(
+fn client_turn<S: Read + WriteParts + OpenStream>(
     ends: &mut Ends<S>,
     carried: &mut Carried,
 ) -> Result<(), LinkError>
@@ -204,7 +211,7 @@ fn client_turn<S: Read + Write + OpenStream>(
 }
 
 /// The server writes, and the client takes that. Answers whether the response has become whole.
-fn server_turn<S: Read + Write + OpenStream>(
+fn server_turn<S: Read + WriteParts + OpenStream>(
     ends: &mut Ends<S>,
     carried: &mut Carried,
 ) -> Result<bool, LinkError>
@@ -226,7 +233,7 @@ fn server_turn<S: Read + Write + OpenStream>(
 
 /// Writes octets at one side of a connection, as many as there is room for, and reads as many at
 /// the other. Answers how many.
-fn carry<S: Read + Write + OpenStream>(
+fn carry<S: Read + WriteParts + OpenStream>(
     from: &mut StreamLink<S>,
     to: &mut StreamLink<S>,
     octets: &[u8],

@@ -11,6 +11,7 @@ ghost use Rattle.h2_net.specs.Fetching.{default_values};
 ghost use Rattle.h2_net.specs.Serving.{ServesConnection, ServesConnections, ServesPort};
 
 use crate::ending::{Ending, report, server_hint};
+use crate::parts::WriteParts;
 use crate::stream_link::StreamLink;
 use h2_cli::{Status, hint_of_device};
 use h2_engines::{Config, LinkError, serve_link};
@@ -33,6 +34,8 @@ pub fn serve_port<N: Net, E: Write>(
     count: u16,
     err: &mut E,
 ) -> Status
+where
+    N::Stream: WriteParts,
     ensures status { IsServingStatus result }
     ensures serves { ServesPort count result }
 {
@@ -56,7 +59,7 @@ pub fn serve_connections<L: OpenListener, E: Write>(
     err: &mut E,
 ) -> Status
 where
-    L::Stream: Read + Write + OpenStream,
+    L::Stream: Read + WriteParts + OpenStream,
     ensures status { IsServingStatus result }
     ensures serves { ServesConnections count result }
 {
@@ -75,7 +78,7 @@ where
 /// Serves the next connection that a listener accepts.
 fn serve_next<L: OpenListener>(alloc: Global, listener: &L) -> Result<(), Ending>
 where
-    L::Stream: Read + Write + OpenStream,
+    L::Stream: Read + WriteParts + OpenStream,
     ensures err { IfErr result (λ ending. EndsServing ending.error) }
     ensures serves { ServesConnection (without_hint result) }
 {
@@ -94,7 +97,7 @@ where
 
 /// Serves one connection, as [`serve_stream`] does. Where it ends early the hint says what is
 /// likely the cause.
-fn serve_with_hint<S: Read + Write + OpenStream>(
+fn serve_with_hint<S: Read + WriteParts + OpenStream>(
     alloc: Global,
     link: &mut StreamLink<S>,
 ) -> Result<(), Ending>
@@ -122,7 +125,7 @@ fn serve_with_hint<S: Read + Write + OpenStream>(
 // rule: engines (own) After N2 and N3 input is dropped up to 16 MiB
 /// Serves one connection, and sends all that is held for it. After [`LinkError::Stream`] (N2) and
 /// [`LinkError::Memory`] (N3) the peer has the time to read the GOAWAY.
-fn serve_stream<S: Read + Write + OpenStream>(
+fn serve_stream<S: Read + WriteParts + OpenStream>(
     alloc: Global,
     link: &mut StreamLink<S>,
 ) -> Result<(), LinkError>

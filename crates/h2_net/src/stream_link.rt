@@ -4,21 +4,23 @@ ghost use Rattle.std.specs.Prelude.{◌≡◌, ◌⊎◌, ◌<◌, ◌≤◌, �
 ghost use Rattle.std.specs.Prelude.{OnOk};
 ghost use Rattle.std.specs.Prelude.{true, false};
 ghost use Rattle.std.specs.Io.KnownBytes.{Appends};
-ghost use Rattle.h2_link.specs.Links.{failures_after, ended_after, stalled_after, Gives, Takes};
+ghost use Rattle.std.specs.Io.Slices.{io_slices_bytes};
+ghost use Rattle.h2_link.specs.Links.{failures_after, ended_after, stalled_after, Gives, Takes, TakesFirst};
 ghost use Rattle.h2_net.specs.StreamLinks.{octets_passed, SendsThrough, ReadsThrough};
 ghost use Rattle.h2_net.specs.StreamLinks.{KeepsRead};
 
+use crate::parts::{WriteParts, are_many, part_at};
 use crate::sending::{MOST_FIRST, keep_first, remove_first, send};
-use h2_link::{Link, LinkError, LinkFault, read_some};
+use h2_link::{Link, LinkError, LinkFault, first_part, read_some};
 use std::alloc::Global;
-use std::io::{ErrorKind, Read, Write};
+use std::io::{ErrorKind, IoSlice, Read};
 use std::net::{OpenStream, Shutdown};
 
 /// So many octets are held before they are sent, at most.
 const MOST_HELD: usize = 65_536;
 
 /// So many octets are sent from where they lie, where none are held.
-const DIRECT: usize = 8_192;
+pub(crate) const DIRECT: usize = 8_192;
 
 /// So many octets are read at once where they are dropped.
 const DROPPED_PIECE: usize = 4_096;
@@ -48,7 +50,7 @@ pub struct StreamLink<S> {
     drained: bool,
 }
 
-impl<S: Read + Write + OpenStream> StreamLink<S> {
+impl<S: Read + WriteParts + OpenStream> StreamLink<S> {
     // rule: engines (own) A link over TCP holds 65,536 octets at most, then sends them
     // rule: engines (own) A link over TCP counts the calls that have failed
     /// A link over a stream, with room for what it holds. The stream sends at once what it is given
@@ -180,6 +182,39 @@ impl<S: Read + Write + OpenStream> StreamLink<S> {
         Err(LinkFault)
     }
 
+    // rule: engines (own) A link over TCP sends octets in order and once
+    /// Sends what is held, and then octets from where they lie, in one write, where these are many.
+    /// Answers how many of these were sent: none where the write failed, or took no more than was
+    /// held.
+    fn send_parts(&mut self, parts: &[IoSlice<'_>]) -> usize
+        ensures holds { TakesFirst (octets_passed S.contents self.old)
+            (octets_passed S.contents self.new) (io_slices_bytes parts.now) result }
+        ensures held { 0 < result → self.new.held.items ≡ [] }
+        ensures bounded { length self.new.held.items ≤ length self.old.held.items }
+        ensures failures { self.new.failures ≡ self.old.failures }
+        ensures ended { self.new.ended ≡ self.old.ended }
+        ensures stalled { self.new.stalled ≡ self.old.stalled }
+        ensures first { self.new.first ≡ self.old.first }
+        ensures last_error { self.new.last_error ≡ self.old.last_error }
+    {
+        if !are_many(parts) {
+            return 0;
+        }
+        if self.held.is_empty() {
+            return self.stream.write_parts(parts).unwrap_or(0);
+        }
+        let all = [
+            IoSlice::new(&self.held),
+            part_at(parts, 0),
+            part_at(parts, 1),
+            part_at(parts, 2),
+        ];
+        let sent = self.stream.write_parts(&all).unwrap_or(0);
+        let of_held = sent.min(self.held.len());
+        remove_first(&mut self.held, of_held);
+        sent - of_held
+    }
+
     // rule: engines (own) After N2 and N3 input is dropped up to 16 MiB
     /// Ends what is written, and reads and drops what comes until the peer ends too, at most 16
     /// MiB. A stream that is closed while octets are unread resets the connection, and then the
@@ -205,7 +240,7 @@ impl<S: Read + Write + OpenStream> StreamLink<S> {
 
 /// A stream says nothing of what it holds after a read, nor of what is left to read after a write.
 /// So a link over it doesn't say what it has given and taken, and its calls say what each has done.
-impl<S: Read + Write + OpenStream> Link for StreamLink<S> {
+impl<S: Read + WriteParts + OpenStream> Link for StreamLink<S> {
     ghost given = { λ link. None };
 
     ghost taken = { λ link. None };
@@ -281,6 +316,33 @@ impl<S: Read + Write + OpenStream> Link for StreamLink<S> {
         }
         self.stalled = (!octets.is_empty() && count == 0) || self.stalled;
         Ok(count)
+    }
+
+    /// Many octets are sent at once, from where they lie, after what is held; where that sends none
+    /// of them, and of few, the first part is written alone.
+    fn write_parts(&mut self, parts: &[IoSlice<'_>]) -> Result<usize, LinkFault>
+        requires { self.old.failures < 2 ^ 64 - 1 }
+        ensures takes { Takes None None result (io_slices_bytes parts.now) }
+        ensures gives_none { Appends None None [] }
+        ensures ended { self.new.ended ≡ self.old.ended }
+        ensures stalled { self.new.stalled ≡ stalled_after self.old.stalled
+            (length (io_slices_bytes parts.now)) result }
+        ensures failures { self.new.failures ≡ failures_after self.old.failures result }
+        ensures holds { Takes (octets_passed S.contents self.old)
+            (octets_passed S.contents self.new)
+            result (io_slices_bytes parts.now) }
+        ensures bounded { length self.old.held.items ≤ 65536
+            → length self.new.held.items ≤ 65536 }
+        ensures full { length self.old.held.items ≤ 65536
+            → OnOk result (length self.new.held.items < 65536) }
+        ensures first { self.new.first ≡ self.old.first }
+        ensures last_error { OnOk result (self.new.last_error ≡ self.old.last_error) }
+    {
+        let count = self.send_parts(parts);
+        if count > 0 {
+            return Ok(count);
+        }
+        self.write(first_part(parts))
     }
 
     fn failures(&self) -> u64 {

@@ -2,3 +2,4 @@
 pub mod EncodingLemmas
 pub mod PieceLemmas
 pub mod Rules
+pub mod WovenLemmas

@@ -9,6 +9,8 @@ pub record OutputState : Type 0 where
   pub waiting : List ℕ
   -- for how many octets there is room without taking memory
   pub spare : ℕ
+  -- how many of the octets that wait lie where who has given them has them
+  pub shared : ℕ
   -- whether the GOAWAY of a failed connection was added, after which nothing is
   pub ended : Bool
 

@@ -25,6 +25,15 @@ impl LastFrame {
     }
 
     // rule: 5.4.1 (own) The GOAWAY of a failed connection goes out last, once, without memory
+    /// Its octets that wait, from a place on.
+    pub(crate) fn part_from(&self, at: usize) -> &[u8]
+        ensures { result.now ≡ drop at (drop self.now.given self.now.octets) }
+    {
+        let rest = &self.octets[self.given..];
+        &rest[at.min(rest.len())..]
+    }
+
+    // rule: 5.4.1 (own) The GOAWAY of a failed connection goes out last, once, without memory
     /// Appends so many of its octets to `out`, which has capacity for them, and takes them away.
     pub(crate) fn put_out(&mut self, count: usize, out: &mut Vec<u8>)
         requires within { count ≤ length (drop self.old.given self.old.octets) }

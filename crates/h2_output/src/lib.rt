@@ -5,5 +5,7 @@
 mod data_head;
 mod last_frame;
 mod output;
+mod queue;
+mod span;
 
 pub use output::Output;

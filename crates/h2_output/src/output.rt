@@ -4,13 +4,15 @@ ghost use Rattle.std.specs.Prelude.{◌≡◌, ◌+◌, ◌==◌, ◌^◌, ◌<�
 ghost use Rattle.std.specs.Prelude.{take, drop, true, false, None, Some, OnOk, IfOk, OnErr, IsOk};
 ghost use Rattle.std.specs.Prelude.{vec_len};
 ghost use Rattle.std.specs.Vec.{vec_capacity};
+ghost use Rattle.std.specs.Io.{StartsWith};
 ghost use Rattle.h2_frame.specs.Frames.{frame_of, Data, GoAway};
 ghost use Rattle.h2_frame.specs.Encoding.{encoding_of, refusal};
 ghost use Rattle.h2_output.specs.Output.{max_control_octets};
 
 use crate::data_head::data_head;
 use crate::last_frame::LastFrame;
-use bytes::BytesMut;
+use crate::queue::Queue;
+use bytes::Bytes;
 use h2_frame::limits::LARGE_FRAME;
 use h2_frame::{FrameRef, write_ref};
 use std::alloc::{AllocError, Global};
@@ -24,7 +26,7 @@ const CONTROL: usize = 64;
 #[derive(Drop)]
 pub struct Output {
     /// What waits, but for the last frame.
-    queue: BytesMut<Global>,
+    queue: Queue,
     /// What follows it, once the connection has failed.
     last: Option<LastFrame>,
     /// A frame as it is encoded, with capacity for any but DATA and those of field blocks.
@@ -41,6 +43,7 @@ impl Model for Output {
     ghost view = { λ output. record {
       waiting = output.queue.items ++ waiting_of_last output.last;
       spare = output.queue.spare;
+      shared = output.queue.shared;
       ended = is_some output.last;
     } };
 
@@ -57,7 +60,7 @@ impl Output {
         ensures { IfOk result (λ output. (output.waiting ≡ []) × (output.ended ≡ false)) }
     {
         Ok(Output {
-            queue: BytesMut::new(alloc),
+            queue: Queue::new(alloc),
             last: None,
             frame: Vec::with_capacity(alloc, CONTROL)?,
         })
@@ -85,16 +88,21 @@ impl Output {
 
     // contract: calls (own) An end lends its output, and says the place of a fault
     // rule: calls (own) An end lends its output, and says the place of a fault
-    /// Lends what waits: the frames in the queue, and then what is left of the GOAWAY of a failed
-    /// connection. It takes no memory.
-    pub fn as_slices(&self) -> (&[u8], &[u8])
-        ensures { result.0.now ++ result.1.now ≡ self.now.waiting }
+    /// Lends what waits from a place on, as much as lies there in one piece: frames, octets of a
+    /// body that were not copied, and what is left of the GOAWAY of a failed connection. It takes
+    /// no memory.
+    pub fn waiting_from(&self, at: usize) -> &[u8]
+        ensures part { StartsWith (drop at self.now.waiting) result.now }
+        ensures some { at < length self.now.waiting → 0 < length result.now }
     {
-        let last = match &self.last {
-            Some(last) => &last.octets[last.given..],
+        let queued = self.queue.len();
+        if at < queued {
+            return self.queue.part_from(at);
+        }
+        match &self.last {
+            Some(last) => last.part_from(at - queued),
             None => &[],
-        };
-        (self.queue.as_slice(), last)
+        }
     }
 
     /// Makes room for so many octets more.
@@ -105,6 +113,7 @@ impl Output {
     pub fn reserve(&mut self, additional: usize) -> Result<(), AllocError>
         ensures waiting { self.new.waiting ≡ self.old.waiting }
         ensures ended { self.new.ended ≡ self.old.ended }
+        ensures shared { self.new.shared ≡ self.old.shared }
         ensures spare { self.old.spare ≤ self.new.spare }
         ensures ok { OnOk result (additional ≤ self.new.spare) }
         ensures err { OnErr result (self.old.spare < additional) }
@@ -124,6 +133,7 @@ impl Output {
             ≡ self.old.waiting ++ encoding_of (frame_of frame.entry) }
         ensures spare { self.new.spare + length (encoding_of (frame_of frame.entry))
             ≡ self.old.spare }
+        ensures shared { self.new.shared ≡ self.old.shared }
         ensures ended { self.new.ended ≡ false }
     {
         encode(frame, &mut self.frame);
@@ -141,11 +151,31 @@ impl Output {
         ensures waiting { self.new.waiting
             ≡ self.old.waiting ++ encoding_of (Data stream end octets.now None) }
         ensures spare { self.new.spare + (9 + length octets.now) ≡ self.old.spare }
+        ensures shared { self.new.shared ≡ self.old.shared }
         ensures ended { self.new.ended ≡ false }
     {
         let head = data_head(stream, octets.len() as u32, end);
         self.queue.extend_reserved(&head);
         self.add_octets(octets);
+    }
+
+    // contract: calls (own) Frames join the output that waits, in order
+    // rule: calls (own) Frames join the output that waits, in order
+    /// Adds a DATA frame without padding, for which there is room, as [`Output::add_data`], with no
+    /// copy of its octets where they are many: they wait where they lie.
+    pub fn add_shared_data(&mut self, stream: u32, octets: Bytes<Global>, end: bool)
+        requires up { self.old.ended ≡ false }
+        requires short { length octets < 2 ^ 24 }
+        requires room { 9 + length octets ≤ self.old.spare }
+        ensures waiting { self.new.waiting
+            ≡ self.old.waiting ++ encoding_of (Data stream end octets None) }
+        ensures spare { self.old.spare ≤ self.new.spare + (9 + length octets) }
+        ensures shared { self.new.shared ≤ self.old.shared + length octets }
+        ensures ended { self.new.ended ≡ false }
+    {
+        let head = data_head(stream, octets.len() as u32, end);
+        self.queue.extend_reserved(&head);
+        self.queue.share(octets);
     }
 
     // contract: calls (own) Frames join the output that waits, in order
@@ -156,6 +186,7 @@ impl Output {
         requires room { length octets.now ≤ self.old.spare }
         ensures waiting { self.new.waiting ≡ self.old.waiting ++ octets.now }
         ensures spare { self.new.spare + length octets.now ≡ self.old.spare }
+        ensures shared { self.new.shared ≡ self.old.shared }
         ensures ended { self.new.ended ≡ false }
     {
         self.queue.extend_reserved(octets);
@@ -203,14 +234,16 @@ impl Output {
         ensures ended { self.new.ended ≡ self.old.ended }
         ensures spare { self.old.spare ≤ self.new.spare }
 
-        // Once nothing waits, all that waited is room again.
+        ensures shared { self.new.shared ≤ self.old.shared }
+
+        // Once nothing waits, all that waited and was copied is room again.
         ensures whole { self.old.ended ≡ false → self.new.waiting ≡ []
-            → self.old.spare + length self.old.waiting ≤ self.new.spare }
+            → self.old.spare + length self.old.waiting ≤ self.new.spare + self.old.shared }
     {
         let given = count.min(self.len());
         out.reserve(given)?;
         let queued = given.min(self.queue.len());
-        put_out_queued(&mut self.queue, queued, out);
+        self.queue.put_out(queued, out);
         if let Some(last) = &mut self.last {
             last.put_out(given - queued, out);
         }
@@ -227,13 +260,15 @@ impl Output {
         ensures ended { self.new.ended ≡ self.old.ended }
         ensures spare { self.old.spare ≤ self.new.spare }
 
-        // Once nothing waits, all that waited is room again.
+        ensures shared { self.new.shared ≤ self.old.shared }
+
+        // Once nothing waits, all that waited and was copied is room again.
         ensures whole { self.old.ended ≡ false → self.new.waiting ≡ []
-            → self.old.spare + length self.old.waiting ≤ self.new.spare }
+            → self.old.spare + length self.old.waiting ≤ self.new.spare + self.old.shared }
     {
         let given = count.min(self.len());
         let queued = given.min(self.queue.len());
-        take_away(&mut self.queue, queued);
+        self.queue.take_away(queued);
         if let Some(last) = &mut self.last {
             last.take_away(given - queued);
         }
@@ -250,36 +285,4 @@ fn encode(frame: FrameRef<'_>, octets: &mut Vec<u8>)
 {
     octets.clear();
     write_ref(frame, octets).unwrap();
-}
-
-// Appends so many octets of a queue to `out`, which has capacity for them, and takes them away.
-fn put_out_queued(queue: &mut BytesMut<Global>, count: usize, out: &mut Vec<u8>)
-    requires within { count ≤ length queue.old.items }
-    requires room { vec_len out.old + count ≤ vec_capacity out.old }
-    ensures given { out.new.items ≡ out.old.items ++ take count queue.old.items }
-    ensures waiting { queue.new.items ≡ drop count queue.old.items }
-    ensures spare { queue.old.spare ≤ queue.new.spare }
-
-    // Once it is empty, all that it held is room again.
-    ensures whole { queue.new.items ≡ []
-        → queue.old.spare + length queue.old.items ≤ queue.new.spare }
-    ensures capacity { vec_capacity out.old ≤ vec_capacity out.new }
-{
-    out.extend_from_slice(&queue.as_slice()[..count]).unwrap();
-    take_away(queue, count);
-}
-
-// Takes away so many octets of a queue. Once it is empty, all that it held is room again.
-fn take_away(queue: &mut BytesMut<Global>, count: usize)
-    requires within { count ≤ length queue.old.items }
-    ensures waiting { queue.new.items ≡ drop count queue.old.items }
-    ensures spare { queue.old.spare ≤ queue.new.spare }
-    ensures whole { queue.new.items ≡ []
-        → queue.old.spare + length queue.old.items ≤ queue.new.spare }
-{
-    if count == queue.len() {
-        queue.clear();
-    } else {
-        queue.advance(count);
-    }
 }

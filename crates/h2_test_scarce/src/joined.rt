@@ -101,9 +101,8 @@ fn check_told(joined: &mut Joined, from: Side, record: &mut Record) {
 fn check_output(conn: &Conn, record: &mut Record) {
     record.check(conn.failed() == Some(Code::InternalError));
     record.check(conn.why() == Some(Why::OutOfMemory));
-    let (first, second) = conn.waiting_octets();
     let mut out = Vec::new(record.alloc);
-    record.check(out.extend_from_slice(first).is_ok() && out.extend_from_slice(second).is_ok());
+    record.check(conn.append_waiting(0, &mut out).is_ok());
     record.check(without_goaway(&out).is_some());
 }
 

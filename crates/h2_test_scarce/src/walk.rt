@@ -77,8 +77,7 @@ fn check_failed(end: &mut End, waiting: usize, record: &mut Record) {
     let taken = end.take(b"", record);
     record.check(taken == Err(Code::InternalError));
     let mut out = Vec::new(record.alloc);
-    let (first, second) = end.conn().waiting_octets();
-    record.check(out.extend_from_slice(first).is_ok() && out.extend_from_slice(second).is_ok());
+    record.check(end.conn().append_waiting(0, &mut out).is_ok());
     record.check(out.len() == all);
     match without_goaway(&out) {
         Some(others) => record.put_out(others),

@@ -10,7 +10,9 @@ use crate::program::{answer, give_up};
 use h2_args::{GetOptions, get_args};
 use h2_cli::{Failure, Status, hint_at_client, write_hint};
 use h2_get::{RequestFault, is_failure, location_at, print_asked, request_of, write_failure};
-use h2_net::{Ending, Fetched, LinkError, TargetFault, fetch_location, report};
+use h2_net::{
+    Ending, Fetched, LinkError, TargetFault, WriteParts, fetch_location, report,
+};
 use std::alloc::Global;
 use std::io::{self, Write};
 use std::net::Net;
@@ -32,6 +34,8 @@ pub fn cmd_get<N: Net, W: Write, E: Write>(
     out: &mut W,
     err: &mut E,
 ) -> Status
+where
+    N::Stream: WriteParts,
     ensures { EndsGet (map string_bytes words.now) (W.contents out.old) (W.contents out.new)
         result }
 {

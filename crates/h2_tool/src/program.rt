@@ -14,6 +14,7 @@ use clap::Error;
 use clap::error::ErrorKind;
 use h2_args::no_command;
 use h2_cli::{Failure, Status, write_hint};
+use h2_net::WriteParts;
 use h2_show::{Hint, Shown};
 use std::alloc::Global;
 use std::fs::Files;
@@ -38,6 +39,8 @@ pub fn run<N: Net + Files + Clock, R: Read, W: Write, E: Write>(
     out: &mut W,
     err: &mut E,
 ) -> Status
+where
+    N::Stream: WriteParts,
     ensures show { (others : List (List ℕ)) → map string_bytes words.now ≡ codes "show" ∷ others
         → EndsShow colored others (R.remaining input.old) (R.remaining input.new) (W.contents out.old)
         (W.contents out.new) result }

@@ -9,7 +9,7 @@ use crate::program::answer;
 use crate::rates::{micros_since, write_rates};
 use h2_args::{LoopOptions, loop_args, serve_args};
 use h2_cli::Status;
-use h2_net::{Ending, LinkError, exchange, print_exchange, report, serve_port};
+use h2_net::{Ending, LinkError, WriteParts, exchange, print_exchange, report, serve_port};
 use std::alloc::Global;
 use std::io::Write;
 use std::net::Net;
@@ -30,6 +30,8 @@ pub fn cmd_serve<N: Net, W: Write, E: Write>(
     out: &mut W,
     err: &mut E,
 ) -> Status
+where
+    N::Stream: WriteParts,
     ensures { EndsServe (map string_bytes words.now) (W.contents out.old) (W.contents out.new)
         result }
 {
@@ -53,6 +55,8 @@ pub fn cmd_loop<N: Net + Clock, W: Write, E: Write>(
     out: &mut W,
     err: &mut E,
 ) -> Status
+where
+    N::Stream: WriteParts,
     ensures { EndsLoop (map string_bytes words.now) (W.contents out.old) (W.contents out.new)
         result }
 {

@@ -134,8 +134,7 @@ pub fn send_from_place<W: Write>(client: &mut Client, to: &mut W) -> anyhow::Res
             to.flush()?;
             return Ok(true);
         }
-        let (frames, goaway) = client.waiting_octets();
-        let count = to.write(if frames.is_empty() { goaway } else { frames })?;
+        let count = to.write(client.waiting_from(0))?;
         if count == 0 {
             break;
         }

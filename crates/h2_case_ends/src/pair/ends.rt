@@ -201,10 +201,10 @@ impl Pair {
     // The first octets of an end's queued output, at most `count`.
     fn first_waiting(&self, side: Side, count: usize, words: &mut Words<'_>) -> Vec<u8> {
         let mut octets = Vec::new(self.alloc);
-        let (first, second) = self.conn(side).waiting_octets();
-        extend(&mut octets, first.get(..count).unwrap_or(first), words);
-        let left = count.saturating_sub(octets.len());
-        extend(&mut octets, second.get(..left).unwrap_or(second), words);
+        if self.conn(side).append_waiting(0, &mut octets).is_err() {
+            words.fail(CaseError::Memory);
+        }
+        octets.truncate(count);
         octets
     }
 

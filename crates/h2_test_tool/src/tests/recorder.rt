@@ -2,7 +2,8 @@
 
 use std::alloc::Global;
 use std::cell::Cell;
-use std::io::{self, ErrorKind, Read, Write};
+use h2_net::WriteParts;
+use std::io::{self, ErrorKind, IoSlice, Read, Write};
 use std::net::{OpenStream, Shutdown};
 
 // A stream that keeps what is written, and gives a number of octets. One of its writes and its
@@ -89,6 +90,12 @@ impl Write for Recorder {
 
     fn flush(&mut self) -> io::Result<()> {
         Ok(())
+    }
+}
+
+impl WriteParts for Recorder {
+    fn write_parts(&mut self, parts: &[IoSlice<'_>]) -> io::Result<usize> {
+        self.write_vectored(parts)
     }
 }
 

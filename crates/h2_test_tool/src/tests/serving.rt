@@ -1,7 +1,7 @@
 //! Connections that have written all that they write before they are served.
 
 use h2_cli::Status;
-use h2_net::serve_connections;
+use h2_net::{WriteParts, serve_connections};
 use std::alloc::Global;
 use std::io::{Read, Write};
 use std::net::{
@@ -66,7 +66,10 @@ fn serves<R: Net>(
     clients: &[Client<'_>],
     lines: &str,
     status: Status,
-) -> Result<bool, Fail> {
+) -> Result<bool, Fail>
+where
+    R::Stream: WriteParts,
+{
     let listener = TcpListener::bind(rt, SocketAddr::from((Ipv4Addr::LOCALHOST, 0)))?;
     let address = listener.local_addr()?;
     let mut streams = Vec::new(alloc);

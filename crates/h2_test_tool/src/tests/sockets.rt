@@ -3,7 +3,7 @@
 use super::devices::Failing;
 use super::words::words_of;
 use h2_cli::Status;
-use h2_net::{LinkError, get_location, serve_port, target};
+use h2_net::{LinkError, WriteParts, get_location, serve_port, target};
 use h2_tool::run;
 use std::alloc::Global;
 use std::fs::Files;
@@ -24,7 +24,10 @@ fn fails<R: Net + Files + Clock>(
     alloc: Global,
     line: &str,
     lines: &str,
-) -> Result<bool, Fail> {
+) -> Result<bool, Fail>
+where
+    R::Stream: WriteParts,
+{
     ends_with(rt, alloc, line, Status::Device, lines)
 }
 
@@ -36,7 +39,10 @@ fn ends_with<R: Net + Files + Clock>(
     line: &str,
     status: Status,
     lines: &str,
-) -> Result<bool, Fail> {
+) -> Result<bool, Fail>
+where
+    R::Stream: WriteParts,
+{
     let words = words_of(alloc, line)?;
     let (mut out, mut err) = (Vec::new(alloc), Vec::new(alloc));
     let ended = run(rt, alloc, &words, false, &mut Failing, &mut out, &mut err);
@@ -91,7 +97,10 @@ fn get_with_too_many_fields(rt: HostRuntime) -> Result<(), Fail> {
 }
 
 /// The error of a GET of this URL.
-fn error_of<R: Net>(rt: &R, alloc: Global, url: &str) -> Option<LinkError> {
+fn error_of<R: Net>(rt: &R, alloc: Global, url: &str) -> Option<LinkError>
+where
+    R::Stream: WriteParts,
+{
     match target(alloc, url.as_bytes()) {
         Ok(target) => get_location(rt, alloc, &target)
             .err()

@@ -2,6 +2,7 @@
 
 use super::devices::Failing;
 use h2_cli::Status;
+use h2_net::WriteParts;
 use h2_tool::{cmd_show, no_words, run};
 use std::alloc::Global;
 use std::fs::Files;
@@ -22,7 +23,10 @@ pub(super) fn words_of(alloc: Global, line: &str) -> Result<Vec<String>, Fail> {
 }
 
 /// How the program ends that can neither read nor write.
-fn end_of<R: Net + Files + Clock>(rt: &R, alloc: Global, line: &str) -> Result<Status, Fail> {
+fn end_of<R: Net + Files + Clock>(rt: &R, alloc: Global, line: &str) -> Result<Status, Fail>
+where
+    R::Stream: WriteParts,
+{
     let words = words_of(alloc, line)?;
     let status = run(
         rt,

@@ -1,7 +1,7 @@
 -- Call by call, by the lemmas on what is sent.
-use Rattle.h2_ends.proofs.Names.{arith, true}
+use Rattle.h2_ends.proofs.Names.{arith, true, ap, ◌-◌}
 use Rattle.h2_ends.proofs.SendingBody.{going_begins, none_by, going_on, going_stuck, going_ends}
-use Rattle.h2_ends.proofs.SendingBody.{going_refused, trailers_go, trailers_refused, rest_is}
+use Rattle.h2_ends.proofs.SendingBody.{going_refused, trailers_go, trailers_refused, left_is}
 use Rattle.h2_ends.proofs.SendingBody.{fields_are, typed_data}
 use Rattle.h2_ends.proofs.RequestSends.{fields_typed}
 use Rattle.h2_ends.proofs.sending.send.Goals as goal
@@ -14,10 +14,10 @@ pub returns-in-Ok-eq0 : goal.returns-in-Ok-eq0
 returns-in-Ok-eq0 c =
     let left = c.loop-waiting.waiting in
     going_stuck c.args.conn.now c.args.id c.args.waiting.now c.args.count.now c.loop-waiting.conn
-    c.data.new.self left c.loop-waiting.count c.loop-waiting.invariant _ _
-    (omega (arith, c.loop-waiting-test.true)) (rest_is left _ c.deref.ensures.value)
-    (none_by left.trailers _ c.is_none.ensures)
-    (typed_data c.args.id _ _ (omega arith) c.data.ensures.octets) c.in-Ok-eq0.field-0
+    c.send.new.conn left c.loop-waiting.count c.loop-waiting.invariant _ _
+    (omega (arith, c.loop-waiting-test.true)) (left_is left _ (ap (λ n. n - left.sent) c.len-all.ensures))
+    (none_by left.trailers _ c.is_none-ends.ensures)
+    (typed_data c.args.id _ _ (omega arith) c.send.ensures.octets) c.in-Ok-eq0.field-0
     c.in-Ok-eq0.field-0-test c.in-Ok-eq0.ensures.answers
 
 pub loop-waiting-smaller : goal.loop-waiting-smaller
@@ -27,20 +27,20 @@ pub loop-waiting-preserved : goal.loop-waiting-preserved
 loop-waiting-preserved c =
     let left = c.loop-waiting.waiting in
     going_on c.args.conn.now c.args.id c.args.waiting.now c.args.count.now c.loop-waiting.conn
-    c.data.new.self left c.loop-waiting.count c.loop-waiting.invariant _ _
-    (omega (arith, c.loop-waiting-test.true)) (rest_is left _ c.deref.ensures.value)
-    (none_by left.trailers _ c.is_none.ensures)
-    (typed_data c.args.id _ _ (omega arith) c.data.ensures.octets) c.in-Ok.sent
+    c.send.new.conn left c.loop-waiting.count c.loop-waiting.invariant _ _
+    (omega (arith, c.loop-waiting-test.true)) (left_is left _ (ap (λ n. n - left.sent) c.len-all.ensures))
+    (none_by left.trailers _ c.is_none-ends.ensures)
+    (typed_data c.args.id _ _ (omega arith) c.send.ensures.octets) c.in-Ok.sent
     c.saturating_add.result c.saturating_add.ensures c.in-Ok.ensures.answers
 
 pub returns-in-Err : goal.returns-in-Err
 returns-in-Err c =
     let left = c.loop-waiting.waiting in
     going_refused c.args.conn.now c.args.id c.args.waiting.now c.args.count.now c.loop-waiting.conn
-    c.data.new.self left c.loop-waiting.count c.loop-waiting.invariant _ _
-    (omega (arith, c.loop-waiting-test.true)) (rest_is left _ c.deref.ensures.value)
-    (none_by left.trailers _ c.is_none.ensures)
-    (typed_data c.args.id _ _ (omega arith) c.data.ensures.octets) c.in-Err.refusal _
+    c.send.new.conn left c.loop-waiting.count c.loop-waiting.invariant _ _
+    (omega (arith, c.loop-waiting-test.true)) (left_is left _ (ap (λ n. n - left.sent) c.len-all.ensures))
+    (none_by left.trailers _ c.is_none-ends.ensures)
+    (typed_data c.args.id _ _ (omega arith) c.send.ensures.octets) c.in-Err.refusal _
     c.stopped_by.ensures c.in-Err.ensures.answers
 
 pub returns-in_default : goal.returns-in_default
@@ -56,7 +56,7 @@ returns-in-Ok-fields c =
     trailers_go c.args.conn.now c.args.id c.args.waiting.now c.args.count.now c.loop-waiting.conn
     c.fields.new.self left c.loop-waiting.count c.loop-waiting.invariant _
     (omega (arith, c.loop-waiting-test.false))
-    (fields_are left.trailers c.in-Some.trailers _ c.in-Some.is c.deref-2.ensures.value)
+    (fields_are left.trailers c.in-Some.trailers _ c.in-Some.is c.deref.ensures.value)
     (fields_typed c.args.id _ true (omega arith) c.fields.ensures.octets)
     c.in-Ok-fields.ensures.answers
 
@@ -66,6 +66,6 @@ returns-in-Err-fields c =
     trailers_refused c.args.conn.now c.args.id c.args.waiting.now c.args.count.now
     c.loop-waiting.conn c.fields.new.self left c.loop-waiting.count c.loop-waiting.invariant _
     (omega (arith, c.loop-waiting-test.false))
-    (fields_are left.trailers c.in-Some.trailers _ c.in-Some.is c.deref-2.ensures.value)
+    (fields_are left.trailers c.in-Some.trailers _ c.in-Some.is c.deref.ensures.value)
     (fields_typed c.args.id _ true (omega arith) c.fields.ensures.octets)
     c.in-Err-fields.refusal _ c.stopped_by-in-Err-fields.ensures c.in-Err-fields.ensures.answers

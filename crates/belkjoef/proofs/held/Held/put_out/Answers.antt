@@ -1,4 +1,5 @@
-use Rattle.std.proofs.Common.{refl, ◌++◌}
+use Rattle.std.proofs.Common.{refl}
+use Rattle.h2_conn.specs.Conn.{octets_queued}
 use Rattle.belkjoef.proofs.CopiesOut.{copies_none, copies_out}
 use Rattle.belkjoef.proofs.held.Held.put_out.Goals as goal
 
@@ -7,9 +8,10 @@ returns-in-Err-clause-does c =
     copies_none c.args.buffer.now c.in-Err.refusal c.in-Err.is refl c.ready.ensures.does
 
 pub returns-clause-does : goal.returns-clause-does
-returns-clause-does c = copies_out c.args.buffer.now c.copy_both-count.new.buffer
-    (c.waiting_octets.result.0.now ++ c.waiting_octets.result.1.now) c.copy_both-count.result
+returns-clause-does c = copies_out c.args.buffer.now c.copy_waiting-count.new.buffer
+    (octets_queued c.conn.result.now) c.copy_waiting-count.result
     c.consume.result c.in_default.is c.ready.ensures.does
-    (rw c.in_default.is at c.ready.ensures.returned) c.waiting_octets.ensures
-    c.copy_both-count.ensures.count c.copy_both-count.ensures.copied c.consume.ensures.does
-    c.consume.ensures.room
+    (rw c.in_default.is at c.ready.ensures.returned)
+    (rw c.conn.ensures at (λ values log represents. represents.machine.output.waiting))
+    c.copy_waiting-count.ensures.count c.copy_waiting-count.ensures.copied
+    c.consume.ensures.does c.consume.ensures.room

@@ -19,12 +19,12 @@ returns-clause-ok c =
     let taken = take-parts given c.min-queued.result queue last queued in
     let left = drop-parts given c.min-queued.result queue last queued in
     let reserved = c.reserve.ensures.items in
-    let first = c.put_out_queued.ensures in
+    let first = c.put_out.ensures in
     elim c.match-self.branch [
       | in-Some w ↦
           let part : last ≡ drop w.in-Some.last.given w.in-Some.last.octets =
           rw w.in-Some.is refl in
-          let second = w.put_out.ensures in (
+          let second = w.put_out-in-Some.ensures in (
             count,
             rw (w.out-is, second.given, first.given, append_assoc, reserved, waiting, taken, part)
                 refl,
