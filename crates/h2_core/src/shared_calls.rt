@@ -71,13 +71,7 @@ impl Endpoint {
 
     /// Sends octets, as many as both windows let through, on an active stream. There is room for
     /// their frames, and for a WINDOW_UPDATE.
-    fn write_shared_data(
-        &mut self,
-        id: u32,
-        mut stream: Stream,
-        octets: Bytes<Global>,
-        end: bool,
-    )
+    fn write_shared_data(&mut self, id: u32, mut stream: Stream, octets: Bytes<Global>, end: bool)
         requires sound { IsSoundEnd (end_of self.old) }
         requires up { self.old.failed ≡ None }
         requires active { stream_at (end_of self.old) id ≡ Some (stream_view stream) }
@@ -126,13 +120,7 @@ impl Endpoint {
 
 /// Adds the DATA frames of octets, for which there is room: each filled to `most` octets but the
 /// last, which has END_STREAM where `end` is set.
-fn add_shared_frames(
-    output: &mut Output,
-    most: usize,
-    id: u32,
-    octets: Bytes<Global>,
-    end: bool,
-)
+fn add_shared_frames(output: &mut Output, most: usize, id: u32, octets: Bytes<Global>, end: bool)
     requires up { output.old.ended ≡ false }
     requires most { (16384 ≤ most) × (most ≤ 65536) }
     requires room { length octets + 9 * (1 + length octets / 16384) ≤ output.old.spare }

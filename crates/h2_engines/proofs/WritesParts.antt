@@ -31,8 +31,8 @@ pub slices_four : (queue : List ℕ) (at one two three : ℕ) (a b c d : List �
     → StartsWith (drop at queue) (io_slices_bytes (sa ∷ sb ∷ sc ∷ sd ∷ []))
 slices_four queue at one two three a b c d sa sb sc sd is_a is_b is_c is_d past_a past_b past_c
     at_a at_b at_c at_d =
-      rw (is_a, is_b, is_c, is_d)
-      (starts_four queue at one two three a b c d past_a past_b past_c at_a at_b at_c at_d)
+    rw (is_a, is_b, is_c, is_d)
+    (starts_four queue at one two three a b c d past_a past_b past_c at_a at_b at_c at_d)
 
 -- Slices of which the first has octets have some.
 pub slices_some : (a : List ℕ) (sa : IoSlice) (others : List IoSlice) → io_slice_bytes sa ≡ a

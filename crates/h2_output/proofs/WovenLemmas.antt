@@ -19,9 +19,14 @@ weave-length (span ∷ spans) queue =
     let rest = weave spans (drop span.before queue) in
     let sum : length (take span.before queue ++ (span.octets ++ rest))
     ≡ length queue + (length span.octets + octets_shared spans) =
-    omega (arith, length-append (take span.before queue) (span.octets ++ rest),
-    length-append span.octets rest, length-take span.before queue,
-    length-drop span.before queue, weave-length spans (drop span.before queue)) in sum
+    omega (
+      arith,
+      length-append (take span.before queue) (span.octets ++ rest),
+      length-append span.octets rest,
+      length-take span.before queue,
+      length-drop span.before queue,
+      weave-length spans (drop span.before queue),
+    ) in sum
 
 -- What joins the queue comes last.
 pub weave-append : (spans : List Span) (queue more : List ℕ) → octets_before spans ≤ length queue
@@ -31,7 +36,7 @@ weave-append [] queue more fits = refl
 weave-append (span ∷ spans) queue more fits =
     let sum : span.before + octets_before spans ≤ length queue = fits in
     let rest = weave-append spans (drop span.before queue) more
-        (omega (arith, length-drop span.before queue, sum)) in
+    (omega (arith, length-drop span.before queue, sum)) in
     let front = take-append-le span.before queue more (omega (arith, sum)) in
     let back = drop-append-le span.before queue more (omega (arith, sum)) in
     let last = weave spans (drop span.before queue) in
@@ -53,7 +58,7 @@ weave-span [] span queue all =
 weave-span (first ∷ spans) span queue all =
     let sum : first.before + octets_before spans + span.before ≡ length queue = all in
     let rest = weave-span spans span (drop first.before queue)
-        (omega (arith, length-drop first.before queue, sum)) in
+    (omega (arith, length-drop first.before queue, sum)) in
     let last = weave spans (drop first.before queue) in
     let out = append_assoc (take first.before queue) (first.octets ++ last) span.octets in
     let inner = append_assoc first.octets last span.octets in
@@ -90,11 +95,11 @@ early-parts span spans queue left few all =
     let fits : span.before + octets_before spans ≤ length queue = all in
     let sum : span.before ≡ left + (span.before - left) = omega (arith, few) in
     let short = drop-append-le left (take span.before queue)
-        (span.octets ++ weave spans (drop span.before queue))
-        (omega (arith, length-take span.before queue, few, fits)) in
+    (span.octets ++ weave spans (drop span.before queue))
+    (omega (arith, length-take span.before queue, few, fits)) in
     let part = drop-take left (span.before - left) queue in
     short ∙ ap (λ xs. xs ++ (span.octets ++ weave spans (drop span.before queue)))
-        (ap (λ n. drop left (take n queue)) sum ∙ part)
+    (ap (λ n. drop left (take n queue)) sum ∙ part)
 
 -- Then that span comes after so many octets fewer.
 pub weave-early : (span : Span) (spans : List Span) (queue : List ℕ) (left : ℕ)
@@ -107,8 +112,8 @@ weave-early span spans queue left few fits =
     let back = drop-drop (span.before - left) left queue in
     early-parts span spans queue left few fits
     ∙ ap (λ rest. take (span.before - left) (drop left queue)
-        ++ (span.octets ++ weave spans rest))
-        (sym (back ∙ ap (λ n. drop n queue) sum))
+    ++ (span.octets ++ weave spans rest))
+    (sym (back ∙ ap (λ n. drop n queue) sum))
 
 -- Where as many octets are taken, those of the first span come next, and then the others.
 pub weave-past : (span : Span) (spans : List Span) (queue : List ℕ) (left : ℕ)

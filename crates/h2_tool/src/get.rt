@@ -10,9 +10,7 @@ use crate::program::{answer, give_up};
 use h2_args::{GetOptions, get_args};
 use h2_cli::{Failure, Status, hint_at_client, write_hint};
 use h2_get::{RequestFault, is_failure, location_at, print_asked, request_of, write_failure};
-use h2_net::{
-    Ending, Fetched, LinkError, TargetFault, WriteParts, fetch_location, report,
-};
+use h2_net::{Ending, Fetched, LinkError, TargetFault, WriteParts, fetch_location, report};
 use std::alloc::Global;
 use std::io::{self, Write};
 use std::net::Net;

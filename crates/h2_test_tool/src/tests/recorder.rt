@@ -1,8 +1,8 @@
 //! A stream in memory.
 
+use h2_net::WriteParts;
 use std::alloc::Global;
 use std::cell::Cell;
-use h2_net::WriteParts;
 use std::io::{self, ErrorKind, IoSlice, Read, Write};
 use std::net::{OpenStream, Shutdown};
 

@@ -23,8 +23,12 @@ loop-count-preserved c =
           ∙ (ap (λ (rest : List ℕ). take count once ++ rest) (append-nil new)
           ∙ copied_on queue c.args.buffer.now once new part count c.copy.result
           (omega (arith, c.loop-count.invariant.within, c.min-most.ensures))
-          (omega (arith, c.loop-count.invariant.within, c.min-most.ensures,
-          c.waiting.ensures.queued))
+          (omega (
+            arith,
+            c.loop-count.invariant.within,
+            c.min-most.ensures,
+            c.waiting.ensures.queued,
+          ))
           c.waiting_from.ensures.part c.loop-count.invariant.copied
           (c.copy.ensures.count ∙ ap (λ (xs : List ℕ). min (length xs) (length part)) all)
           (c.copy.ensures.copied

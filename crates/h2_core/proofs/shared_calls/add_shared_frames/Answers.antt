@@ -30,10 +30,22 @@ loop-rest-preserved-in-Ok c =
           ∙ append_assoc c.loop-rest.output.waiting _ _
           ∙ ap (λ octets. c.loop-rest.output.waiting ++ octets) (sym split)
           ∙ c.loop-rest.invariant.written;
-      room = omega (arith, left, sent, c.add_shared_data.ensures.spare,
-        c.loop-rest.invariant.room, c.requires.most);
-      spare = omega (arith, left, sent, c.add_shared_data.ensures.spare,
-        c.loop-rest.invariant.spare, c.requires.most);
+      room = omega (
+        arith,
+        left,
+        sent,
+        c.add_shared_data.ensures.spare,
+        c.loop-rest.invariant.room,
+        c.requires.most,
+      );
+      spare = omega (
+        arith,
+        left,
+        sent,
+        c.add_shared_data.ensures.spare,
+        c.loop-rest.invariant.spare,
+        c.requires.most,
+      );
     }
 
 pub loop-rest-preserved : goal.loop-rest-preserved
@@ -64,17 +76,29 @@ loop-rest-preserved c =
           ∙ append_assoc c.loop-rest.output.waiting _ _
           ∙ ap (λ octets. c.loop-rest.output.waiting ++ octets) (sym split)
           ∙ c.loop-rest.invariant.written;
-      room = omega (arith, left, sent, c.add_data.ensures.spare,
-        c.loop-rest.invariant.room, c.requires.most);
-      spare = omega (arith, left, sent, c.add_data.ensures.spare,
-        c.loop-rest.invariant.spare, c.requires.most);
+      room = omega (
+        arith,
+        left,
+        sent,
+        c.add_data.ensures.spare,
+        c.loop-rest.invariant.room,
+        c.requires.most,
+      );
+      spare = omega (
+        arith,
+        left,
+        sent,
+        c.add_data.ensures.spare,
+        c.loop-rest.invariant.spare,
+        c.requires.most,
+      );
     }
 
 pub returns-clause-waiting : goal.returns-clause-waiting
 returns-clause-waiting c =
     let size = c.len.ensures.value in
     let last = data_last c.args.most c.args.id c.loop-rest.rest c.args.end
-        (omega (arith, size, c.loop-rest-test.false)) in
+    (omega (arith, size, c.loop-rest-test.false)) in
     c.add_shared_data-2.ensures.waiting
     ∙ ap (λ octets. c.loop-rest.output.waiting ++ octets) (sym last)
     ∙ c.loop-rest.invariant.written

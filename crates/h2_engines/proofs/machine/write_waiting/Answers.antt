@@ -12,9 +12,12 @@ pub returns-then-count-eq0-clause-writes : goal.returns-then-count-eq0-clause-wr
 unfolding WritesAll
 returns-then-count-eq0-clause-writes g c =
     let kept = c.loop.invariant in (
-      (_, takes_more _ _ _ _ _ _ kept.within kept.taken
-      (rw (sym (take_rest (octets_queued c.args.conn.now) c.loop.written))
-      at c.in_ok-count.ensures.takes)),
+      (
+        _,
+        takes_more _ _ _ _ _ _ kept.within kept.taken
+            (rw (sym (take_rest (octets_queued c.args.conn.now) c.loop.written))
+            at c.in_ok-count.ensures.takes),
+      ),
       c.in_ok-count.ensures.failures ∙ kept.failures,
     )
 
@@ -24,8 +27,11 @@ returns-in_err-count-clause-writes g c =
     let error = err_from_is_err_and c.from_residual.result c.from_residual.ensures.1 in
     let kept = c.loop.invariant in
     let took = c.in_err-count.ensures.takes in rw (error.1, error.2) (
-      (_, takes_more _ _ _ _ _ _ kept.within kept.taken
-      (rw (sym (take_rest (octets_queued c.args.conn.now) c.loop.written)) at took.1)),
+      (
+        _,
+        takes_more _ _ _ _ _ _ kept.within kept.taken
+            (rw (sym (take_rest (octets_queued c.args.conn.now) c.loop.written)) at took.1),
+      ),
       c.in_err-count.ensures.failures ∙ ap (λ n. n + 1) kept.failures,
     )
 
@@ -33,7 +39,7 @@ pub loop-preserved : goal.loop-preserved
 loop-preserved g c =
     let kept = c.loop.invariant in
     let took = takes_more _ _ _ _ _ _ kept.within kept.taken
-      (rw (take_rest (octets_queued c.args.conn.now) c.loop.written) c.in_ok-count.ensures.takes) in
+    (rw (take_rest (octets_queued c.args.conn.now) c.loop.written) c.in_ok-count.ensures.takes) in
     record {
       within = took.within;
       counted = omega arith;

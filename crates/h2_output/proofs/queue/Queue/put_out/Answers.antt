@@ -23,9 +23,9 @@ loop-given-preserved c =
     record {
       within = omega arith;
       given = added ∙ ap (λ xs. xs ++ take some part) kept.given
-        ∙ append_assoc c.args.out.now.items (take given items) (take some part)
-        ∙ ap (λ xs. c.args.out.now.items ++ xs)
-            (ap (λ xs. take given items ++ xs) same ∙ sym (take-add given some items));
+          ∙ append_assoc c.args.out.now.items (take given items) (take some part)
+          ∙ ap (λ xs. c.args.out.now.items ++ xs)
+          (ap (λ xs. take given items ++ xs) same ∙ sym (take-add given some items));
       room = omega (arith, long, more, length-take some part, kept.room);
       capacity = omega (arith, more, kept.capacity);
     }

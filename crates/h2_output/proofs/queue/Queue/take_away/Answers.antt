@@ -11,8 +11,15 @@ returns-then-queued-len-clause-whole c = λ none.
     let spare = ap (λ (s : QueueState). s.spare) c.self.view_is in
     let shared = ap (λ (s : QueueState). s.shared) c.self.view_is in
     let view = ap (λ (s : QueueState). length s.items) c.self.view_is in
-    omega (arith, spare, shared, view, weave-length spans.all.items own.items, spans.counted,
-    c.clear.ensures.spare)
+    omega (
+      arith,
+      spare,
+      shared,
+      view,
+      weave-length spans.all.items own.items,
+      spans.counted,
+      c.clear.ensures.spare,
+    )
 
 pub returns-else-queued-len-clause-whole : goal.returns-else-queued-len-clause-whole
 returns-else-queued-len-clause-whole c = λ none.
@@ -21,9 +28,16 @@ returns-else-queued-len-clause-whole c = λ none.
     let new = c.take_away-queued.new.self in
     let view = ap (λ (s : QueueState). length s.items) c.self.view_is in
     let fits = c.take_away-queued.ensures.fits own.items c.self.invariant
-        (omega (arith, view, c.requires.within)) in
+    (omega (arith, view, c.requires.within)) in
     let left : length (weave new.all.items c.advance.new.self.items) ≡ 0 = ap length none in
     let items = ap length c.advance.ensures.items in
-    absurd (omega (arith, left, items, fits, c.if-queued-len.false, c.len.ensures.value,
-    weave-length new.all.items c.advance.new.self.items,
-    length-drop c.take_away-queued.result own.items))
+    absurd (omega (
+      arith,
+      left,
+      items,
+      fits,
+      c.if-queued-len.false,
+      c.len.ensures.value,
+      weave-length new.all.items c.advance.new.self.items,
+      length-drop c.take_away-queued.result own.items,
+    ))

@@ -13,10 +13,25 @@ invariant_of-self c =
       octets = c.args.octets;
     } in
     record {
-      placed = omega (arith, ap octets_before c.in-Ok.ensures.items,
-        before-append old.all.items span, old.placed, c.requires);
-      counted = omega (arith, ap octets_shared c.in-Ok.ensures.items,
-        shared-append old.all.items span, old.counted, c.len-length.ensures.value);
-      bounded = omega (arith, c.if-self-len.false, c.len.ensures.value,
-        c.len-length.ensures.value, old.bounded);
+      placed = omega (
+        arith,
+        ap octets_before c.in-Ok.ensures.items,
+        before-append old.all.items span,
+        old.placed,
+        c.requires,
+      );
+      counted = omega (
+        arith,
+        ap octets_shared c.in-Ok.ensures.items,
+        shared-append old.all.items span,
+        old.counted,
+        c.len-length.ensures.value,
+      );
+      bounded = omega (
+        arith,
+        c.if-self-len.false,
+        c.len.ensures.value,
+        c.len-length.ensures.value,
+        old.bounded,
+      );
     }

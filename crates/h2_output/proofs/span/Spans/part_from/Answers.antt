@@ -53,8 +53,8 @@ returns-then-left-octets-clause-part c =
     let same : octets ≡ span.octets = c.as_slice-octets.ensures in
     let long = ap length same in
     let part = inside-part span (drop (i + 1) all.items) c.loop-i.rest.now left
-        (omega (arith, c.if-left-first.false, size))
-        (omega (arith, c.if-left-octets.true, size, long)) fits in
+    (omega (arith, c.if-left-first.false, size))
+    (omega (arith, c.if-left-octets.true, size, long)) fits in
     let whole : take (length octets - past) (drop past octets) ≡ drop past octets =
     take_all (length octets - past) (drop past octets) (omega (arith, length-drop past octets)) in
     rw (size, whole, c.loop-i.invariant.woven, next, same) part
@@ -80,17 +80,22 @@ loop-i-preserved c =
     let long = ap length same in
     let back = c.split_at.ensures.back in
     record {
-      fits = omega (arith, ahead, c.loop-i.invariant.fits, ap length back,
-        length-drop span.before rest);
+      fits = omega (
+        arith,
+        ahead,
+        c.loop-i.invariant.fits,
+        ap length back,
+        length-drop span.before rest,
+      );
       woven = c.loop-i.invariant.woven ∙ ap (λ s. drop left (weave s rest)) next
-        ∙ weave-passed span others rest left (omega (arith, c.if-left-first.false, size))
-            (omega (arith, c.if-left-octets.false, size, long)) fits
-        ∙ ap (λ n. drop (left - span.before - n) (weave others (drop span.before rest)))
-            (sym long)
-        ∙ ap (λ n. drop (left - n - length octets) (weave others (drop span.before rest)))
-            (sym size)
-        ∙ ap (λ q. drop (left - length c.split_at.result.0.now - length octets)
-            (weave others q)) (sym back);
+          ∙ weave-passed span others rest left (omega (arith, c.if-left-first.false, size))
+          (omega (arith, c.if-left-octets.false, size, long)) fits
+          ∙ ap (λ n. drop (left - span.before - n) (weave others (drop span.before rest)))
+          (sym long)
+          ∙ ap (λ n. drop (left - n - length octets) (weave others (drop span.before rest)))
+          (sym size)
+          ∙ ap (λ q. drop (left - length c.split_at.result.0.now - length octets)
+          (weave others q)) (sym back);
     }
 
 pub returns-clause-part : goal.returns-clause-part
@@ -110,7 +115,7 @@ returns-clause-part c =
     let part : StartsWith (drop m rest) (drop m rest) =
     take_all (length (drop m rest)) (drop m rest) (omega arith) in
     let starts : StartsWith (drop c.args.at (weave all.items c.args.queue.now))
-        (take (length rest - m) (drop m rest)) = rw (whole, is) part in starts
+    (take (length rest - m) (drop m rest)) = rw (whole, is) part in starts
 
 pub returns-clause-some : goal.returns-clause-some
 unfolding weave
@@ -127,5 +132,10 @@ returns-clause-some c = λ within.
     let whole : take (length rest - m) (drop m rest) ≡ drop m rest =
     take_all (length rest - m) (drop m rest) (omega (arith, length-drop m rest)) in
     let some : 0 < length (take (length rest - m) (drop m rest)) =
-    omega (arith, within, ap length whole, ap length is,
-    length-drop c.args.at (weave all.items c.args.queue.now)) in some
+    omega (
+      arith,
+      within,
+      ap length whole,
+      ap length is,
+      length-drop c.args.at (weave all.items c.args.queue.now),
+    ) in some

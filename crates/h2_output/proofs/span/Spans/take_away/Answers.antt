@@ -52,7 +52,7 @@ returns-then-left-span-clause-woven c = λ queue fits within.
     ∙ ap (λ s. drop left (weave s (drop queued queue))) c.in-Some.ensures.items
     ∙ weave-early c.in-Some.span rest (drop queued queue) left (omega arith) enough
     ∙ ap (λ s. weave s (drop left (drop queued queue)))
-        (sym c.push_front_reserved.ensures.items)
+    (sym c.push_front_reserved.ensures.items)
     ∙ ap (weave c.push_front_reserved.new.self.items) (drop-drop left queued queue)
 
 pub returns-then-left-span-clause-fits : goal.returns-then-left-span-clause-fits
@@ -116,11 +116,11 @@ returns-then-left-len-clause-woven c = λ queue fits within.
     ∙ ap (λ s. drop left (weave s (drop queued queue))) c.in-Some.ensures.items
     ∙ weave-past span rest (drop queued queue) left (omega arith) enough
     ∙ weave-inside span rest (drop span.before (drop queued queue)) (left - span.before)
-        (omega arith)
+    (omega arith)
     ∙ ap (λ octets. weave (record { before = 0; octets = octets } ∷ rest)
-        (drop span.before (drop queued queue))) (sym c.advance.ensures)
+    (drop span.before (drop queued queue))) (sym c.advance.ensures)
     ∙ ap (λ s. weave s (drop span.before (drop queued queue)))
-        (sym c.push_front_reserved-then-left-len.ensures.items)
+    (sym c.push_front_reserved-then-left-len.ensures.items)
     ∙ ap (weave new) (drop-drop span.before queued queue)
 
 pub returns-then-left-len-clause-fits : goal.returns-then-left-len-clause-fits
@@ -173,10 +173,16 @@ loop-span-preserved-else-left-len c =
       less = omega arith;
       passed = omega (arith, ahead);
       enough = λ queue fits within.
-          omega (arith, ahead, shares, kept.enough queue fits within,
-          weave-length c.loop-span.self.all.items (drop queued queue),
-          weave-length rest (drop (queued + span.before) queue),
-          length-drop queued queue, length-drop (queued + span.before) queue);
+          omega (
+            arith,
+            ahead,
+            shares,
+            kept.enough queue fits within,
+            weave-length c.loop-span.self.all.items (drop queued queue),
+            weave-length rest (drop (queued + span.before) queue),
+            length-drop queued queue,
+            length-drop (queued + span.before) queue,
+          );
       woven = λ queue fits.
           let enough : span.before + octets_before rest ≤ length (drop queued queue) =
           omega (arith, ahead, fits, length-drop queued queue) in
@@ -185,9 +191,9 @@ loop-span-preserved-else-left-len c =
           ∙ ap (λ s. drop left (weave s (drop queued queue))) c.in-Some.ensures.items
           ∙ weave-passed span rest (drop queued queue) left (omega arith) (omega arith) enough
           ∙ ap (λ n. drop (left - span.before - n)
-              (weave rest (drop span.before (drop queued queue)))) (sym size)
+          (weave rest (drop span.before (drop queued queue)))) (sym size)
           ∙ ap (λ q. drop (left - span.before - c.len-left.result) (weave rest q))
-              (drop-drop span.before queued queue);
+          (drop-drop span.before queued queue);
     }
 
 pub loop-span-preserved : goal.loop-span-preserved
@@ -211,10 +217,16 @@ loop-span-preserved c =
       less = omega arith;
       passed = omega (arith, ahead);
       enough = λ queue fits within.
-          omega (arith, ahead, shares, kept.enough queue fits within,
-          weave-length c.loop-span.self.all.items (drop queued queue),
-          weave-length rest (drop (queued + span.before) queue),
-          length-drop queued queue, length-drop (queued + span.before) queue);
+          omega (
+            arith,
+            ahead,
+            shares,
+            kept.enough queue fits within,
+            weave-length c.loop-span.self.all.items (drop queued queue),
+            weave-length rest (drop (queued + span.before) queue),
+            length-drop queued queue,
+            length-drop (queued + span.before) queue,
+          );
       woven = λ queue fits.
           let enough : span.before + octets_before rest ≤ length (drop queued queue) =
           omega (arith, ahead, fits, length-drop queued queue) in
@@ -223,9 +235,9 @@ loop-span-preserved c =
           ∙ ap (λ s. drop left (weave s (drop queued queue))) c.in-Some.ensures.items
           ∙ weave-passed span rest (drop queued queue) left (omega arith) (omega arith) enough
           ∙ ap (λ n. drop (left - span.before - n)
-              (weave rest (drop span.before (drop queued queue)))) (sym size)
+          (weave rest (drop span.before (drop queued queue)))) (sym size)
           ∙ ap (λ q. drop (left - span.before - c.len-left.result) (weave rest q))
-              (drop-drop span.before queued queue);
+          (drop-drop span.before queued queue);
     }
 
 pub returns-clause-woven : goal.returns-clause-woven
