@@ -2,7 +2,8 @@
 //! it asked, and a client that fetches one response.
 //!
 //! [`serve_link`] and [`fetch_link`] read and write a [`Link`]. [`Responder`] and [`Fetcher`] are
-//! their ends without a link, for whoever carries the octets in turns of so many.
+//! their ends without a link, for whoever carries the octets in turns of so many. [`write_waiting`]
+//! writes to a link what waits at a connection.
 #![tactic(auto)]
 
 mod errors;
@@ -18,5 +19,6 @@ pub use fetch::fetch_link;
 pub use fetcher::{Fetched, Fetcher};
 pub use h2_ends::{Config, Field, Message};
 pub use h2_link::{Link, LinkError, LinkFault, MemoryLink};
+pub use machine::write_waiting;
 pub use responder::Responder;
 pub use serve::serve_link;

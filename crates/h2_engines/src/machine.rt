@@ -137,8 +137,15 @@ fn write_out<M: Machine, L: Link>(machine: &mut M, link: &mut L) -> Result<(), L
     Err(LinkError::NoProgress)
 }
 
-/// Writes all octets that wait, in order, in as many calls as it takes.
-fn write_waiting<L: Link>(link: &mut L, conn: &Conn) -> Result<(), LinkError>
+// rule: engines (own) Over a link input is used in order and all output is written
+/// Writes all octets that wait to a link, from where they lie and in order, in as many calls as it
+/// takes: four parts of them at a time. They wait on: whoever has written them takes them away.
+///
+/// # Errors
+///
+/// [`LinkError::Device`] (N1) where a call of the link failed, [`LinkError::NoProgress`] (N5) where
+/// one has taken no octet. Some first octets may have been taken.
+pub fn write_waiting<L: Link>(link: &mut L, conn: &Conn) -> Result<(), LinkError>
     requires { L.faults link.old < 2 ^ 64 - 1 }
     ensures writes { WritesAll (L.taken link.old) (L.taken link.new) (L.faults link.old)
         (L.faults link.new) result (octets_queued conn.now) }

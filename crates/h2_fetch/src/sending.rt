@@ -1,8 +1,6 @@
 //! What a client sends over a link.
 
-ghost use Rattle.std.specs.Prelude.{◌≡◌, ◌<◌, ◌-◌, ◌^◌, ◌++◌, [], IfErr};
-ghost use Rattle.std.specs.Io.KnownBytes.{Appends};
-ghost use Rattle.h2_link.specs.Links.{StallsAtNoProgress, WritesAll};
+ghost use Rattle.std.specs.Prelude.{◌≡◌, ◌<◌, ◌-◌, ◌^◌, IfErr};
 ghost use Rattle.h2_engines.specs.Failures.{EndsWriting, IsOfCall, failures_at_end};
 ghost use Rattle.h2_engines.specs.Linked.{traffic};
 ghost use Rattle.h2_engines.specs.ServerSteps.{PumpsSome};
@@ -11,8 +9,9 @@ ghost use Rattle.h2_fetch.specs.Sends.{SendsAllOver, WritesOver};
 
 use crate::errors::unless_refused;
 use h2_ends::{Client, EndRefusal, Refusal};
+use h2_engines::write_waiting;
 use h2_frame::limits::FULL_OUTPUT;
-use h2_link::{Link, LinkError, write_all};
+use h2_link::{Link, LinkError};
 
 // rule: engines (own) Over a link credit is returned and what could be sent is sent
 /// Gives back all that is owed, sends what waits of the request, and writes all of that, until
@@ -79,23 +78,10 @@ pub(crate) fn write_out<L: Link>(client: &mut Client, link: &mut L) -> Result<()
         if client.conn().waiting() == 0 {
             return Ok(());
         }
-        let (first, second) = client.conn().waiting_octets();
-        let written = write_both(link, first, second);
+        let written = write_waiting(link, client.conn());
         let consumed = client.consume(usize::MAX);
         written?;
         unless_refused(consumed)?;
     }
     Err(LinkError::NoProgress)
-}
-
-/// Writes all octets of two slices, the first before the second.
-fn write_both<L: Link>(link: &mut L, first: &[u8], second: &[u8]) -> Result<(), LinkError>
-    requires { L.faults link.old < 2 ^ 64 - 1 }
-    ensures writes { WritesAll (L.taken link.old) (L.taken link.new) (L.faults link.old)
-        (L.faults link.new) result (first.now ++ second.now) }
-    ensures gives_none { Appends (L.given link.old) (L.given link.new) [] }
-    ensures stalled { StallsAtNoProgress result (L.stalled link.new) }
-{
-    write_all(link, first)?;
-    write_all(link, second)
 }

@@ -2,17 +2,17 @@
 -- link has taken.
 use Rattle.std.proofs.Common.{◌≡◌, ◌≤◌, ◌<◌, ℕ, ◌-◌, ◌+◌, List, [], ◌++◌, length, take, drop}
 use Rattle.std.proofs.Common.{Bool, Option, Result, Ok, Err, refl, sym, ap, ◌∙◌, subst, arith}
-use Rattle.std.proofs.Common.{inl, inr, true, false, nat_lt, take-append-drop, append-nil}
+use Rattle.std.proofs.Common.{◌∷◌, inl, inr, true, false, nat_lt, take-append-drop, append-nil}
 use Rattle.std.proofs.Common.{append_assoc, drop_of_length-le, take-take, length-append}
 use Rattle.std.proofs.Common.{length-take, drop-drop}
 use Rattle.std.proofs.Math.Seq.{take-append-add}
-use Rattle.std.proofs.lemmas.List.{take-append-le}
+use Rattle.std.proofs.lemmas.List.{at_drop_more, take-append-le}
 use Rattle.std.proofs.lemmas.Bool.{cases_lt}
 use Rattle.std.proofs.lemmas.Bool.Decides.{nat_tests}
 use Rattle.std.proofs.KnownBytes.{Appends-kept, Appends-nil, Appends-trans, append_known-moved}
 use Rattle.std.proofs.Transfers.{starts_with_of_append}
 use Rattle.std.proofs.lemmas.List.Concat.{flat_map-append}
-use Rattle.std.specs.Prelude.{min}
+use Rattle.std.specs.Prelude.{get_or, min}
 use Rattle.std.specs.Io.{StartsWith, WritesAtMost}
 use Rattle.std.specs.Io.KnownBytes.{Appends, WriteAppends, append_known}
 use Rattle.std.specs.Io.Slices.{io_slice_bytes, io_slices_bytes}
@@ -116,6 +116,13 @@ module _ (before after : Option (List ℕ)) (held parts octets : List ℕ) (sent
     | inr few ↦ sent_of_held few
   ]
 
+-- The part at a place is the first of those from there on.
+pub part_there : (parts : List IoSlice) (at : ℕ) (other : IoSlice) → at < length parts
+    → io_slice_bytes (get_or parts at other) ≡ io_slices_bytes (take 1 (drop at parts))
+part_there parts at other within =
+    sym (append-nil (io_slice_bytes (get_or parts at other)))
+    ∙ sym (at_drop_more (λ rest. io_slices_bytes (take 1 rest)) parts at other within)
+
 -- The octets of the first parts come before those of the others.
 parts_split : (parts : List IoSlice) (count : ℕ) → io_slices_bytes parts
     ≡ io_slices_bytes (take count parts) ++ io_slices_bytes (drop count parts)
@@ -145,3 +152,28 @@ first_three parts one two three is_one is_two is_three =
     rw (is_one, is_two, is_three)
     (starts_with_of_append (io_slices_bytes parts) (a ++ (b ++ (c ++ []))) rest
     (all ∙ sym joined))
+
+-- A write of what is held and of three parts sent what is held first.
+pub sent_held_first : {E : Type 0} (before after : Option (List ℕ)) (held : List ℕ)
+    (first one two three : IoSlice) (parts : List IoSlice) (result : Result ℕ E) (of_held : ℕ)
+    → io_slice_bytes first ≡ held → io_slice_bytes one ≡ io_slices_bytes (take 1 (drop 0 parts))
+    → io_slice_bytes two ≡ io_slices_bytes (take 1 (drop 1 parts))
+    → io_slice_bytes three ≡ io_slices_bytes (take 1 (drop 2 parts))
+    → of_held ≡ min (result_unwrap_or result 0) (length held)
+    → WritesAtMost result (io_slices_bytes (first ∷ one ∷ two ∷ three ∷ []))
+    → WriteAppends before after result (io_slices_bytes (first ∷ one ∷ two ∷ three ∷ []))
+    → TakesFirst (append_known before held) (append_known after (drop of_held held))
+    (io_slices_bytes parts) (result_unwrap_or result 0 - of_held)
+sent_held_first before after held first one two three parts result of_held is is_one is_two
+    is_three counted bound bytes =
+    let more =
+    io_slice_bytes one ++ (io_slice_bytes two ++ (io_slice_bytes three ++ [])) in
+    let all : io_slices_bytes (first ∷ one ∷ two ∷ three ∷ []) ≡ held ++ more =
+    ap (λ octets. octets ++ more) is in
+    sent_after_held before after held more (io_slices_bytes parts) (result_unwrap_or result 0)
+    of_held counted
+    (written_within result (held ++ more) (subst (WritesAtMost result) all bound))
+    (written_bytes before after result (held ++ more)
+    (subst (WriteAppends before after result) all bytes))
+    (first_three parts (io_slice_bytes one) (io_slice_bytes two) (io_slice_bytes three) is_one
+    is_two is_three)

@@ -31,7 +31,7 @@ sent_is_taken before after held held_now sends =
     append_known-moved before after (take sends.count held) held_now held sends.sent both
 
 -- octets that were added to what is held are taken, where some of it all is sent then
-held_is_taken : (before after : Option (List ℕ)) (held added held_now : List ℕ)
+pub held_is_taken : (before after : Option (List ℕ)) (held added held_now : List ℕ)
     → SendsFirst before after (held ++ added) held_now
     → Appends (append_known before held) (append_known after held_now) added
 held_is_taken before after held added held_now sends =

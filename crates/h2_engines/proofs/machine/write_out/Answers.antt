@@ -49,7 +49,8 @@ returns-in_err-written g c =
     let answer = err_from_is_err_and c.from_residual-in_err-written.result
     c.from_residual-in_err-written.ensures.1 in
     let done = c.in_ok-unless_refused.ensures.ok in
-    let written = rw (c.in_err-written.was, c.conn-in-loop.ensures) at c.write_waiting-written.ensures.writes in
+    let written = rw (c.in_err-written.was, c.conn-in-loop.ensures)
+    at c.write_waiting-written.ensures.writes in
     let some = written_some _ _ _ _ _ _ written in
     rw (answer.1, answer.2) (record {
       writes = λ course end unused is was linked. writes_lent_first (Happens course kept)
@@ -89,7 +90,8 @@ loop-preserved g c =
     let link = c.write_waiting-written.new.link in
     let now = traffic (g.L.Link.given link) (g.L.Link.taken link) (g.L.Link.stalled link) in
     let done = c.in_ok-unless_refused.ensures.ok in
-    let written = rw (c.in_ok-written.was, c.conn-in-loop.ensures) at c.write_waiting-written.ensures.writes in
+    let written = rw (c.in_ok-written.was, c.conn-in-loop.ensures)
+    at c.write_waiting-written.ensures.writes in
     record {
       failures = written.1 ∙ c.loop.invariant.failures;
       kept = c.consume-consumed.ensures.kept ∙ c.ready.ensures.kept ∙ c.loop.invariant.kept;

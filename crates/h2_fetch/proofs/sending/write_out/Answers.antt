@@ -41,12 +41,13 @@ returns-then-waiting-eq0-clause-writes g c values message start end unused is wa
 
 pub returns-in_err-written : goal.returns-in_err-written
 returns-in_err-written g c =
-    let link = c.write_both-written.new.link in
+    let link = c.write_waiting-written.new.link in
     let now = traffic (g.L.Link.given link) (g.L.Link.taken link) (g.L.Link.stalled link) in
     let answer = err_from_is_err_and c.from_residual-in_err-written.result
     c.from_residual-in_err-written.ensures.1 in
     let done = c.in_ok-unless_refused.ensures.ok in
-    let written = rw c.in_err-written.was at c.write_both-written.ensures.writes in
+    let written = rw (c.in_err-written.was, c.conn-in-loop.ensures)
+    at c.write_waiting-written.ensures.writes in
     let some = written_some _ _ _ _ _ _ written in
     rw (answer.1, answer.2) (record {
       writes = λ values message start end unused is was linked. writes_lent_first (IsFetching values message)
@@ -57,13 +58,13 @@ returns-in_err-written g c =
           (record {
             few = rw c.conn.ensures at c.waiting.ensures.bound;
             all = rw c.conn.ensures at c.waiting.ensures.count;
-            lent = rw c.conn-in-loop.ensures at c.waiting_octets.ensures;
+            lent = λ values log conn. conn.machine.output.waiting;
             returned = rw done at c.ready.ensures.returned;
           })
-          c.write_both-written.ensures.gives_none c.consume-consumed.result some.0
+          c.write_waiting-written.ensures.gives_none c.consume-consumed.result some.0
           c.in_err-written.field-0.0 c.consume-consumed.ensures.answers
           c.consume-consumed.ensures.room some.1.took (written_known _ _ _ _ _ _ written)
-          (rw c.in_err-written.was at c.write_both-written.ensures.stalled);
+          (rw c.in_err-written.was at c.write_waiting-written.ensures.stalled);
       failures = written_failures (Unit {0}) _ _ _ _ _ c.loop.invariant.failures written;
       err = written_ends _ _ _ _ _ _ written;
     })
@@ -74,17 +75,18 @@ unfolding WritesAll
 returns-in_err-unless_refused-2-clause-failures g c =
     let answer = err_from_is_err_and c.from_residual-in_err-unless_refused-2.result
     c.from_residual-in_err-unless_refused-2.ensures.1 in
-    let written = rw c.in_ok-written.was at c.write_both-written.ensures.writes in
+    let written = rw c.in_ok-written.was at c.write_waiting-written.ensures.writes in
     rw (answer.1, answer.2) (call_failures (Unit {0}) _ _ c.in_err-unless_refused-2.ensures.kind
     (written.1 ∙ c.loop.invariant.failures))
 
 pub loop-preserved : goal.loop-preserved
 unfolding WritesAll
 loop-preserved g c =
-    let link = c.write_both-written.new.link in
+    let link = c.write_waiting-written.new.link in
     let now = traffic (g.L.Link.given link) (g.L.Link.taken link) (g.L.Link.stalled link) in
     let done = c.in_ok-unless_refused.ensures.ok in
-    let written = rw c.in_ok-written.was at c.write_both-written.ensures.writes in
+    let written = rw (c.in_ok-written.was, c.conn-in-loop.ensures)
+    at c.write_waiting-written.ensures.writes in
     record {
       failures = written.1 ∙ c.loop.invariant.failures;
       writes = λ values message start end unused is was linked. writes_lent (IsFetching values message)
@@ -95,10 +97,10 @@ loop-preserved g c =
           (record {
             few = rw c.conn.ensures at c.waiting.ensures.bound;
             all = rw c.conn.ensures at c.waiting.ensures.count;
-            lent = rw c.conn-in-loop.ensures at c.waiting_octets.ensures;
+            lent = λ values log conn. conn.machine.output.waiting;
             returned = rw done at c.ready.ensures.returned;
           })
-          c.write_both-written.ensures.gives_none c.in_ok-unless_refused-2.field-0
+          c.write_waiting-written.ensures.gives_none c.in_ok-unless_refused-2.field-0
           (rw c.in_ok-unless_refused-2.ensures.ok at c.consume-consumed.ensures.answers) written.0;
     }
 

@@ -1,13 +1,15 @@
 -- Parts were sent after what is held; or none of them was, and the first is written alone.
-use Rattle.std.proofs.Common.{◌≡◌, ap, ◌∙◌, arith, sym, refl}
+use Rattle.std.proofs.Common.{◌≡◌, ◌<◌, length, ap, ◌∙◌, arith, sym, refl}
 use Rattle.h2_link.proofs.PartsLemmas.{takes_part, stalled_part}
 use Rattle.h2_link.specs.Links.{stalled_after}
+use Rattle.std.specs.Io.Slices.{io_slices_bytes}
 use Rattle.h2_net.proofs.PartsSent.{takes_after_none, not_stalled}
 use Rattle.h2_net.proofs.stream_link.StreamLinkLink.write_parts.Goals as goal
 
 pub returns-then-count-gt0-clause-stalled : goal.returns-then-count-gt0-clause-stalled
 returns-then-count-gt0-clause-stalled g c =
-    c.send_parts-count.ensures.stalled ∙ not_stalled _ _ _ (omega (arith, c.if-count-gt0.true))
+    let some : 0 < c.send_parts-count.result = omega (arith, c.if-count-gt0.true) in
+    c.send_parts-count.ensures.stalled ∙ not_stalled _ _ _ some
 
 pub returns-clause-takes : goal.returns-clause-takes
 returns-clause-takes g c =
@@ -17,7 +19,8 @@ pub returns-clause-stalled : goal.returns-clause-stalled
 returns-clause-stalled g c =
     c.write.ensures.stalled
     ∙ stalled_part _ _ _ c.write.result c.first_part.ensures.part c.first_part.ensures.none
-    ∙ ap (λ s. stalled_after s _ c.write.result) c.send_parts-count.ensures.stalled
+    ∙ ap (λ s. stalled_after s (length (io_slices_bytes c.args.parts.now)) c.write.result)
+    c.send_parts-count.ensures.stalled
 
 pub returns-clause-holds : goal.returns-clause-holds
 returns-clause-holds g c =
