@@ -4,6 +4,9 @@ use Rattle.h2_replay.proofs.Names.{ReplayAct, opened, Records, acts_made}
 use Rattle.h2_replay.specs.declared.turns.Turn.{Turn}
 use Rattle.h2_replay.proofs.RecordLemmas.{opening_records, one_more_act}
 use Rattle.h2_replay.specs.declared.turns.Turn.TheVariants as turns
+use Rattle.std.proofs.Common.{rules, ◌≡◌}
+use Rattle.h2_replay.specs.declared.acts.Act.{Act}
+use Rattle.h2_replay.specs.Replay.{KeepsReplay}
 use Rattle.h2_replay.proofs.run.replay.Goals as goal
 
 pub loop-act-init : goal.loop-act-init
@@ -24,3 +27,14 @@ loop-act-preserved c =
     (sym (one_more_act c.loop-act.yielded c.in-Some.act))
     (c.in_ok-make_act.ensures c.args.role (values_of c.args.config)
     (acts_made c.loop-act.yielded) c.loop-act.invariant)
+
+pub returns : goal.returns
+returns c =
+    let all : c.loop-act.yielded ≡ c.args.acts.items = search rules in
+    let so_far = c.loop-act.invariant in
+    record {
+      log = so_far.log;
+      turns = so_far.turns;
+      keeps = subst (λ (made : List Act). KeepsReplay c.args.role (values_of c.args.config)
+          (acts_made made) c.loop-act.turns.items so_far.log so_far.turns) all so_far.keeps;
+    }
