@@ -1,6 +1,7 @@
 -- How often a link has failed, and what it has taken, where writing to it has ended early.
 use Rattle.h2_engines.proofs.Names.{◌≡◌, ℕ, ◌+◌, List, Option, Err, ap, ◌∙◌, LinkError}
 use Rattle.h2_engines.proofs.Names.{failures_at_end, IsOfCall, EndsWriting, ◌≢◌, IsOfServer}
+use Rattle.h2_engines.specs.Failures.{IsOfClient}
 use Rattle.h2_link.specs.Links.{WritesAll, TakesFirst}
 use Rattle.h2_link.specs.declared.error.LinkError.TheVariants as errors
 
@@ -54,3 +55,9 @@ pub call_ends_server : (error : LinkError) → IsOfCall error → IsOfServer err
 call_ends_server errors.Memory is = tt
 call_ends_server errors.NoProgress is = tt
 call_ends_server other is = absurd is
+
+-- It may end a client.
+pub call_ends_client : (error : LinkError) → IsOfCall error → IsOfClient error
+call_ends_client errors.Memory is = tt
+call_ends_client errors.NoProgress is = tt
+call_ends_client other is = absurd is
