@@ -212,8 +212,9 @@ impl<P: Party> Host<P> {
         }
     }
 
-    /// The output that waits of the connection whose turn it is, in two slices: in all at most so
-    /// many octets as are left of [`MOST_GIVEN`].
+    /// The first two parts of the output that waits of the connection whose turn it is
+    /// ([`Party::output`]): in all at most so many octets as are left of [`MOST_GIVEN`]. Where any
+    /// waits and any is left, the first has octets.
     pub fn output(&self, token: Token) -> (&[u8], &[u8])
         ensures { length result.0.now + length result.1.now ≤ most_given - self.now.turn.gave }
     {

@@ -96,6 +96,7 @@ pub trait Party: Drop {
     /// Whether it takes octets now.
     fn wants_input(&self) -> bool;
 
-    /// The octets of its output that wait, in two slices, the first of which come first.
+    /// The first two parts of its output that wait, of which the first comes first; where any
+    /// waits the first has octets.
     fn output(&self) -> (&[u8], &[u8]);
 }

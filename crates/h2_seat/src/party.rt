@@ -34,6 +34,7 @@ impl<W: Drop, H: Handler<Work = W>> Party for Seat<H, W> {
     }
 
     fn output(&self) -> (&[u8], &[u8]) {
-        self.handled.waiting_octets()
+        let first = self.handled.waiting_from(0);
+        (first, self.handled.waiting_from(first.len()))
     }
 }
