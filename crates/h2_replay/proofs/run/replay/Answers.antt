@@ -4,7 +4,9 @@ use Rattle.h2_replay.proofs.Names.{ReplayAct, opened, Records, acts_made}
 use Rattle.h2_replay.specs.declared.turns.Turn.{Turn}
 use Rattle.h2_replay.proofs.RecordLemmas.{opening_records, one_more_act}
 use Rattle.h2_replay.specs.declared.turns.Turn.TheVariants as turns
-use Rattle.std.proofs.Common.{rules, ◌≡◌}
+use Rattle.std.proofs.Common.{◌≡◌, arith, length, map-id}
+use Rattle.std.proofs.lemmas.Iterator.Adapters.{YieldsList-from_vec}
+use Rattle.std.proofs.lemmas.Iterator.Consumers.{YieldsList-end}
 use Rattle.h2_replay.specs.declared.acts.Act.{Act}
 use Rattle.h2_replay.specs.Replay.{KeepsReplay}
 use Rattle.h2_replay.proofs.run.replay.Goals as goal
@@ -30,7 +32,15 @@ loop-act-preserved c =
 
 pub returns : goal.returns
 returns c =
-    let all : c.loop-act.yielded ≡ c.args.acts.items = search rules in
+    let iterator = c.into_iter-act-iterator.result in
+    let gives : iterator.rest.items ≡ c.args.acts.items =
+    c.into_iter-act-iterator.ensures.into_iter_gives.0 in
+    let long : iterator.rest.len ≡ length c.args.acts.items =
+    omega (arith, iterator.rest.ok.0, ap length gives) in
+    let ended = YieldsList-end (YieldsList-from_vec c.args.acts.items gives long)
+    c.loop-act.yielded c.loop-act.act-iterator c.loop-act.yielded_by c.next.result
+    c.next.new.self c.in-None.is c.next.ensures.steps in
+    let all : c.loop-act.yielded ≡ c.args.acts.items = sym (map-id c.loop-act.yielded) ∙ ended.0 in
     let so_far = c.loop-act.invariant in
     record {
       log = so_far.log;
