@@ -30,7 +30,7 @@
 //! then is added.
 
 use crate::acts::{made_config, make_call, read_act, read_values};
-use crate::answers::{add_name, add_option, add_rule, add_value, copy_of, extend};
+use crate::answers::{add_name, add_option, add_rule, add_value};
 use crate::conn_events::{note_event, note_fault};
 use crate::cuts::{Cut, Cutting, answers_in_cuts, read_frames};
 use crate::notes::{Notes, Taker, Used, add_taken, add_taken_once};
