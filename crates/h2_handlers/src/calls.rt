@@ -1,5 +1,6 @@
 //! What a server with its handler answers of itself, and the calls that are the connection's.
 
+ghost use Rattle.h2_conn.specs.Conn.{LendsFrom};
 ghost use Rattle.h2_handlers.specs.Exchanges.{IsEmptied, handling_of, relations};
 ghost use Rattle.h2_handlers.specs.Steps.{Handles};
 
@@ -77,9 +78,14 @@ impl<W: Drop, H: Handler<Work = W>> Handled<H, W> {
         self.server.consume(count)
     }
 
-    /// Lends the output that waits, in two slices, the first of which comes first.
-    pub fn waiting_octets(&self) -> (&[u8], &[u8]) {
-        self.server.waiting_octets()
+    /// Lends the output that waits from a place on, as much as lies there in one piece: see
+    /// [`Server::waiting_from`]. After [`Handled::ready`] it is all that can be written now.
+    ///
+    /// [`Server::waiting_from`]: h2_ends::Server::waiting_from
+    pub fn waiting_from(&self, at: usize) -> &[u8]
+        ensures { LendsFrom self.now.server.end.conn at result.now }
+    {
+        self.server.waiting_from(at)
     }
 
     /// Whether 65,536 octets of output or more wait: nothing is taken or answered then.
