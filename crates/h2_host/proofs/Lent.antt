@@ -1,8 +1,8 @@
 -- Two slices that are cut at what is left of a turn are first octets of what waits still.
-use Rattle.std.proofs.Common.{◌≡◌, ◌≤◌, ◌<◌, ◌+◌, ◌-◌, ◌++◌, ◌∙◌, ℕ, List, [], length, take, min}
-use Rattle.std.proofs.Common.{drop, ap, sym, subst, arith, inl, inr, append-nil, true, false, Some}
+use Rattle.std.proofs.Common.{◌≡◌, ◌≤◌, ◌<◌, ◌+◌, ◌-◌, ◌++◌, ◌∙◌, ℕ, List, length, take, min}
+use Rattle.std.proofs.Common.{drop, ap, sym, subst, arith, inl, inr, append-nil, true, false}
 use Rattle.std.proofs.lemmas.Bool.{cases_lt}
-use Rattle.std.proofs.lemmas.List.{take-append-drop, take-append-le, take_all, take_min}
+use Rattle.std.proofs.lemmas.List.{take-append-drop, take-append-le, take_all}
 use Rattle.std.proofs.lemmas.List.{length-take-le}
 use Rattle.std.proofs.Math.Seq.{take-append-add}
 use Rattle.std.proofs.Transfers.{starts_with_of_append, starts_with_trans}

@@ -1,5 +1,5 @@
 -- Which connection of a host is meant, and that none is meant twice.
-use Rattle.std.specs.Prelude.{◌≡◌, ◌≢◌, ◌⊎◌, ◌<◌, ◌+◌, ◌*◌, ◌^◌, ◌-◌, ℕ, List, Option, Some, None}
+use Rattle.std.specs.Prelude.{◌≡◌, ◌⊎◌, ◌<◌, ◌+◌, ◌*◌, ◌^◌, ◌-◌, ℕ, List, Option, Some, None}
 use Rattle.std.specs.Prelude.{length, slice_get, get_or, is_none, true, false, ◌==◌, ◌&&◌, Bool}
 use Rattle.std.specs.Prelude.{is_some, count_by}
 use Rattle.h2_host.specs.declared.table.Slot.{Slot}
