@@ -230,7 +230,8 @@ impl<P: Party> Host<P> {
     // rule: hosts (own) Who has the turn gives its own output, and nobody else any
     // contract: hosts (own) Who has the turn gives its own output, and nobody else any
     /// The first two parts of the output that waits of the connection whose turn it is: in all at
-    /// most so many octets as are left of [`MOST_GIVEN`]. Nothing of any other connection.
+    /// most so many octets as are left of [`MOST_GIVEN`]. Where any waits and any is left, the first
+    /// has octets. Nothing of any other connection.
     pub fn output(&self, token: Token) -> (&[u8], &[u8])
         ensures { LendsInTurn P.output_of self.now token result.0.now result.1.now }
     {
