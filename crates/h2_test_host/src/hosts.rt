@@ -99,12 +99,18 @@ fn own_output(alloc: Global) -> Option<bool> {
     let second = open_with(alloc, &mut host, b"two")?;
     let turn = host.next_turn() == Some(first);
     let (own, more) = host.output(first);
-    let is_own = own == b"one" && more == b"one";
+    let is_own = own == b"one".as_slice() && more == b"one".as_slice();
     let (none, nothing) = host.output(second);
     let no_other = none.is_empty() && nothing.is_empty();
     let next = host.next_turn() == Some(second);
     let (own, _) = host.output(second);
-    Some(turn && is_own && no_other && next && own == b"two" && host.output(first).0.is_empty())
+    Some(
+        turn && is_own
+            && no_other
+            && next
+            && own == b"two".as_slice()
+            && host.output(first).0.is_empty(),
+    )
 }
 
 // rule (best): hosts (own) Who has the turn gives its own output, and nobody else any
