@@ -1,6 +1,13 @@
 //! What a server with its handler answers of itself, and the calls that are the connection's.
 
-ghost use Rattle.h2_conn.specs.Conn.{LendsFrom};
+ghost use Rattle.std.specs.Prelude.{◌≡◌, ◌↔◌, ◌≤◌, nat_lt, true, false, None, OnOk, IsOk};
+ghost use Rattle.h2_spec_log.specs.Acts.{Answer, Count, Done, Fail, PutOut, SendGoAway, Values};
+ghost use Rattle.h2_spec_log.specs.CallRules.{returns_before_put_out};
+ghost use Rattle.h2_spec_log.specs.Limits.{full_output};
+ghost use Rattle.h2_spec_log.specs.Log.{Log, reader_next_live, waiting};
+ghost use Rattle.h2_spec_log.specs.LogView.{log_view};
+ghost use Rattle.h2_conn.specs.Conn.{ConnRepresents, LendsFrom, answer_by};
+ghost use Rattle.h2_ends.specs.Represents.{EndAnswers};
 ghost use Rattle.h2_handlers.specs.Exchanges.{IsEmptied, handling_of, relations};
 ghost use Rattle.h2_handlers.specs.Steps.{Handles};
 
@@ -17,9 +24,12 @@ impl<W: Drop, H: Handler<Work = W>> Handled<H, W> {
     ///
     /// Those of [`Server::go_away`]. Nothing has changed.
     pub fn go_away(&mut self) -> Result<(), Refusal>
-        ensures { Handles (relations H.heads H.bodies H.trails H.gives H.ends)
+        ensures handles { Handles (relations H.heads H.bodies H.trails H.gives H.ends)
             self.old.server.end (handling_of self.old.exchanges) self.new.server.end
             (handling_of self.new.exchanges) }
+        ensures answers { EndAnswers self.old.server.end SendGoAway (answer_by (λ done. Done) result)
+            self.new.server.end }
+        ensures exchanges { self.new.exchanges ≡ self.old.exchanges }
     {
         self.server.go_away()
     }
@@ -31,6 +41,8 @@ impl<W: Drop, H: Handler<Work = W>> Handled<H, W> {
             self.old.server.end (handling_of self.old.exchanges) self.new.server.end
             (handling_of self.new.exchanges) }
         ensures none { IsEmptied (handling_of self.new.exchanges) }
+        ensures failed { (answer : Answer)
+            × EndAnswers self.old.server.end (Fail code) answer self.new.server.end }
     {
         // It is refused only where the connection has failed before.
         let _ = self.server.fail(code);
@@ -43,6 +55,7 @@ impl<W: Drop, H: Handler<Work = W>> Handled<H, W> {
             self.old.server.end (handling_of self.old.exchanges) self.new.server.end
             (handling_of self.new.exchanges) }
         ensures none { IsEmptied (handling_of self.new.exchanges) }
+        ensures server { self.new.server ≡ self.old.server }
     {
         self.exchanges.end_all();
     }
@@ -55,9 +68,17 @@ impl<W: Drop, H: Handler<Work = W>> Handled<H, W> {
     ///
     /// [`Refusal::Memory`] where an allocation was refused. Nothing has changed.
     pub fn ready(&mut self) -> Result<(), Refusal>
-        ensures { Handles (relations H.heads H.bodies H.trails H.gives H.ends)
+        ensures handles { Handles (relations H.heads H.bodies H.trails H.gives H.ends)
             self.old.server.end (handling_of self.old.exchanges) self.new.server.end
             (handling_of self.new.exchanges) }
+        ensures answers { EndAnswers self.old.server.end (PutOut 0)
+            (answer_by (λ done. Count 0) result) self.new.server.end }
+
+        // Nothing is returned first then, so consuming takes no memory.
+        ensures returned { OnOk result ((values : Values) (log : Log)
+            → ConnRepresents values self.new.server.end.conn log
+            → returns_before_put_out (log_view log) ≡ false) }
+        ensures exchanges { self.new.exchanges ≡ self.old.exchanges }
     {
         self.server.ready()
     }
@@ -71,9 +92,15 @@ impl<W: Drop, H: Handler<Work = W>> Handled<H, W> {
     ///
     /// [`Refusal::Memory`] where an allocation was refused. Nothing has changed.
     pub fn consume(&mut self, count: usize) -> Result<usize, Refusal>
-        ensures { Handles (relations H.heads H.bodies H.trails H.gives H.ends)
+        ensures handles { Handles (relations H.heads H.bodies H.trails H.gives H.ends)
             self.old.server.end (handling_of self.old.exchanges) self.new.server.end
             (handling_of self.new.exchanges) }
+        ensures answers { EndAnswers self.old.server.end (PutOut count)
+            (answer_by (λ given. Count given) result) self.new.server.end }
+        ensures room { (values : Values) (log : Log)
+            → ConnRepresents values self.old.server.end.conn log
+            → returns_before_put_out (log_view log) ≡ false → IsOk result }
+        ensures exchanges { self.new.exchanges ≡ self.old.exchanges }
     {
         self.server.consume(count)
     }
@@ -89,12 +116,18 @@ impl<W: Drop, H: Handler<Work = W>> Handled<H, W> {
     }
 
     /// Whether 65,536 octets of output or more wait: nothing is taken or answered then.
-    pub fn is_full(&self) -> bool {
+    pub fn is_full(&self) -> bool
+        ensures { (values : Values) (log : Log) → ConnRepresents values self.now.server.end.conn log
+            → (result ≡ true) ↔ (full_output ≤ waiting log) }
+    {
         self.server.is_full()
     }
 
     /// Whether no output waits, and no stream is active or the connection has failed.
-    pub fn is_drained(&self) -> bool {
+    pub fn is_drained(&self) -> bool
+        ensures { (values : Values) (log : Log) → ConnRepresents values self.now.server.end.conn log
+            → (result ≡ true) ↔ ((waiting log ≡ 0) × (reader_next_live log 0 ≡ None)) }
+    {
         self.server.is_drained()
     }
 
@@ -110,22 +143,30 @@ impl<W: Drop, H: Handler<Work = W>> Handled<H, W> {
     }
 
     /// Whether some request isn't whole.
-    pub fn is_reading(&self) -> bool {
+    pub fn is_reading(&self) -> bool
+        ensures { result ≡ nat_lt 0 self.now.exchanges.totals.reading }
+    {
         self.exchanges.totals.reading > 0
     }
 
     /// How many requests have come; the greatest number of 64 bits where it is more than that.
-    pub fn requests(&self) -> u64 {
+    pub fn requests(&self) -> u64
+        ensures { result ≡ self.now.exchanges.totals.requests }
+    {
         self.exchanges.totals.requests
     }
 
     /// How many octets of bodies have come; the greatest number of 64 bits where it is more.
-    pub fn body(&self) -> u64 {
+    pub fn body(&self) -> u64
+        ensures { result ≡ self.now.exchanges.totals.body }
+    {
         self.exchanges.totals.body
     }
 
     /// How many octets of bodies were sent; the greatest number of 64 bits where it is more.
-    pub fn sent(&self) -> u64 {
+    pub fn sent(&self) -> u64
+        ensures { result ≡ self.now.sent }
+    {
         self.sent
     }
 

@@ -1,21 +1,19 @@
 -- Worked examples of the definitions, each with a neighbour that is wrong.
-use Rattle.std.specs.Prelude.{◌≡◌, ◌≤◌, ◌<◌, ℕ, zero, suc, List, [], ◌∷◌, Bool, true, false, Option}
-use Rattle.std.specs.Prelude.{Some, None, nat_lt}
+use Rattle.std.specs.Prelude.{◌≡◌, ◌≤◌, ◌<◌, ℕ, zero, suc, List, [], ◌∷◌, Bool, true, false}
+use Rattle.std.specs.Prelude.{Some, None}
 use Rattle.std.proofs.Common.{refl, sym, ap, inl, inr, arith, ◌∙◌}
-use Rattle.h2_host.specs.declared.host.Reply.{Reply}
 use Rattle.h2_host.specs.declared.host.Reply.TheVariants as replies
-use Rattle.h2_host.specs.declared.host.Step.{Step}
 use Rattle.h2_host.specs.declared.host.Step.TheVariants as host_steps
 use Rattle.h2_host.specs.declared.party.Answer.TheVariants.{Goes}
 use Rattle.h2_host.specs.declared.party.Own.TheVariants as owns
 use Rattle.h2_host.specs.declared.table.Slot.{Slot}
 use Rattle.h2_host.specs.declared.token.Token.{Token}
 use Rattle.h2_host.specs.Bounds.{held_in_all, slot_held, IsGreatestHolder}
-use Rattle.h2_host.specs.Isolation.{Move, MoveOf, moves_of}
+use Rattle.h2_host.specs.Isolation.{MoveOf, moves_of}
 use Rattle.h2_host.specs.Runs.{GetsTurnBefore, given_by_step, taken_by_step}
 use Rattle.h2_host.specs.Steps.{IsFirstReady}
 use Rattle.h2_host.specs.Tokens.{is_same_token, slot_at, token_number}
-use Rattle.h2_host.specs.Turns.{NoneReady, WaitOnce, WaitsIn, counted_in, queue_more, turn_left}
+use Rattle.h2_host.specs.Turns.{WaitOnce, WaitsIn, queue_more, turn_left}
 use Rattle.h2_host.specs.Turns.{turn_of}
 
 -- Three tokens: two of one place, one of another.

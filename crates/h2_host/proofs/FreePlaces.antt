@@ -1,13 +1,13 @@
 -- A free place is taken, or a place becomes free.
-use Rattle.std.specs.Prelude.{◌≡◌, ◌≢◌, ◌<◌, ◌+◌, ◌-◌, ◌^◌, ◌++◌, ◌⊎◌, ℕ, zero, suc, List, []}
+use Rattle.std.specs.Prelude.{◌≡◌, ◌≢◌, ◌<◌, ◌+◌, ◌-◌, ◌^◌, ◌++◌, ◌⊎◌, ℕ, List, []}
 use Rattle.std.specs.Prelude.{◌∷◌, length, get_or, Option, Some, None, is_none, true, false}
-use Rattle.std.specs.Prelude.{slice_get, slice_set, Bool, if◌then◌else◌}
+use Rattle.std.specs.Prelude.{slice_set, Bool, if◌then◌else◌}
 use Rattle.std.proofs.Common.{refl, sym, ap, subst, inl, inr, arith, ◌∙◌}
 use Rattle.std.proofs.lemmas.Bool.{cases_eq}
 use Rattle.std.proofs.lemmas.List.{get_or_append_left, get_or_at, length-append, length-set}
 use Rattle.h2_host.specs.declared.table.Slot.{Slot}
 use Rattle.h2_host.specs.Tokens.{AreFree, HasNext, slot_at}
-use Rattle.h2_host.proofs.Places.{at_written, get_written, get_unwritten}
+use Rattle.h2_host.proofs.Places.{at_written, get_written}
 
 -- A list with one more is longer by one.
 length_more : (xs : List ℕ) (x : ℕ) → length (xs ++ x ∷ []) ≡ length xs + 1

@@ -17,3 +17,5 @@ mod Sums
 mod TokensGiven
 mod TurnsBounded
 mod TurnsOrder
+mod Counted
+mod Lent

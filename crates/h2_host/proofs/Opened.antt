@@ -1,14 +1,13 @@
 -- What a host answers where a connection is opened, or its transport was closed.
-use Rattle.std.specs.Prelude.{◌≡◌, ◌<◌, ◌≤◌, ◌+◌, ◌-◌, ℕ, List, [], ◌++◌, length, Bool}
+use Rattle.std.specs.Prelude.{◌≡◌, ◌≤◌, ◌+◌, ◌-◌, ℕ, List, [], ◌++◌, length, Bool}
 use Rattle.std.specs.VecDeque.{deque_capacity}
-use Rattle.std.proofs.Common.{refl, sym, ap, subst, arith, ◌∙◌}
+use Rattle.std.proofs.Common.{refl, sym, ap, subst, ◌∙◌}
 use Rattle.std.proofs.lemmas.List.{append-nil}
 use Rattle.h2_host.specs.declared.host.Reply.TheVariants as replies
 use Rattle.h2_host.specs.declared.party.Answer.{Answer}
 use Rattle.h2_host.specs.declared.party.Own.{Own}
 use Rattle.h2_host.specs.declared.state.HostState.{HostState}
 use Rattle.h2_host.specs.declared.token.Token.{Token}
-use Rattle.h2_host.specs.Isolation.{IsSameOfParties}
 use Rattle.h2_host.specs.Openings.{EmptiesPlace, MakesPlace, TakesPlace}
 use Rattle.h2_host.specs.Queueing.{QueuesPlace}
 use Rattle.h2_host.specs.Sound.{IsSoundHost}
@@ -18,7 +17,7 @@ use Rattle.h2_host.specs.Turns.{ReadyWait}
 use Rattle.h2_host.proofs.OpeningsKept.{counted_freed, counted_made, counted_taken, is_fresh}
 use Rattle.h2_host.proofs.OpeningsKept.{leaves_freed, left_no_more, opens_happen, opens_taken}
 use Rattle.h2_host.proofs.OpeningsKept.{others_taken, same_made, wait_freed, wait_made}
-use Rattle.h2_host.proofs.Places.{at_kept, same_itself}
+use Rattle.h2_host.proofs.Places.{at_kept}
 use Rattle.h2_host.proofs.SoundKept.{IsCounted, counted_of, counted_queued, longer_queued}
 use Rattle.h2_host.proofs.SoundKept.{same_queued, sound_of, wait_queued}
 

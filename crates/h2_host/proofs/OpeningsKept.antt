@@ -1,10 +1,9 @@
 -- A host is sound still where a place was made, taken or freed.
-use Rattle.std.specs.Prelude.{◌≡◌, ◌≢◌, ◌<◌, ◌≤◌, ◌+◌, ◌-◌, ◌^◌, ◌⊎◌, ◌++◌, ◌∷◌, [], ℕ, List}
+use Rattle.std.specs.Prelude.{◌≡◌, ◌<◌, ◌≤◌, ◌+◌, ◌-◌, ◌^◌, ◌++◌, ◌∷◌, [], ℕ, List}
 use Rattle.std.specs.Prelude.{length}
-use Rattle.std.specs.Prelude.{Bool, true, false, Option, Some, None, slice_set, sum_by}
+use Rattle.std.specs.Prelude.{Bool, true, false, Option, Some, None, slice_set}
 use Rattle.std.specs.VecDeque.{deque_capacity}
 use Rattle.std.proofs.Common.{refl, sym, ap, subst, arith, inl, inr, ◌∙◌}
-use Rattle.std.proofs.lemmas.Bool.{cases_eq}
 use Rattle.std.proofs.lemmas.List.{length-append, length-set}
 use Rattle.std.proofs.lemmas.List.Sums.{sum_by_push}
 use Rattle.h2_host.specs.declared.party.Answer.{Answer}
@@ -13,7 +12,7 @@ use Rattle.h2_host.specs.declared.state.HostState.{HostState}
 use Rattle.h2_host.specs.declared.table.Slot.{Slot}
 use Rattle.h2_host.specs.declared.token.Token.{Token}
 use Rattle.h2_host.specs.Bounds.{EachWithin, held_by, held_in_all, slot_held}
-use Rattle.h2_host.specs.Isolation.{HappensAt, nothing, opened, left, noted, IsSameOfParties}
+use Rattle.h2_host.specs.Isolation.{HappensAt, nothing, opened, noted, IsSameOfParties}
 use Rattle.h2_host.specs.Isolation.{LeavesPlace, OpensPlace}
 use Rattle.h2_host.specs.Openings.{EmptiesPlace, MakesPlace, TakesPlace, new_slot}
 use Rattle.h2_host.specs.Steps.{slots_of}

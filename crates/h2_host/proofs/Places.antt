@@ -8,12 +8,10 @@ use Rattle.std.proofs.Common.{refl, sym, ap, subst, inl, inr, ◌∙◌}
 use Rattle.std.proofs.lemmas.Bool.{cases_eq, lt-ltb}
 use Rattle.std.proofs.lemmas.List.{length-set}
 use Rattle.std.proofs.lemmas.Option.{slice_get_read, slice_get_within}
-use Rattle.h2_host.specs.declared.party.Answer.{Answer}
-use Rattle.h2_host.specs.declared.party.Own.{Own}
 use Rattle.h2_host.specs.declared.table.Slot.{Slot}
 use Rattle.h2_host.specs.declared.token.Token.{Token}
 use Rattle.h2_host.specs.Tokens.{AreFree, HasNext, IsAt, IsNow, slot_at}
-use Rattle.h2_host.specs.Isolation.{IsSameOfParties, Move, StepsOne}
+use Rattle.h2_host.specs.Isolation.{IsSameOfParties}
 
 -- What was written at an index is there.
 pub get_written : {A : Type 0} (xs : List A) (i : ℕ) (x y : A) → slice_get xs i ≡ Some x

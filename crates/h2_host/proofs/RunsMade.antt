@@ -5,7 +5,7 @@ use Rattle.h2_host.specs.declared.host.Reply.{Reply}
 use Rattle.h2_host.specs.declared.party.Answer.{Answer}
 use Rattle.h2_host.specs.declared.party.Own.{Own}
 use Rattle.h2_host.specs.declared.state.HostState.{HostState}
-use Rattle.h2_host.specs.Runs.{IsRun, RunsWhile, none_made, one_made}
+use Rattle.h2_host.specs.Runs.{IsRun, none_made, one_made}
 use Rattle.h2_host.specs.Steps.{AnswersStep}
 
 -- A step is made after those that were.

@@ -1,6 +1,6 @@
 -- A host is sound still, once one of its places was written.
-use Rattle.std.specs.Prelude.{◌≡◌, ◌≢◌, ◌<◌, ◌≤◌, ◌+◌, ◌^◌, ◌⊎◌, ◌++◌, [], ℕ, List, length, Bool}
-use Rattle.std.specs.Prelude.{true, false, Option, Some, None, slice_set}
+use Rattle.std.specs.Prelude.{◌≡◌, ◌≢◌, ◌<◌, ◌≤◌, ◌+◌, ◌^◌, ◌++◌, [], ℕ, List, length, Bool}
+use Rattle.std.specs.Prelude.{Option, Some, None, slice_set}
 use Rattle.std.specs.VecDeque.{deque_capacity}
 use Rattle.std.proofs.Common.{refl, sym, ap, subst, arith, inl, inr, ◌∙◌}
 use Rattle.std.proofs.lemmas.List.{append-nil, length-set}
@@ -15,10 +15,10 @@ use Rattle.h2_host.specs.Queueing.{KeepsBeside, QueuesPlace}
 use Rattle.h2_host.specs.Sound.{IsSoundHost, IsSteady}
 use Rattle.h2_host.specs.Steps.{slots_of}
 use Rattle.h2_host.specs.Tokens.{slot_at}
-use Rattle.h2_host.specs.Turns.{HasTurn, IsQueueOf, ReadyWait, WaitOnce, WaitsIn, queue_more}
+use Rattle.h2_host.specs.Turns.{IsQueueOf, ReadyWait, WaitOnce, WaitsIn, queue_more}
 use Rattle.h2_host.specs.Turns.{slot_queued}
 use Rattle.h2_host.proofs.Places.{at_written, back_written, same_itself, same_written}
-use Rattle.h2_host.proofs.Queues.{OthersWait, queue_kept, queue_written, ready_written}
+use Rattle.h2_host.proofs.Queues.{OthersWait, queue_written, ready_written}
 use Rattle.h2_host.proofs.Sums.{sum_written}
 
 -- What is true of a host whoever has the turn, and whoever waits.

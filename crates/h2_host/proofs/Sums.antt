@@ -1,10 +1,9 @@
 -- How much the places of a host hold, once one of them was written.
-use Rattle.std.specs.Prelude.{◌≡◌, ◌<◌, ◌≤◌, ◌+◌, ◌++◌, ◌∷◌, [], ℕ, zero, suc, List, length, sum_by}
-use Rattle.std.specs.Prelude.{Bool, true, false, count_by, cond, Option, Some, None, slice_get}
+use Rattle.std.specs.Prelude.{◌≡◌, ◌<◌, ◌≤◌, ◌+◌, ◌∷◌, [], ℕ, zero, suc, List, length, sum_by}
+use Rattle.std.specs.Prelude.{Bool, true, false, count_by, cond, Some, slice_get}
 use Rattle.std.specs.Prelude.{slice_set}
-use Rattle.std.proofs.Common.{refl, sym, ap, subst, arith, ◌∙◌}
+use Rattle.std.proofs.Common.{refl, ap, arith}
 use Rattle.std.proofs.lemmas.List.Sums.{sum_by-cons, count_by-le-length}
-use Rattle.std.proofs.lemmas.List.{length-set}
 
 -- One item was written: the sum has what that counts, in place of what was there.
 pub sum_written : {A : Type 0} (f : A → ℕ) (xs : List A) (i : ℕ) (x y : A)

@@ -1,5 +1,5 @@
 -- No token of a host is given twice.
-use Rattle.std.specs.Prelude.{◌≡◌, ◌≢◌, ◌<◌, ◌⊎◌, ℕ, List, [], ◌∷◌, Bool, Option, Some, None}
+use Rattle.std.specs.Prelude.{◌≡◌, ◌≢◌, ◌⊎◌, ℕ, List, [], ◌∷◌, Bool}
 use Rattle.std.specs.List.{AllByRecursion}
 use Rattle.std.proofs.Common.{refl, sym, ap, subst, arith, inl, inr, ◌∙◌}
 use Rattle.std.proofs.lemmas.Bool.{cases_eq}
@@ -18,7 +18,7 @@ use Rattle.h2_host.specs.Isolation.{KeepsOtherPlaces, LeavesPlace, MoveOf, Move,
 use Rattle.h2_host.specs.Isolation.{StepsOne}
 use Rattle.h2_host.specs.Runs.{AreNew, RunsWhile, none_made, one_made, tokens_opened}
 use Rattle.h2_host.specs.Steps.{AnswersStep, slots_of}
-use Rattle.h2_host.specs.Tokens.{IsAt, IsNow, WasGiven, slot_at}
+use Rattle.h2_host.specs.Tokens.{IsNow, WasGiven, slot_at}
 use Rattle.h2_host.proofs.Places.{one_slot}
 use Rattle.h2_host.proofs.RunsApart.{answers_happen}
 

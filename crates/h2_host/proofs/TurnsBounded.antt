@@ -1,8 +1,7 @@
 -- How many octets the steps of one turn take and give.
-use Rattle.std.specs.Prelude.{◌≡◌, ◌≤◌, ◌<◌, ◌+◌, ◌-◌, ℕ, List, [], ◌∷◌, length, Bool, true, false}
+use Rattle.std.specs.Prelude.{◌≡◌, ◌≤◌, ◌+◌, ◌-◌, ℕ, List, length, Bool, true, false}
 use Rattle.std.specs.Prelude.{Option, Some, None, if◌then◌else◌, nat_lt, ◌||◌}
-use Rattle.std.specs.List.{AllByRecursion}
-use Rattle.std.proofs.Common.{refl, sym, ap, subst, arith, ◌∙◌}
+use Rattle.std.proofs.Common.{refl, sym, ap, subst, arith}
 use Rattle.std.proofs.lemmas.Bool.{ltb-false}
 use Rattle.h2_host.specs.declared.host.Made.{Made}
 use Rattle.h2_host.specs.declared.host.Reply.{Reply}
@@ -19,7 +18,7 @@ use Rattle.h2_host.specs.Runs.{GivesNoTurn, RunsWhile, WithinOneTurn, given_by_s
 use Rattle.h2_host.specs.Runs.{none_made}
 use Rattle.h2_host.specs.Runs.{one_made, taken_by_step, taken_in}
 use Rattle.h2_host.specs.Steps.{AnswersStep}
-use Rattle.h2_host.specs.Turns.{counted_in, has_turn, most_given, most_taken, turn_left}
+use Rattle.h2_host.specs.Turns.{has_turn, most_given, most_taken, turn_left}
 
 -- how many octets a turn still lets a connection take
 pub left_to_take : (came : Bool) → ℕ

@@ -16,11 +16,10 @@ use Rattle.h2_host.specs.declared.table.Slot.{Slot}
 use Rattle.h2_host.specs.declared.token.Token.{Token}
 use Rattle.h2_host.specs.Runs.{GetsTurnBefore, IsReadyAt, RunsWhile, none_made, one_made}
 use Rattle.h2_host.specs.Sound.{IsSoundHost}
-use Rattle.h2_host.specs.Steps.{AnswersStep, GivesTurn, IsFirstReady, slots_of}
+use Rattle.h2_host.specs.Steps.{AnswersStep, GivesTurn, slots_of}
 use Rattle.h2_host.specs.Tokens.{IsAt, slot_at}
 use Rattle.h2_host.specs.Turns.{HasTurn, NoneReady, WaitsIn, is_ready_party, is_ready_slot}
 use Rattle.h2_host.proofs.Places.{one_slot}
-use Rattle.h2_host.proofs.Queues.{waits_longer}
 
 -- The first place waits, and the other does not wait before it.
 pub record IsAhead (first other : ℕ) (queue : List ℕ) : Type 0 where

@@ -9,3 +9,4 @@ pub mod Steps
 pub mod Moves
 pub mod Queueing
 pub mod Runs
+pub mod Readers

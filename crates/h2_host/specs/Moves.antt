@@ -1,7 +1,6 @@
 -- What the functions that move one connection make of a host.
-use Rattle.std.specs.Prelude.{◌≡◌, ◌≢◌, ◌<◌, ◌≤◌, ◌+◌, ◌^◌, ◌++◌, ℕ, List, [], length, Bool, true}
-use Rattle.std.specs.Prelude.{false, Option, Some, None}
-use Rattle.std.specs.VecDeque.{deque_capacity}
+use Rattle.std.specs.Prelude.{◌≡◌, ◌≢◌, ◌<◌, ◌≤◌, ◌+◌, ◌^◌, ℕ, List, length, Bool, true}
+use Rattle.std.specs.Prelude.{Option, Some, None}
 use Rattle.h2_host.specs.declared.party.Answer.{Answer}
 use Rattle.h2_host.specs.declared.party.Own.{Own}
 use Rattle.h2_host.specs.declared.state.HostState.{HostState}
@@ -12,7 +11,7 @@ use Rattle.h2_host.specs.Isolation.{StepsOne}
 use Rattle.h2_host.specs.Parties.{IsGivenUp, IsRefusal}
 use Rattle.h2_host.specs.Steps.{FitsOne, KeepsQueue, MakesSteps, slots_of}
 use Rattle.h2_host.specs.Tokens.{IsAt, IsNow, slot_at}
-use Rattle.h2_host.specs.Turns.{is_due, queue_more, slot_queued}
+use Rattle.h2_host.specs.Turns.{is_due}
 
 -- The turn is the same, and so are the bounds, and the queue but for its end.
 pub record KeepsFrame {P : Type 0} (old new : HostState P) : Type 0 where

@@ -1,9 +1,9 @@
 -- What making, taking and freeing a place makes of the places.
-use Rattle.std.specs.Prelude.{◌≡◌, ◌⊎◌, ◌≤◌, ◌<◌, ◌++◌, ◌∷◌, [], ℕ, List, length, slice_set, Option}
+use Rattle.std.specs.Prelude.{◌≡◌, ◌⊎◌, ◌≤◌, ◌<◌, ◌++◌, ◌∷◌, [], ℕ, List, length, slice_set}
 use Rattle.std.specs.Prelude.{Some, None, false, ◌^◌}
 use Rattle.h2_host.specs.declared.table.Slot.{Slot}
 use Rattle.h2_host.specs.declared.token.Token.{Token}
-use Rattle.h2_host.specs.Tokens.{IsAt, slot_at}
+use Rattle.h2_host.specs.Tokens.{slot_at}
 
 -- a place that nobody has had
 abbrev pub new_slot : {P : Type 0} → Slot P

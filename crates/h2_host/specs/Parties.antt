@@ -1,5 +1,5 @@
 -- What a host asks of a party that it refuses.
-use Rattle.std.specs.Prelude.{◌≡◌, ℕ, Bool, true, false, Option, Some, None}
+use Rattle.std.specs.Prelude.{◌≡◌, ℕ, Bool, true}
 use Rattle.h2_host.specs.declared.party.Answer.{Answer}
 use Rattle.h2_host.specs.declared.party.Answer.TheVariants.{Over}
 use Rattle.h2_host.specs.declared.party.Own.{Own}

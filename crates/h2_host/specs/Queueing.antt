@@ -1,5 +1,5 @@
 -- What the functions that change the queue make of a host.
-use Rattle.std.specs.Prelude.{◌≡◌, ◌⊎◌, ◌<◌, ◌≤◌, ◌++◌, ◌∷◌, ℕ, List, [], length, Bool, true, false}
+use Rattle.std.specs.Prelude.{◌≡◌, ◌<◌, ◌++◌, ◌∷◌, ℕ, List, [], length, Bool, true, false}
 use Rattle.std.specs.Prelude.{Option, Some, None, slice_set}
 use Rattle.std.specs.VecDeque.{deque_capacity}
 use Rattle.h2_host.specs.declared.state.HostState.{HostState}

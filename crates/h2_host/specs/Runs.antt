@@ -1,6 +1,6 @@
 -- Steps of a host, one after another, and what holds of all of them.
-use Rattle.std.specs.Prelude.{◌≡◌, ◌≢◌, ◌⊎◌, ◌+◌, ◌≤◌, ℕ, List, [], ◌∷◌, length, Bool, true, Option}
-use Rattle.std.specs.Prelude.{Some, None}
+use Rattle.std.specs.Prelude.{◌≡◌, ◌≢◌, ◌⊎◌, ◌+◌, ℕ, List, [], ◌∷◌, length, Bool, true}
+use Rattle.std.specs.Prelude.{Some}
 use Rattle.std.specs.List.{AllByRecursion}
 use Rattle.h2_host.specs.declared.host.Made.{Made}
 use Rattle.h2_host.specs.declared.host.Reply.{Reply}
@@ -15,7 +15,6 @@ use Rattle.h2_host.specs.declared.token.Token.{Token}
 use Rattle.h2_host.specs.Isolation.{HappensAt, MoveOf, RunsAlone}
 use Rattle.h2_host.specs.Steps.{AnswersStep, slots_of}
 use Rattle.h2_host.specs.Tokens.{IsAt, WasGiven}
-use Rattle.h2_host.specs.Turns.{most_given, most_taken}
 
 -- These steps were made one after another, each answered so, while this holds of the host: before
 -- each of them and after the last.

@@ -1,6 +1,7 @@
 -- Which connection of a host is meant, and that none is meant twice.
-use Rattle.std.specs.Prelude.{◌≡◌, ◌≢◌, ◌⊎◌, ◌<◌, ◌+◌, ◌*◌, ◌^◌, ◌-◌, ℕ, List, Option, Some, None}
+use Rattle.std.specs.Prelude.{◌≡◌, ◌⊎◌, ◌<◌, ◌+◌, ◌*◌, ◌^◌, ◌-◌, ℕ, List, Option, Some, None}
 use Rattle.std.specs.Prelude.{length, slice_get, get_or, is_none, true, false, ◌==◌, ◌&&◌, Bool}
+use Rattle.std.specs.Prelude.{is_some, count_by}
 use Rattle.h2_host.specs.declared.table.Slot.{Slot}
 use Rattle.h2_host.specs.declared.token.Token.{Token}
 
@@ -52,3 +53,7 @@ HasNext {P = P} slots =
 abbrev pub IsPartyOf : {P : Type 0} → List (Slot P) → Token → Option P → Type 0
 IsPartyOf slots token None = IsNow slots token → ⊥
 IsPartyOf slots token (Some party) = IsAt slots token party
+
+-- how many places have a connection
+abbrev pub connections_at : {P : Type 0} → List (Slot P) → ℕ
+connections_at {P = P} slots = count_by (λ (slot : Slot P). is_some slot.party) slots

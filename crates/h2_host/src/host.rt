@@ -1,6 +1,6 @@
 //! A host: many connections, each with its turn. It has no clock and no socket.
 
-ghost use Rattle.std.specs.Prelude.{◌≡◌, ◌≤◌, ◌+◌, ◌-◌, length, IfOk, OnErr};
+ghost use Rattle.std.specs.Prelude.{◌≡◌, ◌==◌, ◌≤◌, ◌^◌, length, min, true, IfOk, OnErr};
 
 use crate::limits::Limits;
 use crate::party::{Answer, Own, Party};
@@ -92,11 +92,11 @@ impl<P: Party> Host<P> {
     ghost use Rattle.std.specs.Prelude.{[]};
     ghost use Rattle.std.specs.Option.{option_copied};
     ghost use Rattle.h2_host.specs.Bounds.{held_in_all};
+    ghost use Rattle.h2_host.specs.Readers.{LendsInTurn, TakesInTurn};
     ghost use Rattle.h2_host.specs.Runs.{IsRun};
     ghost use Rattle.h2_host.specs.Sound.{IsSoundHost};
     ghost use Rattle.h2_host.specs.Steps.{AnswersStep, GivesTurn};
-    ghost use Rattle.h2_host.specs.Tokens.{IsPartyOf};
-    ghost use Rattle.h2_host.specs.Turns.{most_given};
+    ghost use Rattle.h2_host.specs.Tokens.{IsPartyOf, connections_at};
 
     /// A host without connections.
     ///
@@ -124,17 +124,24 @@ impl<P: Party> Host<P> {
     }
 
     /// How many connections there are.
-    pub fn len(&self) -> usize {
+    pub fn len(&self) -> usize
+        ensures { result ≡ connections_at self.now.table.slots.items }
+    {
         self.state.table.count
     }
 
     /// Whether there are none.
-    pub fn is_empty(&self) -> bool {
+    pub fn is_empty(&self) -> bool
+        ensures { result ≡ (connections_at self.now.table.slots.items == 0) }
+    {
         self.state.table.count == 0
     }
 
     /// Whether no place is free: no connection is to be accepted then.
-    pub fn is_full(&self) -> bool {
+    pub fn is_full(&self) -> bool
+        ensures { result ≡ true
+            → min self.now.limits.connections (2 ^ 20) ≤ length self.now.table.slots.items }
+    {
         self.state.table.is_full(self.state.limits.connections)
     }
 
@@ -147,12 +154,16 @@ impl<P: Party> Host<P> {
     }
 
     /// The time, in milliseconds: the latest that has passed.
-    pub fn now(&self) -> u64 {
+    pub fn now(&self) -> u64
+        ensures { result ≡ self.now.time }
+    {
         self.state.time
     }
 
     /// How many places are in the queue of turns.
-    pub fn waiting(&self) -> usize {
+    pub fn waiting(&self) -> usize
+        ensures { result ≡ length self.now.queue.items }
+    {
         self.state.queue.len()
     }
 
@@ -201,7 +212,11 @@ impl<P: Party> Host<P> {
     }
 
     /// Whether the connection whose turn it is takes octets, and none have come in this turn.
-    pub fn wants_input(&self, token: Token) -> bool {
+    // rule: hosts (own) Who has the turn takes octets once, if it takes any
+    // contract: hosts (own) Who has the turn takes octets once, if it takes any
+    pub fn wants_input(&self, token: Token) -> bool
+        ensures { TakesInTurn P.takes self.now token result }
+    {
         let turn = &self.state.turn;
         if !turn.is_of(token) || turn.came {
             return false;
@@ -212,11 +227,13 @@ impl<P: Party> Host<P> {
         }
     }
 
-    /// The first two parts of the output that waits of the connection whose turn it is
-    /// ([`Party::output`]): in all at most so many octets as are left of [`MOST_GIVEN`]. Where any
-    /// waits and any is left, the first has octets.
+    // rule: hosts (own) Who has the turn gives its own output, and nobody else any
+    // contract: hosts (own) Who has the turn gives its own output, and nobody else any
+    /// The first two parts of the output that waits of the connection whose turn it is: in all at
+    /// most so many octets as are left of [`MOST_GIVEN`]. Where any waits and any is left, the first
+    /// has octets. Nothing of any other connection.
     pub fn output(&self, token: Token) -> (&[u8], &[u8])
-        ensures { length result.0.now + length result.1.now ≤ most_given - self.now.turn.gave }
+        ensures { LendsInTurn P.output_of self.now token result.0.now result.1.now }
     {
         if !self.state.turn.is_of(token) {
             return (&[], &[]);

@@ -4,6 +4,7 @@ ghost use Rattle.std.specs.Prelude.{◌≡◌, ℕ, List, Bool, length};
 ghost use Rattle.h2_host.specs.declared.party.Own.{Own as OwnStep};
 ghost use Rattle.h2_host.specs.declared.party.Answer.{Answer as OwnAnswer};
 ghost use Rattle.h2_host.specs.Parties.{IsGivenUp, IsRefusal};
+ghost use Rattle.h2_host.specs.Readers.{LendsFirst};
 
 /// A step of one connection.
 #[derive(Clone, Copy, Debug, PartialEq, Eq)]
@@ -76,6 +77,12 @@ pub trait Party: Drop {
     /// Whether there is something to do in a turn.
     ghost ready_of: { Self → Bool };
 
+    /// Whether it takes octets may be answered so.
+    ghost takes: { Self → Bool → Type 0 };
+
+    /// The octets of its output that wait, in order.
+    ghost output_of: { Self → List ℕ };
+
     /// Makes a step, with the octets that came, if that is the step. The room is for what the step
     /// puts together, and has no meaning before and after. A party that is refused holds nothing
     /// more, and is ready and over.
@@ -94,9 +101,11 @@ pub trait Party: Drop {
         ensures { result ≡ ready_of self.now };
 
     /// Whether it takes octets now.
-    fn wants_input(&self) -> bool;
+    fn wants_input(&self) -> bool
+        ensures { takes self.now result };
 
-    /// The first two parts of its output that wait, of which the first comes first; where any
+    /// The first two parts of its output that waits, the first of which comes first; where any
     /// waits the first has octets.
-    fn output(&self) -> (&[u8], &[u8]);
+    fn output(&self) -> (&[u8], &[u8])
+        ensures { LendsFirst (output_of self.now) result.0.now result.1.now };
 }

@@ -3,7 +3,7 @@
 ghost use Rattle.std.specs.Prelude.{◌≡◌, ◌↔◌, ◌≤◌, true, [], IfOk, IfErr, OnErr, MatchOption};
 ghost use Rattle.std.specs.Prelude.{length, min, ◌^◌};
 ghost use Rattle.h2_host.specs.Openings.{MakesPlace, TakesPlace, EmptiesPlace};
-ghost use Rattle.h2_host.specs.Tokens.{AreFree, HasNext, IsAt, IsNow};
+ghost use Rattle.h2_host.specs.Tokens.{AreFree, HasNext, IsAt, IsNow, connections_at};
 
 use crate::token::{MOST_PLACES, Token};
 use std::alloc::{AllocError, Global};
@@ -28,6 +28,8 @@ pub(crate) struct Table<P> {
     pub(crate) count: usize,
     ghost free_ones: { AreFree slots.items free.items },
     ghost next_ones: { HasNext slots.items },
+    ghost counted: { count ≡ connections_at slots.items },
+    ghost few: { length slots.items ≤ 2 ^ 20 },
 }
 
 impl<P: Drop> Table<P> {

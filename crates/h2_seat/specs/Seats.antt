@@ -1,11 +1,13 @@
 -- What a step makes of a connection of a host.
 use Rattle.std.specs.Prelude.{◌≡◌, ◌⊎◌, ◌+◌, ◌*◌, ◌-◌, ℕ, Bool, true, false, Option, Some, None}
-use Rattle.std.specs.Prelude.{if◌then◌else◌, max, nat_le}
+use Rattle.std.specs.Prelude.{if◌then◌else◌, max, nat_le, nat_lt, ◌==◌, ◌&&◌, ◌||◌, not, is_some}
+use Rattle.std.specs.Prelude.{length}
 use Rattle.h2_frame.specs.declared.code.Code.TheVariants.{EnhanceYourCalm}
 use Rattle.h2_spec_log.specs.Acts.{Values}
 use Rattle.h2_spec_log.specs.Counted.{counted, empty_among, resets_among}
 use Rattle.h2_spec_log.specs.Counted.{pings_among, settings_among}
-use Rattle.h2_spec_log.specs.Log.{Log}
+use Rattle.h2_spec_log.specs.Limits.{full_output}
+use Rattle.h2_spec_log.specs.Log.{Log, waiting}
 use Rattle.h2_conn.specs.declared.conn.Conn.{Conn}
 use Rattle.h2_conn.specs.Conn.{ConnRepresents}
 use Rattle.h2_host.specs.declared.party.Answer.{Answer}
@@ -130,3 +132,19 @@ pub record SeatSteps {H W : Type 0} (rel : Relations H W) (old : Seat H W) (own 
   pub answers : answer ≡ answer_in new.phase
   pub over : is_phase_over old.phase ≡ true → new.phase ≡ old.phase
   pub acts : is_phase_over old.phase ≡ false → Acts rel old own new
+
+-- Whether the connection has failed, or is over.
+abbrev pub IsFailedOrOver : {H W : Type 0} → Seat H W → Bool → Type 0
+IsFailedOrOver seat answer =
+    (values : Values) (log : Log) → ConnRepresents values seat.handled.server.end.conn log
+    → answer ≡ (is_phase_over seat.phase || is_some log.failed)
+
+-- Whether it takes octets: its peer has not ended, none are kept that came before, it is neither
+-- over nor has it failed, and less than 65,536 octets of its output wait.
+-- rule: hosts (own) A connection takes octets while it is up and little of its output waits
+abbrev pub MayTake : {H W : Type 0} → Seat H W → Bool → Type 0
+MayTake seat answer =
+    (values : Values) (log : Log) → ConnRepresents values seat.handled.server.end.conn log
+    → answer ≡ (not seat.ended && (length seat.kept.items == 0
+    && (not (is_phase_over seat.phase || is_some log.failed)
+    && nat_lt (waiting log) full_output)))

@@ -6,7 +6,8 @@ use h2_host::{Answer, Own, Party};
 
 impl<W: Drop, H: Handler<Work = W>> Party for Seat<H, W> {
     ghost use Rattle.h2_handlers.specs.Exchanges.{relations};
-    ghost use Rattle.h2_seat.specs.Seats.{SeatSteps};
+    ghost use Rattle.h2_conn.specs.Conn.{octets_queued};
+    ghost use Rattle.h2_seat.specs.Seats.{MayTake, SeatSteps};
 
     ghost steps = { λ old own octets answer new. SeatSteps (relations H.heads H.bodies H.trails
         H.gives H.ends) old own answer new };
@@ -14,6 +15,10 @@ impl<W: Drop, H: Handler<Work = W>> Party for Seat<H, W> {
     ghost held_of = { λ seat. seat.holds };
 
     ghost ready_of = { λ seat. seat.ready };
+
+    ghost takes = { λ seat wants. MayTake seat wants };
+
+    ghost output_of = { λ seat. octets_queued seat.handled.server.end.conn };
 
     fn step(&mut self, own: Own, octets: &[u8], room: &mut [u8]) -> Answer {
         self.act(own, octets, room);
@@ -34,7 +39,8 @@ impl<W: Drop, H: Handler<Work = W>> Party for Seat<H, W> {
     }
 
     fn output(&self) -> (&[u8], &[u8]) {
-        let first = self.handled.waiting_from(0);
-        (first, self.handled.waiting_from(first.len()))
+        let conn = self.handled.conn();
+        let first = conn.waiting_from(0);
+        (first, conn.waiting_from(first.len()))
     }
 }

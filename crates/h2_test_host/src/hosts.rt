@@ -84,6 +84,58 @@ fn a_turn_is_bounded(rt: HostRuntime) {
     assert!(rt; bounded_turn(rt.alloc()) == Some(true));
 }
 
+/// Opens a connection with output that waits.
+fn open_with(alloc: Global, host: &mut Host<Till>, octets: &[u8]) -> Option<Token> {
+    let party = Till::new(1, Vec::from_slice(alloc, octets).ok()?);
+    match host.step(Step::Opened { party }, &[]) {
+        Reply::Opened(token) => Some(token),
+        _ => None,
+    }
+}
+
+fn own_output(alloc: Global) -> Option<bool> {
+    let mut host = Host::new(alloc, LIMITS).ok()?;
+    let first = open_with(alloc, &mut host, b"one")?;
+    let second = open_with(alloc, &mut host, b"two")?;
+    let turn = host.next_turn() == Some(first);
+    let (own, more) = host.output(first);
+    let is_own = own == b"one".as_slice() && more == b"one".as_slice();
+    let (none, nothing) = host.output(second);
+    let no_other = none.is_empty() && nothing.is_empty();
+    let next = host.next_turn() == Some(second);
+    let (own, _) = host.output(second);
+    Some(
+        turn && is_own
+            && no_other
+            && next
+            && own == b"two".as_slice()
+            && host.output(first).0.is_empty(),
+    )
+}
+
+// rule (best): hosts (own) Who has the turn gives its own output, and nobody else any
+#[test]
+fn output_is_that_of_the_turn(rt: HostRuntime) {
+    assert!(rt; own_output(rt.alloc()) == Some(true));
+}
+
+fn takes_once(alloc: Global) -> Option<bool> {
+    let mut host = Host::new(alloc, LIMITS).ok()?;
+    let first = open(alloc, &mut host, 1)?;
+    let second = open(alloc, &mut host, 1)?;
+    let before = host.wants_input(first);
+    let _ = host.next_turn();
+    let now = host.wants_input(first) && !host.wants_input(second);
+    let came = goes(&mut host, first, Own::Came, b"1") && !host.wants_input(first);
+    Some(!before && now && came)
+}
+
+// rule (best): hosts (own) Who has the turn takes octets once, if it takes any
+#[test]
+fn octets_are_taken_once_in_a_turn(rt: HostRuntime) {
+    assert!(rt; takes_once(rt.alloc()) == Some(true));
+}
+
 fn alternates(alloc: Global) -> Option<bool> {
     let mut host = Host::new(alloc, LIMITS).ok()?;
     let first = open(alloc, &mut host, 1)?;

@@ -32,13 +32,17 @@ impl Till {
 }
 
 impl Party for Till {
-    ghost use Rattle.std.specs.Prelude.{⊤, ◌||◌, nat_lt};
+    ghost use Rattle.std.specs.Prelude.{⊤, ◌≡◌, ◌||◌, ◌++◌, nat_lt, not};
 
     ghost steps = { λ _ _ _ _ _. ⊤ };
 
     ghost held_of = { λ till. till.kept };
 
     ghost ready_of = { λ till. till.over || nat_lt 0 till.kept };
+
+    ghost takes = { λ till wants. wants ≡ not till.over };
+
+    ghost output_of = { λ till. till.put.items ++ till.put.items };
 
     fn step(&mut self, own: Own, octets: &[u8], _room: &mut [u8]) -> Answer {
         match own {

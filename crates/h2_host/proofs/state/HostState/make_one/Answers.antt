@@ -1,9 +1,11 @@
 use Rattle.std.proofs.Common.{arith, ap, is_none, length, refl, rules, slice_set, subst, sym, Some}
 use Rattle.std.proofs.Common.{◌≡◌}
 use Rattle.std.proofs.Common.{◌∙◌, ◌<◌, ◌^◌}
+use Rattle.std.proofs.lemmas.List.{length-set}
 use Rattle.std.specs.VecDeque.{deque_capacity}
 use Rattle.h2_host.specs.declared.table.Slot.{Slot}
 use Rattle.h2_host.specs.Bounds.{held_by, slot_held}
+use Rattle.h2_host.proofs.Counted.{kept_counts}
 use Rattle.h2_host.proofs.Places.{free_kept, generation_read, next_kept, slot_read}
 use Rattle.h2_host.proofs.Queues.{space_for}
 use Rattle.h2_host.proofs.Refusals.{makes_one}
@@ -38,6 +40,9 @@ invariant_of-self-2 g c =
           c.args.self.now.table.free_ones at generation party;
       next_ones = next_kept slots c.args.token.place slot _ c.args.self.now.table.next_ones at
           generation party;
+      counted = c.args.self.now.table.counted
+          ∙ sym (kept_counts slots c.args.token.place slot _ at party);
+      few = rw (length-set slots c.args.token.place _) c.args.self.now.table.few;
     }
 
 pub returns-clause-made : goal.returns-clause-made

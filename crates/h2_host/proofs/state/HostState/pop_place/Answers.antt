@@ -1,6 +1,8 @@
-use Rattle.std.proofs.Common.{arith, false, true, ◌≡◌, inl, refl, subst, sym}
+use Rattle.std.proofs.Common.{◌∙◌, arith, false, true, ◌≡◌, inl, refl, subst, sym}
+use Rattle.std.proofs.lemmas.List.{length-set}
 use Rattle.std.proofs.lemmas.Option.{slice_get_within}
 use Rattle.h2_host.specs.Turns.{WaitsIn}
+use Rattle.h2_host.proofs.Counted.{kept_counts}
 use Rattle.h2_host.proofs.Places.{free_kept, next_kept, slot_read}
 use Rattle.h2_host.proofs.state.HostState.pop_place.Goals as goal
 
@@ -14,6 +16,9 @@ invariant_of-self g c =
           c.args.self.now.table.free_ones at refl refl;
       next_ones = next_kept slots c.in_ok-place.place slot _ c.args.self.now.table.next_ones at
           refl refl;
+      counted = c.args.self.now.table.counted
+          ∙ sym (kept_counts slots c.in_ok-place.place slot _ at refl);
+      few = rw (length-set slots c.in_ok-place.place _) c.args.self.now.table.few;
     }
 
 pub returns-in-Some : goal.returns-in-Some

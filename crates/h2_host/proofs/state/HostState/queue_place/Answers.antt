@@ -1,7 +1,9 @@
-use Rattle.std.proofs.Common.{arith, false, true, ◌≡◌, ◌++◌, ◌∙◌, ap, is_none, refl, slice_set}
+use Rattle.std.proofs.Common.{sym, arith, false, true, ◌≡◌, ◌++◌, ◌∙◌, ap, is_none, refl, slice_set}
+use Rattle.std.proofs.lemmas.List.{length-set}
 use Rattle.std.proofs.lemmas.Option.{slice_get_within}
 use Rattle.h2_host.specs.declared.table.Slot.{Slot}
 use Rattle.h2_host.specs.Turns.{queue_more, slot_queued}
+use Rattle.h2_host.proofs.Counted.{kept_counts}
 use Rattle.h2_host.proofs.Places.{free_kept, next_kept, one_slot, slot_read}
 use Rattle.h2_host.proofs.state.HostState.queue_place.Goals as goal
 
@@ -18,6 +20,9 @@ invariant_of-self g c =
           c.args.self.now.table.free_ones at generation party;
       next_ones = next_kept slots c.args.place slot _ c.args.self.now.table.next_ones at
           generation party;
+      counted = c.args.self.now.table.counted
+          ∙ sym (kept_counts slots c.args.place slot _ at party);
+      few = rw (length-set slots c.args.place _) c.args.self.now.table.few;
     }
 
 pub returns-in-Some : goal.returns-in-Some

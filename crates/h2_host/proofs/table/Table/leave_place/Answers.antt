@@ -1,6 +1,8 @@
 use Rattle.std.proofs.Common.{is_ok, rules, sym, ap, subst, arith}
-use Rattle.std.proofs.Common.{slice_set, Some, None, is_none, ◌≡◌}
+use Rattle.std.proofs.Common.{slice_set, Some, None, is_none, is_some, ◌≡◌, ◌∙◌}
+use Rattle.std.proofs.lemmas.List.{length-set}
 use Rattle.h2_host.specs.Openings.{EmptiesPlace}
+use Rattle.h2_host.proofs.Counted.{left_counts, one_fewer}
 use Rattle.h2_host.proofs.FreePlaces.{free_others, free_pushed, next_left}
 use Rattle.h2_host.proofs.Places.{generation_read, slot_read}
 use Rattle.h2_host.proofs.table.Table.leave_place.Goals as goal
@@ -18,6 +20,11 @@ invariant_of-self-else-slot-lt4294967295 g c =
           c.in_ok-party.party c.args.self.now.free_ones at taken;
       next_ones = next_left slots c.args.token.place slot _ c.args.self.now.next_ones at
           (search rules);
+      counted = one_fewer c.args.self.now.count _ _
+          (c.args.self.now.counted
+          ∙ left_counts slots c.args.token.place slot _ at (ap is_some taken) (search rules))
+          c.saturating_sub-self.ensures;
+      few = rw (length-set slots c.args.token.place _) c.args.self.now.few;
     }
 
 pub invariant_of-self-then-slot-lt4294967295 : goal.invariant_of-self-then-slot-lt4294967295
@@ -33,6 +40,11 @@ invariant_of-self-then-slot-lt4294967295 g c =
           c.if-slot-lt4294967295.true c.push.ensures.items;
       next_ones = next_left slots c.args.token.place slot _ c.args.self.now.next_ones at
           (search rules);
+      counted = one_fewer c.args.self.now.count _ _
+          (c.args.self.now.counted
+          ∙ left_counts slots c.args.token.place slot _ at (ap is_some taken) (search rules))
+          c.saturating_sub-self.ensures;
+      few = rw (length-set slots c.args.token.place _) c.args.self.now.few;
     }
 
 pub returns : goal.returns

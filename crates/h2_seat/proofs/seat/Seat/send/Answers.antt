@@ -12,7 +12,7 @@ returns-in-Err-clause-handles g c = seat_so_then c.stop.ensures.handles c.send_s
 pub returns-then-is_err-clause-handles : goal.returns-then-is_err-clause-handles
 returns-then-is_err-clause-handles g c =
     seat_so_then c.refuse.ensures.handles
-    (then_handles c.send_some.ensures.handles c.ready.ensures)
+    (then_handles c.send_some.ensures.handles c.ready.ensures.handles)
 
 pub returns-else-is_err-clause-handles : goal.returns-else-is_err-clause-handles
-returns-else-is_err-clause-handles g c = seat_so (then_handles c.send_some.ensures.handles c.ready.ensures)
+returns-else-is_err-clause-handles g c = seat_so (then_handles c.send_some.ensures.handles c.ready.ensures.handles)
