@@ -2,7 +2,7 @@
 use Rattle.h2_joined.proofs.Names
 use Names.{suc, ◌-◌, ◌<◌, ◌≤◌, [], ◌∷◌, ◌++◌, length, take, drop, map, refl, ap, ap₂, ◌∙◌, arith}
 use Names.{AllByRecursion, slice_get, drop-append-le, Field, Handed, InterimHanded, HeadHanded}
-use Names.{BodyHanded, TrailersHanded, Span, FieldPlace, EventPlace, part_of, stored_fields, IsSpan}
+use Names.{BodyHanded, TrailersHanded, Span, FieldPlace, EventPlace, items_in, stored_fields, IsSpan}
 use Names.{IsFieldPlace, stored_field, event_kept, IsEventPlace, ◌≡◌, ℕ, List, Some}
 use Rattle.std.proofs.Common.{zero, get_or, length-drop}
 use Rattle.std.specs.Option.{option_map}
@@ -18,7 +18,7 @@ made_at f items i other within =
 
 -- The items of a span stay.
 pub part_more : {A : Type 0} (items more : List A) (span : Span) → IsSpan (length items) span
-    → part_of (items ++ more) span ≡ part_of items span
+    → items_in (items ++ more) span ≡ items_in items span
 part_more items more span is =
     ap (take (span.end - span.start))
     (drop-append-le span.start items more (omega (arith, is.ordered, is.within))) ∙ take-append-le _
@@ -60,10 +60,10 @@ module _ (octets more : List ℕ) (fields others : List FieldPlace) where
   -- The fields of a span stay,
   listed : (list : Span) → AllByRecursion (IsFieldPlace (length octets)) fields
       → IsSpan (length fields) list
-      → stored_fields (octets ++ more) (part_of (fields ++ others) list) ≡ stored_fields octets
-      (part_of fields list)
+      → stored_fields (octets ++ more) (items_in (fields ++ others) list) ≡ stored_fields octets
+      (items_in fields list)
   listed list all is = ap (λ (l : List FieldPlace). stored_fields (octets ++ more) l)
-      (part_more fields others list is) ∙ fields_more octets more (part_of fields list)
+      (part_more fields others list is) ∙ fields_more octets more (items_in fields list)
       (all_taken (IsFieldPlace (length octets)) (list.end - list.start) (drop list.start fields)
       (all_dropped (IsFieldPlace (length octets)) list.start fields all))
 

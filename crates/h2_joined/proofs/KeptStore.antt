@@ -3,7 +3,7 @@ use Rattle.h2_joined.proofs.Names
 use Names.{◌+◌, ◌-◌, ◌<◌, ◌≤◌, true, [], ◌∷◌, ◌++◌, length, take, drop, map, refl, sym, ap, ap₂}
 use Names.{◌∙◌, if◌then◌else◌, arith, subst, append_assoc, append-nil, drop-append_seam, map-append}
 use Names.{take_all, both_ways, AllByRecursion, Field, list_size, Handed, BodyHanded, Span}
-use Names.{FieldPlace, EventPlace, Store, part_of, stored_fields, events_kept, IsSpan, IsFieldPlace}
+use Names.{FieldPlace, EventPlace, Store, items_in, stored_fields, events_kept, IsSpan, IsFieldPlace}
 use Names.{AreStored, HasRoomForEvent, KeepsMore, KeepsHanded, stored_field, event_kept}
 use Names.{IsEventPlace, Fits, ◌≡◌, ℕ, Bool, false, List, reverse}
 use Rattle.h2_joined.specs.Stored.{KeepsItems, StoresOctets, KeepsField, AreFieldsKept, KeepsList}
@@ -44,7 +44,7 @@ is_pushed false now before more is done = absurd (both_ways false refl done)
 
 -- Octets that are kept after others are those of their span.
 part_kept : {A : Type 0} (before more : List A) (span : Span) → span.start ≡ length before
-    → span.end ≡ length (before ++ more) → part_of (before ++ more) span ≡ more
+    → span.end ≡ length (before ++ more) → items_in (before ++ more) span ≡ more
 part_kept before more span starts ends =
     let count : span.end - span.start ≡ length more =
     omega (arith, starts, ends, length-append before more) in
@@ -54,7 +54,7 @@ part_kept before more span starts ends =
 
 part_kept_first : {A : Type 0} (before more others : List A) (span : Span)
     → span.start ≡ length before → span.end ≡ length (before ++ more)
-    → part_of (before ++ (more ++ others)) span ≡ more
+    → items_in (before ++ (more ++ others)) span ≡ more
 part_kept_first before more others span starts ends =
     let count : span.end - span.start ≡ length more = omega
     (arith, starts, ends, length-append before more) in
@@ -109,7 +109,7 @@ field_kept old one two new name value names values sensitive first second same_e
               value = v;
               sensitive = sensitive;
             }) (part_kept_first old.octets.items names values name name_start
-                (name_end ∙ ap length names_are)) (ap (λ (o : List ℕ). part_of o value)
+                (name_end ∙ ap length names_are)) (ap (λ (o : List ℕ). items_in o value)
                 (sym (append_assoc old.octets.items names values)) ∙ part_kept
                 (old.octets.items ++ names) values value (value_start ∙ ap length names_are)
                 (value_end ∙ ap length (values_are ∙ ap (λ (o : List ℕ). o ++ values) names_are))));
@@ -277,7 +277,7 @@ list_goes_on old now new list count field left taken sofar keeps =
 
 -- A list that is kept is that of its span.
 record ListPlaced (list : List Field) (span : Span) (new : Store) : Type 0 where
-  same : stored_fields new.octets.items (part_of new.fields.items span) ≡ list
+  same : stored_fields new.octets.items (items_in new.fields.items span) ≡ list
   within : IsSpan (length new.fields.items) span
 
 module _ (old new : Store) (list : List Field) (span : Span) where
@@ -285,7 +285,7 @@ module _ (old new : Store) (list : List Field) (span : Span) where
   list_placed keeps kept =
       let count = ap length kept.fields_are ∙ length-append old.fields.items kept.places in
       record {
-        same = ap (λ (f : List FieldPlace). stored_fields new.octets.items (part_of f span))
+        same = ap (λ (f : List FieldPlace). stored_fields new.octets.items (items_in f span))
             kept.fields_are ∙ ap (λ (f : List FieldPlace). stored_fields new.octets.items f)
             (part_kept old.fields.items kept.places span keeps.start
             (keeps.end ∙ ap length kept.fields_are)) ∙ kept.same;
@@ -298,7 +298,7 @@ module _ (old new : Store) (list : List Field) (span : Span) where
   -- So an event with a list has its place,
   pub list_event : (handed : Handed) (place : EventPlace) → KeepsList old list span new
       → (Fits handed → list_size list ≤ most_event_octets)
-      → (stored_fields new.octets.items (part_of new.fields.items span) ≡ list → event_kept
+      → (stored_fields new.octets.items (items_in new.fields.items span) ≡ list → event_kept
       new.octets.items new.fields.items place ≡ handed)
       → (IsSpan (length new.fields.items) span → IsEventPlace (length new.octets.items)
       (length new.fields.items) place)
@@ -336,7 +336,7 @@ body_event old new octets span id end keeps =
             fields = [];
             octets_are = are;
             fields_are = ap (λ v. v.items) keeps.fields ∙ sym (append-nil old.fields.items);
-            same = ap (λ (o : List ℕ). BodyHanded id o end) (ap (λ (o : List ℕ). part_of o span) are
+            same = ap (λ (o : List ℕ). BodyHanded id o end) (ap (λ (o : List ℕ). items_in o span) are
                 ∙ part_kept _ _ span starts (ends ∙ ap length are));
             fields_within = tt;
             within = record {

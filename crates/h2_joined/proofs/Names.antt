@@ -57,7 +57,7 @@ pub use Rattle.h2_joined.specs.Kept.{KeepsEnd, KeepsHanded, kept_of, made, Makes
 pub use Rattle.h2_joined.specs.Kept.{said_shown, Shown}
 pub use Rattle.h2_joined.specs.Runs.{MakesAll}
 pub use Rattle.h2_joined.specs.Stored.{AreStored, EventPlace, events_kept, HasRoomForEvent}
-pub use Rattle.h2_joined.specs.Stored.{IsFieldPlace, IsSpan, KeepsMore, part_of, stored_fields}
+pub use Rattle.h2_joined.specs.Stored.{IsFieldPlace, IsSpan, KeepsMore, items_in, stored_fields}
 pub use Rattle.h2_joined.specs.declared.act.Acted.{Acted}
 pub use Rattle.h2_joined.specs.declared.act.Side.{Side}
 pub use Rattle.h2_joined.specs.declared.act.Side.TheVariants.{Client, Server}

@@ -17,14 +17,14 @@ use Rattle.h2_joined.specs.declared.store.Store.{Store}
 use Rattle.h2_joined.specs.declared.events.KeptFields.{KeptFields}
 
 -- the items of a span
-abbrev pub part_of : {A : Type 0} → List A → Span → List A
-part_of items span = take (span.end - span.start) (drop span.start items)
+abbrev pub items_in : {A : Type 0} → List A → Span → List A
+items_in items span = take (span.end - span.start) (drop span.start items)
 
 -- the field at a place
 unfoldable pub stored_field : List ℕ → FieldPlace → Field
 stored_field octets place = record {
-  name = part_of octets place.name;
-  value = part_of octets place.value;
+  name = items_in octets place.name;
+  value = items_in octets place.value;
   sensitive = place.sensitive;
 }
 
@@ -40,8 +40,8 @@ EventPlace = EndEvent Span Span
 -- rule: joined (own) Accepted messages, what was handed out, octets on a pipe are kept
 unfoldable pub event_kept : List ℕ → List FieldPlace → EventPlace → Handed
 event_kept octets fields place =
-    end_event_value (λ list. stored_fields octets (part_of fields list))
-    (λ part. part_of octets part) place
+    end_event_value (λ list. stored_fields octets (items_in fields list))
+    (λ part. items_in octets part) place
 
 -- the events that are kept, the first one first
 -- rule: joined (own) Accepted messages, what was handed out, octets on a pipe are kept

@@ -2,7 +2,7 @@
 
 ghost use Rattle.std.specs.Prelude.{◌≡◌, ◌==◌, ◌≤◌, length, slice_get, Some, MatchOption};
 ghost use Rattle.h2_joined.specs.Stored.{event_kept, joint_event_value, events_kept, fields_kept};
-ghost use Rattle.h2_joined.specs.Stored.{part_of};
+ghost use Rattle.h2_joined.specs.Stored.{items_in};
 
 use crate::store::{FieldPlace, Span, Store, fields_at, octets_at};
 use h2_ends::{EndEvent, FieldRef};
@@ -148,7 +148,7 @@ fn lend(store: &Store, place: EndEvent<Span, Span>) -> EndEvent<KeptFields<'_>, 
 /// The fields of a span.
 fn lend_fields(store: &Store, span: Span) -> KeptFields<'_>
     ensures octets { result.octets.now ≡ store.now.octets.items }
-    ensures places { result.places.now ≡ part_of store.now.fields.items span }
+    ensures places { result.places.now ≡ items_in store.now.fields.items span }
 {
     KeptFields {
         octets: &store.octets,

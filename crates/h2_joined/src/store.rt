@@ -4,7 +4,7 @@ ghost use Rattle.std.specs.Prelude.{◌≡◌, true, length, []};
 ghost use Rattle.h2_ends.specs.Loans.{event_handed};
 ghost use Rattle.h2_joined.specs.Stored.{AreStored, Fits, HasRoomForEvent, KeepsItems, KeepsMore};
 ghost use Rattle.h2_joined.specs.Stored.{KeepsField, KeepsList, StoresOctets, PlacesEvent};
-ghost use Rattle.h2_joined.specs.Stored.{events_kept, part_of};
+ghost use Rattle.h2_joined.specs.Stored.{events_kept, items_in};
 
 use h2_ends::{EndEvent, FieldList, FieldRef};
 use std::alloc::Global;
@@ -163,7 +163,7 @@ impl Store {
 
 /// The octets of a span.
 pub(crate) fn octets_at(octets: &[u8], span: Span) -> &[u8]
-    ensures { result.now ≡ part_of octets.now span }
+    ensures { result.now ≡ items_in octets.now span }
 {
     let end = span.end.min(octets.len());
     let start = span.start.min(end);
@@ -172,7 +172,7 @@ pub(crate) fn octets_at(octets: &[u8], span: Span) -> &[u8]
 
 /// The fields of a span.
 pub(crate) fn fields_at(fields: &[FieldPlace], span: Span) -> &[FieldPlace]
-    ensures { result.now ≡ part_of fields.now span }
+    ensures { result.now ≡ items_in fields.now span }
 {
     let end = span.end.min(fields.len());
     let start = span.start.min(end);

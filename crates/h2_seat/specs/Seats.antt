@@ -142,8 +142,8 @@ IsFailedOrOver seat answer =
 -- Whether it takes octets: its peer has not ended, none are kept that came before, it is neither
 -- over nor has it failed, and less than 65,536 octets of its output wait.
 -- rule: hosts (own) A connection takes octets while it is up and little of its output waits
-abbrev pub MayTake : {H W : Type 0} → Seat H W → Bool → Type 0
-MayTake seat answer =
+abbrev pub TakesNow : {H W : Type 0} → Seat H W → Bool → Type 0
+TakesNow seat answer =
     (values : Values) (log : Log) → ConnRepresents values seat.handled.server.end.conn log
     → answer ≡ (not seat.ended && (length seat.kept.items == 0
     && (not (is_phase_over seat.phase || is_some log.failed)

@@ -7,7 +7,7 @@ use h2_host::{Answer, Own, Party};
 impl<W: Drop, H: Handler<Work = W>> Party for Seat<H, W> {
     ghost use Rattle.h2_handlers.specs.Exchanges.{relations};
     ghost use Rattle.h2_conn.specs.Conn.{octets_queued};
-    ghost use Rattle.h2_seat.specs.Seats.{MayTake, SeatSteps};
+    ghost use Rattle.h2_seat.specs.Seats.{TakesNow, SeatSteps};
 
     ghost steps = { λ old own octets answer new. SeatSteps (relations H.heads H.bodies H.trails
         H.gives H.ends) old own answer new };
@@ -16,7 +16,7 @@ impl<W: Drop, H: Handler<Work = W>> Party for Seat<H, W> {
 
     ghost ready_of = { λ seat. seat.ready };
 
-    ghost takes = { λ seat wants. MayTake seat wants };
+    ghost takes = { λ seat wants. TakesNow seat wants };
 
     ghost output_of = { λ seat. octets_queued seat.handled.server.end.conn };
 

@@ -7,7 +7,7 @@ ghost use Rattle.h2_ends.specs.Represents.{EndRepresents, new_end_log};
 ghost use Rattle.h2_handlers.specs.Exchanges.{handling_of, relations};
 ghost use Rattle.h2_seat.specs.declared.seat.Phase.TheVariants as phases;
 ghost use Rattle.h2_seat.specs.declared.why.Why.TheVariants as whys;
-ghost use Rattle.h2_seat.specs.Seats.{SeatHandles, is_phase_over, why_of, IsFailedOrOver, MayTake};
+ghost use Rattle.h2_seat.specs.Seats.{SeatHandles, is_phase_over, why_of, IsFailedOrOver, TakesNow};
 ghost use Rattle.h2_seat.specs.Seats.{phase_left, why_stopped};
 
 use crate::limits::SeatLimits;
@@ -134,7 +134,7 @@ impl<W: Drop, H: Handler<Work = W>> Seat<H, W> {
     // contract: hosts (own) A connection takes octets while it is up and little of its output waits
     /// Whether it takes octets now.
     pub(crate) fn may_take(&self) -> bool
-        ensures { MayTake self.now result }
+        ensures { TakesNow self.now result }
     {
         let may = !self.ended && self.kept.is_empty() && !self.is_failed();
         may && !self.handled.is_full()
