@@ -66,8 +66,16 @@ is_strongly version tag = not version.weak && bytes_eq tag version.opaque
 abbrev pub is_weakly : Validators → (tag : List ℕ) → Bool
 is_weakly version tag = bytes_eq (opaque_part tag) version.opaque
 
--- a version is meant by a list of tags, or by `*`, as each comparison has it (13.1.1, 13.1.2)
+-- `*` alone, which means any version (13.1.1, 13.1.2)
+abbrev pub is_any : (value : List ℕ) → Bool
+is_any value = bytes_eq (trimmed value) (codes "*")
+
+-- an element of a list is a tag that means a version
+abbrev pub is_in_list : (List ℕ → Bool) → (value : List ℕ) → Bool
+is_in_list is_meant value =
+    list_any (λ element. is_meant (trimmed element)) (slice_split (is_octet (byte ",")) value)
+
+-- a version is meant by `*` alone, or by a list of tags, as each comparison has it (13.1.1, 13.1.2)
+-- rule: HTTP 8.8.3 A tag means a version by the strong or the weak comparison
 abbrev pub is_listed : (List ℕ → Bool) → (value : List ℕ) → Bool
-is_listed is_meant value =
-    list_any (λ element. bytes_eq (trimmed element) (codes "*") || is_meant (trimmed element))
-    (slice_split (is_octet (byte ",")) value)
+is_listed is_meant value = is_any value || is_in_list is_meant value

@@ -3,7 +3,7 @@
 ghost use Rattle.std.specs.Prelude.{◌≡◌, ◌||◌, IfOk, codes, string_bytes};
 ghost use Rattle.std.specs.Str.{bytes_eq};
 ghost use Rattle.h2_files.specs.Dates.{IsLastModified};
-ghost use Rattle.h2_files.specs.Tags.{opaque_part, opaque_tag, trimmed};
+ghost use Rattle.h2_files.specs.Tags.{is_any, opaque_part, opaque_tag, trimmed};
 
 use httpdate::HttpDate;
 use std::alloc::{AllocError, Global};
@@ -22,8 +22,8 @@ pub struct Version {
 }
 
 impl Version {
-    ghost use Rattle.h2_files.specs.Tags.{entity_tag, is_listed, is_strongly, is_weakly};
-    ghost use Rattle.h2_files.specs.Tags.{validators, validators_of};
+    ghost use Rattle.h2_files.specs.Tags.{entity_tag, is_in_list, is_listed, is_strongly};
+    ghost use Rattle.h2_files.specs.Tags.{is_weakly, validators, validators_of};
 
     /// The version of a file of so many octets, modified so many seconds after 1970.
     ///
@@ -66,40 +66,36 @@ impl Version {
         Some(date.to_bytes())
     }
 
-    /// Whether a list of tags, or `*`, means this version by the strong comparison.
+    /// Whether `*`, or a list of tags, means this version by the strong comparison.
     pub(crate) fn is_listed_strongly(&self, value: &[u8]) -> bool
         ensures { result ≡ is_listed (is_strongly (validators_of self.now)) value.now }
     {
-        value
-            .split(|octet| *octet == b',')
-            .any(|element| self.is_element_strongly(element))
+        is_any(value) || self.is_in_list_strongly(value)
     }
 
-    /// Whether a list of tags, or `*`, means this version by the weak comparison.
+    /// Whether `*`, or a list of tags, means this version by the weak comparison.
     pub(crate) fn is_listed_weakly(&self, value: &[u8]) -> bool
         ensures { result ≡ is_listed (is_weakly (validators_of self.now)) value.now }
     {
+        is_any(value) || self.is_in_list_weakly(value)
+    }
+
+    /// Whether an element of a list means this version by the strong comparison.
+    fn is_in_list_strongly(&self, value: &[u8]) -> bool
+        ensures { result ≡ is_in_list (is_strongly (validators_of self.now)) value.now }
+    {
         value
             .split(|octet| *octet == b',')
-            .any(|element| self.is_element_weakly(element))
+            .any(|element| self.is_strongly(trimmed(element)))
     }
 
-    /// Whether one element of a list means this version by the strong comparison.
-    fn is_element_strongly(&self, element: &[u8]) -> bool
-        ensures { result ≡ (bytes_eq (trimmed element.now) (codes "*")
-            || is_strongly (validators_of self.now) (trimmed element.now)) }
+    /// Whether an element of a list means this version by the weak comparison.
+    fn is_in_list_weakly(&self, value: &[u8]) -> bool
+        ensures { result ≡ is_in_list (is_weakly (validators_of self.now)) value.now }
     {
-        let tag = trimmed(element);
-        tag == b"*".as_slice() || self.is_strongly(tag)
-    }
-
-    /// Whether one element of a list means this version by the weak comparison.
-    fn is_element_weakly(&self, element: &[u8]) -> bool
-        ensures { result ≡ (bytes_eq (trimmed element.now) (codes "*")
-            || is_weakly (validators_of self.now) (trimmed element.now)) }
-    {
-        let tag = trimmed(element);
-        tag == b"*".as_slice() || self.is_weakly(tag)
+        value
+            .split(|octet| *octet == b',')
+            .any(|element| self.is_weakly(trimmed(element)))
     }
 
     // rule: HTTP 8.8.3 A tag means a version by the strong or the weak comparison
@@ -135,6 +131,14 @@ fn opaque_part(tag: &[u8]) -> &[u8]
         [b'W', b'/', opaque @ ..] => opaque,
         _ => tag,
     }
+}
+
+// rule: HTTP 8.8.3 A tag means a version by the strong or the weak comparison
+/// Whether a value is `*` alone, which means any version (RFC 9110, sections 13.1.1 and 13.1.2).
+fn is_any(value: &[u8]) -> bool
+    ensures { result ≡ is_any value.now }
+{
+    trimmed(value) == b"*".as_slice()
 }
 
 /// An element of a list without the blanks round it (RFC 9110, section 5.6.1).

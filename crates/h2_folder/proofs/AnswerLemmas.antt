@@ -1,13 +1,17 @@
--- Short answers to requests whose path has no file.
+-- Answers to requests whose path has no file, and to those whose path has one.
 use Rattle.std.proofs.Common.{◌≡◌, ℕ, List, Option, Some, Result, Ok, Err, sym, subst, inl, inr}
-use Rattle.h2_files.specs.Conditions.{Asked}
+use Rattle.h2_files.specs.Conditions.{Asked, file_answer}
+use Rattle.h2_files.specs.Dates.{IsLastModified}
 use Rattle.h2_files.specs.Faults.{status_of_fault}
 use Rattle.h2_files.specs.Paths.{IsFaultOrMemory}
 use Rattle.h2_files.specs.declared.fault.PathFault.{PathFault}
 use Rattle.h2_files.specs.declared.fault.PathFault.TheVariants as faults
 use Rattle.h2_files.specs.declared.methods.Method.{Method}
-use Rattle.h2_folder.specs.Answering.{AnswersMethod, IsShortAnswer, has_content}
+use Rattle.h2_files.specs.Tags.{Validators, validators}
+use Rattle.h2_folder.specs.Answering.{AnswersFile, AnswersMethod, AnswersSomeFile, IsShortAnswer}
+use Rattle.h2_folder.specs.Answering.{has_content, is_weak_at, kind_of_names}
 use Rattle.h2_folder.specs.Refusals.{status_of_missing}
+use Rattle.h2_folder.specs.Times.{IsDateOf, stated_second}
 use Rattle.h2_folder.specs.declared.answer.Answered.{Answered}
 use Rattle.h2_folder.specs.declared.find.Missing.{Missing}
 use Rattle.h2_folder.specs.declared.find.Missing.TheVariants.{Busy}
@@ -64,3 +68,39 @@ missing_file method m read names asked missing answered is named short =
     subst (λ (o : Option Method). AnswersMethod o read asked answered) (sym is)
     (subst (λ (r : Result (List (List ℕ)) PathFault). AnswersMethod (Some m) r asked answered)
     (sym named) (inl (missing, short)))
+
+-- A file that was found is answered by its length and its times.
+pub found_file : {F : Type 0} (method : Option Method) (m : Method)
+    (read : Result (List (List ℕ)) PathFault) (names : List (List ℕ)) (asked : Asked)
+    (answered : Answered F) → method ≡ Some m → read ≡ Ok names
+    → AnswersSomeFile m names asked answered → AnswersMethod method read asked answered
+found_file method m read names asked answered is named found =
+    subst (λ (o : Option Method). AnswersMethod o read asked answered) (sym is)
+    (subst (λ (r : Result (List (List ℕ)) PathFault). AnswersMethod (Some m) r asked answered)
+    (sym named) (inr found))
+
+-- A file is answered so as a version of it is, by its length and its times.
+pub some_file : {F : Type 0} (method : Method) (names : List (List ℕ)) (asked : Asked)
+    (length modified now : ℕ) (version : Validators) (kind : List ℕ)
+    (date stated : Option (List ℕ)) (answered : Answered F)
+    → version ≡ validators length modified (is_weak_at modified now)
+    → kind ≡ kind_of_names names → IsDateOf now date
+    → IsLastModified (stated_second modified now) stated
+    → AnswersFile (file_answer version method asked) method version kind date stated answered
+    → AnswersSomeFile method names asked answered
+some_file method names asked length modified now version kind date stated answered is named dated
+    last answers = (
+      length,
+      modified,
+      now,
+      date,
+      stated,
+      (
+        dated,
+        last,
+        subst (λ (v : Validators). AnswersFile (file_answer v method asked) method v
+            (kind_of_names names) date stated answered) is
+            (subst (λ (k : List ℕ). AnswersFile (file_answer version method asked) method version k date
+            stated answered) named answers),
+      ),
+    )

@@ -1,2 +1,3 @@
 mod AnswerLemmas
+mod LineLemmas
 mod LogLemmas

@@ -1,5 +1,7 @@
 pub mod Answering
 pub mod Heads
+pub mod Lines
 pub mod LogLines
 pub mod Parting
 pub mod Refusals
+pub mod Times

@@ -1,19 +1,25 @@
 //! How a folder answers a request.
 
-ghost use Rattle.std.specs.Prelude.{◌≡◌, IfOk, option_copied};
+ghost use Rattle.std.specs.Prelude.{◌≡◌, ◌≢◌, IfOk, false, option_copied, true};
 ghost use Rattle.hpack.specs.FieldLists.{value_of};
-ghost use Rattle.h2_files.specs.Conditions.{asked_of, file_answer};
+ghost use Rattle.h2_files.specs.Conditions.{file_answer};
+ghost use Rattle.h2_files.specs.Dates.{IsLastModified};
 ghost use Rattle.h2_files.specs.Paths.{texts};
 ghost use Rattle.h2_files.specs.Tags.{validators, validators_of};
-ghost use Rattle.h2_folder.specs.Answering.{AnswersFile, AnswersRequest, asked_in, has_content};
-ghost use Rattle.h2_folder.specs.Answering.{is_weak_at, kind_of_names, value_in};
+ghost use Rattle.h2_folder.specs.Answering.{AnswersFile, AnswersRequest, AnswersSomeFile};
+ghost use Rattle.h2_folder.specs.Answering.{HasNoOctets, SendsFile, first_octet_of, has_content};
+ghost use Rattle.h2_folder.specs.Answering.{is_weak_at, kind_of_names, octets_of_file, value_in};
+ghost use Rattle.h2_folder.specs.Heads.{file_head};
+ghost use Rattle.h2_folder.specs.Lines.{asked_in};
+ghost use Rattle.h2_folder.specs.Times.{IsDateOf, stated_second};
 
 use crate::find::{Found, find};
+use crate::lines::Lines;
 use crate::messages::{
     About, file_head, method_message, octets_of_part, short_message, unsatisfied_message,
 };
 use crate::sending::Sending;
-use h2_files::{Answer, Conditions, Method, Version, file_names, media_type};
+use h2_files::{Answer, Method, Version, file_names, media_type};
 use h2_message::{Field, FieldList, Message};
 use httpdate::HttpDate;
 use std::alloc::{AllocError, Global};
@@ -50,7 +56,7 @@ impl<'a, R: Files + Clock> Folder<'a, R> {
         ensures { IfOk result (AnswersRequest list.now) }
     {
         let now = seconds_now(self.rt);
-        let date = date_of(now);
+        let date = date_in(now);
         let name = value_in(list, b":method");
         let Some(method) = Method::of(name) else {
             return Ok(Answered::Whole(method_message(alloc, date)?));
@@ -65,14 +71,7 @@ impl<'a, R: Files + Clock> Folder<'a, R> {
             }
         };
         match find(self.rt, alloc, self.root, &names) {
-            Ok(found) => {
-                let version = version_of(alloc, &found, now)?;
-                let about = About {
-                    kind: kind_of(&names),
-                    date,
-                };
-                answer_found(alloc, method, list, found, &version, about)
-            }
+            Ok(found) => answer_at(alloc, method, list, &names, found, now, date),
             Err(missing) => {
                 let message = short_message(alloc, missing.status(), date, has_body)?;
                 Ok(Answered::Whole(message))
@@ -81,9 +80,29 @@ impl<'a, R: Files + Clock> Folder<'a, R> {
     }
 }
 
-// contract: HTTP 9.3.2 (own) A folder answers HEAD as GET, without the octets
-// rule: HTTP 9.3.2 (own) A folder answers HEAD as GET, without the octets
-/// How a request for a file that is there is answered.
+/// How a request for a file that is there is answered, at a second with this date.
+fn answer_at<F: Read + Seek + Drop>(
+    alloc: Global,
+    method: Method,
+    list: &FieldList,
+    names: &[String],
+    found: Found<F>,
+    now: u64,
+    date: Option<[u8; 29]>,
+) -> Result<Answered<F>, AllocError>
+    requires { IsDateOf now date }
+    ensures { IfOk result (AnswersSomeFile method (texts names.now) (asked_in list.now)) }
+{
+    let version = version_of(alloc, &found, now)?;
+    let about = About {
+        kind: kind_of(names),
+        date,
+        modified: modified_of(found.modified, now),
+    };
+    answer_found(alloc, method, list, found, &version, about)
+}
+
+/// How a request for a file that is there is answered, of this version, with these dates.
 fn answer_found<F: Read + Seek + Drop>(
     alloc: Global,
     method: Method,
@@ -94,34 +113,86 @@ fn answer_found<F: Read + Seek + Drop>(
 ) -> Result<Answered<F>, AllocError>
     ensures { IfOk result (AnswersFile
         (file_answer (validators_of version.now) method (asked_in list.now)) method
-        (validators_of version.now) about.entry.kind.now about.entry.date) }
+        (validators_of version.now) about.entry.kind.now about.entry.date about.entry.modified) }
 {
-    let answer = conditions_of(list).answer(method, version);
-    let (first, count) = match answer {
-        Answer::Whole => (0, version.length),
-        Answer::Part { first, last } => (first, octets_of_part(first, last)),
-        Answer::NotModified => (0, 0),
+    let lines = Lines::of(alloc, list)?;
+    let answer = lines.conditions().answer(method, version);
+    match answer {
         Answer::PreconditionFailed => {
             let has_body = has_content(method);
             let message = short_message(alloc, 412, about.date, has_body)?;
-            return Ok(Answered::Whole(message));
+            Ok(Answered::Whole(message))
         }
         Answer::Unsatisfiable => {
             let message = unsatisfied_message(alloc, version.length, about.date)?;
-            return Ok(Answered::Whole(message));
+            Ok(Answered::Whole(message))
         }
-    };
+        _ => send_found(alloc, method, answer, found.file, version, about),
+    }
+}
+
+// contract: HTTP 9.3.2 (own) A folder answers HEAD as GET, without the octets
+// rule: HTTP 9.3.2 (own) A folder answers HEAD as GET, without the octets
+/// An answer about a file: its head, and its octets, if the answer has some.
+fn send_found<F: Read + Seek + Drop>(
+    alloc: Global,
+    method: Method,
+    answer: Answer,
+    file: F,
+    version: &Version,
+    about: About<'_>,
+) -> Result<Answered<F>, AllocError>
+    ensures { IfOk result (SendsFile method (file_head answer (validators_of version.now)
+        about.entry.kind.now about.entry.date about.entry.modified) (first_octet_of answer)
+        (octets_of_file answer version.now.length) about.entry.date) }
+{
     let head = file_head(alloc, answer, version, about)?;
-    if !has_content(method) || count == 0 {
+    let count = octets_of_file(answer, version.length);
+    if has_no_octets(method, count) {
         return Ok(Answered::Whole(Message {
             head,
             body: Vec::new(alloc),
             trailers: None,
         }));
     }
-    match Sending::new(found.file, first, count) {
+    match Sending::new(file, first_octet_of(answer), count) {
         Some(sending) => Ok(Answered::Parts(head, sending)),
-        None => Ok(Answered::Whole(short_message(alloc, 500, about.date, true)?)),
+        None => {
+            let message = short_message(alloc, 500, about.date, true)?;
+            Ok(Answered::Whole(message))
+        }
+    }
+}
+
+/// The number of the first octet that an answer has, counted from 0.
+fn first_octet_of(answer: Answer) -> u64
+    ensures { result ≡ first_octet_of answer }
+{
+    match answer {
+        Answer::Part { first, .. } => first,
+        _ => 0,
+    }
+}
+
+/// How many octets of a file an answer has.
+fn octets_of_file(answer: Answer, length: u64) -> u64
+    ensures { result ≡ octets_of_file answer length }
+{
+    match answer {
+        Answer::Whole => length,
+        Answer::Part { first, last } => octets_of_part(first, last),
+        _ => 0,
+    }
+}
+
+/// Whether an answer to this method, about so many octets, has none of them.
+fn has_no_octets(method: Method, count: u64) -> bool
+    ensures none { result ≡ true → HasNoOctets method count }
+    ensures some { result ≡ false → (method ≡ Method.Get) × (count ≢ 0) }
+{
+    match method {
+        Method::Get => count == 0,
+        Method::Head => true,
     }
 }
 
@@ -135,20 +206,6 @@ fn has_content(method: Method) -> bool
     }
 }
 
-/// The conditions of a request, and its range.
-fn conditions_of(list: &FieldList) -> Conditions<'_>
-    ensures { asked_of result ≡ asked_in list.now }
-{
-    Conditions {
-        if_match: value_of(list, b"if-match"),
-        if_none_match: value_of(list, b"if-none-match"),
-        if_modified_since: value_of(list, b"if-modified-since"),
-        if_unmodified_since: value_of(list, b"if-unmodified-since"),
-        if_range: value_of(list, b"if-range"),
-        range: value_of(list, b"range"),
-    }
-}
-
 /// The value of the first field with a name.
 fn value_of<'a>(list: &'a FieldList, name: &[u8]) -> Option<&'a [u8]>
     ensures { option_copied result ≡ value_of name.now list.entry.now }
@@ -159,8 +216,8 @@ fn value_of<'a>(list: &'a FieldList, name: &[u8]) -> Option<&'a [u8]>
     }
 }
 
-/// The value of a field that each request has.
-fn value_in<'a>(list: &'a FieldList, name: &[u8]) -> &'a [u8]
+/// The value of a field that each request has; nothing where it has none.
+pub fn value_in<'a>(list: &'a FieldList, name: &[u8]) -> &'a [u8]
     ensures { result.now ≡ value_in name.now list.entry.now }
 {
     match value_of(list, name) {
@@ -205,10 +262,35 @@ fn seconds_now<R: Clock>(clock: &R) -> u64 {
 }
 
 /// The field `date` of a time that is known.
-fn date_of(now: u64) -> Option<[u8; 29]> {
+fn date_in(now: u64) -> Option<[u8; 29]>
+    ensures { IsDateOf now result }
+{
     if now == 0 {
         return None;
     }
-    let date = HttpDate::from_unix_secs(now).ok()?;
-    Some(date.to_bytes())
+    date_of(now)
+}
+
+// contract: HTTP 8.8.2.1 `last-modified` is never later than `date`
+// rule: HTTP 8.8.2.1 `last-modified` is never later than `date`
+/// The field `last-modified` of a file that was modified in a second, in an answer of another one.
+fn modified_of(modified: u64, now: u64) -> Option<[u8; 29]>
+    ensures { IsLastModified (stated_second modified now) result }
+{
+    let stated = if now == 0 {
+        modified
+    } else {
+        modified.min(now)
+    };
+    date_of(stated)
+}
+
+/// The date of a second after 1970 (RFC 9110, section 5.6.7); none from the year 10000 on.
+fn date_of(second: u64) -> Option<[u8; 29]>
+    ensures { IsLastModified second result }
+{
+    match HttpDate::from_unix_secs(second) {
+        Ok(date) => Some(date.to_bytes()),
+        Err(_) => None,
+    }
 }

@@ -9,6 +9,13 @@ use std::fs::{self, Files, Metadata, OpenFile};
 use std::io::{self, ErrorKind};
 use std::os::unix::fs::MetadataExt;
 
+/// The error of the system where a process has no descriptor left (EMFILE), which no
+/// [`ErrorKind`] names.
+const NO_DESCRIPTOR: i32 = 24;
+
+/// That no process has one (ENFILE).
+const NO_DESCRIPTOR_OF_ALL: i32 = 23;
+
 /// Why a path has no file that is served.
 #[derive(Clone, Copy, Debug, PartialEq, Eq, Hash)]
 pub enum Missing {
@@ -69,7 +76,7 @@ pub(crate) fn find<R: Files>(
     let path = path_below(alloc, root, names)?;
     let file = match fs::open(files, path.as_str()) {
         Ok(file) => file,
-        Err(error) => return Err(missing_at(error.kind())),
+        Err(error) => return Err(missing_by(&error)),
     };
     let opened = about(file.metadata())?;
     let after = walk(files, alloc, root, names)?;
@@ -131,7 +138,15 @@ fn look<R: Files>(
 fn about(known: io::Result<Metadata>) -> Result<Metadata, Missing> {
     match known {
         Ok(known) => Ok(known),
-        Err(error) => Err(missing_at(error.kind())),
+        Err(error) => Err(missing_by(&error)),
+    }
+}
+
+/// Why a path has no file, by an error: [`Missing::Busy`] where no descriptor is left.
+fn missing_by(error: &io::Error) -> Missing {
+    match error.raw_os_error() {
+        Some(NO_DESCRIPTOR | NO_DESCRIPTOR_OF_ALL) => Missing::Busy,
+        _ => missing_at(error.kind()),
     }
 }
 

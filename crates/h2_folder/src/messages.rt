@@ -1,11 +1,10 @@
 //! The heads of answers, and answers that are a short text.
 
-ghost use Rattle.std.specs.Prelude.{◌≡◌, IfOk, OnOk, Option, List, ℕ, [], codes, decimal};
+ghost use Rattle.std.specs.Prelude.{◌≡◌, IfOk, OnOk, [], codes, decimal};
 ghost use Rattle.std.specs.Prelude.{if◌then◌else◌, option_map};
 ghost use Rattle.h2_message.specs.Messages.{response_head};
 ghost use Rattle.h2_files.specs.Ranges.{content_range, unsatisfied_range};
 ghost use Rattle.h2_message.specs.Values.{message_value};
-ghost use Rattle.h2_files.specs.Dates.{IsLastModified};
 ghost use Rattle.h2_files.specs.Tags.{validators_of};
 ghost use Rattle.h2_folder.specs.Heads.{file_head, head_with, method_message, phrase_or_nothing};
 ghost use Rattle.h2_folder.specs.Heads.{reason_if, short_message, short_text, text_message};
@@ -24,6 +23,8 @@ pub struct About<'a> {
     pub kind: &'a str,
     /// The field `date`, if the time is known (RFC 9110, section 6.6.1).
     pub date: Option<[u8; 29]>,
+    /// The field `last-modified`, if there is one (RFC 9110, section 8.8.2).
+    pub modified: Option<[u8; 29]>,
 }
 
 // contract: HTTP 14.4 An answer with a part of a file says which part it is
@@ -40,14 +41,12 @@ pub fn file_head(
     version: &Version,
     about: About<'_>,
 ) -> Result<Vec<Field>, AllocError>
-    ensures { IfOk result (λ head. (modified : Option (List ℕ))
-        × IsLastModified version.now.modified modified
-        × (head.items ≡ file_head answer (validators_of version.now) about.entry.kind.now
-        about.entry.date modified)) }
+    ensures { IfOk result (λ head. head.items ≡ file_head answer (validators_of version.now)
+        about.entry.kind.now about.entry.date about.entry.modified) }
 {
     let mut head = head_with(alloc, answer.status(), about.date)?;
     add_part(alloc, &mut head, answer, version, about.kind)?;
-    add_validators(alloc, &mut head, version)?;
+    add_validators(alloc, &mut head, version, about.modified)?;
     Ok(head)
 }
 
@@ -266,15 +265,18 @@ fn add_kind(alloc: Global, head: &mut Vec<Field>, kind: &str) -> Result<(), Allo
 }
 
 /// Adds what a version is known by, and that ranges are served.
-fn add_validators(alloc: Global, head: &mut Vec<Field>, version: &Version) -> Result<(), AllocError>
-    ensures { OnOk result ((modified : Option (List ℕ))
-        × IsLastModified version.now.modified modified
-        × (head.new.items
-        ≡ with_version (validators_of version.now) modified head.old.items)) }
+fn add_validators(
+    alloc: Global,
+    head: &mut Vec<Field>,
+    version: &Version,
+    modified: Option<[u8; 29]>,
+) -> Result<(), AllocError>
+    ensures { OnOk result (head.new.items
+        ≡ with_version (validators_of version.now) modified head.old.items) }
 {
     let tag = version.etag(alloc)?;
     add(head, b"etag", Octets::new(tag.into_bytes()))?;
-    add_date(alloc, head, b"last-modified", version.last_modified())?;
+    add_date(alloc, head, b"last-modified", modified)?;
     add(head, b"accept-ranges", Octets::from_static(b"bytes"))?;
     Ok(())
 }

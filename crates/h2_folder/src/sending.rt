@@ -1,7 +1,7 @@
 //! A file under way: its octets, part by part.
 
-ghost use Rattle.std.specs.Prelude.{◌≡◌, ◌==◌, IfSome, length};
-ghost use Rattle.h2_folder.specs.Parting.{GivesPart};
+ghost use Rattle.std.specs.Prelude.{◌≡◌, ◌≢◌, ◌==◌, IfSome, MatchOption, length};
+ghost use Rattle.h2_folder.specs.Parting.{BeginsAt, GivesPart};
 
 use std::io::{Read, Seek, SeekFrom};
 
@@ -9,20 +9,30 @@ use std::io::{Read, Seek, SeekFrom};
 #[derive(Drop)]
 pub struct Sending<F> {
     file: F,
+    /// The number of the octet that it began with, counted from 0.
+    first: u64,
     left: u64,
 }
 
 impl<F: Read + Seek + Drop> Sending<F> {
-    /// So many octets of a file, from the first of them on, which is counted from 0; none where the
-    /// file can't be read from there.
+    // contract: files (own) A file's octets are sent from the one that the answer's head states
+    // rule: files (own) A file's octets are sent from the one that the answer's head states
+    /// So many octets of a file that was just opened, from the first of them on, which is counted
+    /// from 0; none where the file can't be read from there.
     pub fn new(file: F, first: u64, count: u64) -> Option<Sending<F>>
-        ensures { IfSome result (λ sending. sending.left ≡ count) }
+        ensures { MatchOption result (first ≢ 0) (λ sending. (sending.first ≡ first)
+            × (sending.left ≡ count)
+            × BeginsAt first (F.stream_position file) (F.stream_position sending.file)) }
     {
-        let mut file = file;
-        if first > 0 && file.seek(SeekFrom::Start(first)).is_err() {
-            return None;
+        let left = count;
+        if first == 0 {
+            return Some(Sending { file, first, left });
         }
-        Some(Sending { file, left: count })
+        let mut file = file;
+        match file.seek(SeekFrom::Start(first)) {
+            Ok(_) => Some(Sending { file, first, left }),
+            Err(_) => None,
+        }
     }
 }
 

@@ -26,16 +26,16 @@ tags :
 unfolding computing
 tags = refl
 
--- `if-match` compares strongly: the tag, in a list, and any; not another one, a weak one, nor
--- nothing.
+-- `if-match` compares strongly: the tag, in a list, and any; not another one, a weak one, nothing,
+-- nor `*` in a list.
 -- rule: HTTP 8.8.3 A tag means a version by the strong or the weak comparison
 matches :
     (map (holds_match strong) (codes "\"784111777-10\"" ∷ codes "\"a\" , \"784111777-10\"" ∷
     codes "*" ∷ codes " *" ∷ [])
     ≡ replicate 4 true)
     × (map (holds_match strong) (codes "\"784111777-11\"" ∷ codes "W/\"784111777-10\"" ∷
-    codes "784111777-10" ∷ [] ∷ codes "\"784111777-10\"\"" ∷ [])
-    ≡ replicate 5 false)
+    codes "784111777-10" ∷ [] ∷ codes "\"784111777-10\"\"" ∷ codes "\"a\", *" ∷ codes "*,*" ∷ [])
+    ≡ replicate 7 false)
     × (map (holds_match weak) (codes "\"784111777-10\"" ∷ codes "W/\"784111777-10\"" ∷
     codes "*" ∷ [])
     ≡ false ∷ false ∷ true ∷ [])
@@ -51,8 +51,8 @@ none_matches :
     × (map (holds_none_match weak) (codes "\"784111777-10\"" ∷ codes "W/\"784111777-10\"" ∷ [])
     ≡ replicate 2 false)
     × (map (holds_none_match strong) (codes "\"784111777-1\"" ∷ codes "w/\"784111777-10\"" ∷
-    codes "W/W/\"784111777-10\"" ∷ codes "\"a\"" ∷ [] ∷ [])
-    ≡ replicate 5 true)
+    codes "W/W/\"784111777-10\"" ∷ codes "\"a\"" ∷ [] ∷ codes "\"a\",*,\"b\"" ∷ [])
+    ≡ replicate 6 true)
 unfolding computing
 none_matches = (refl, refl, refl)
 

@@ -1,0 +1,15 @@
+-- The version is that of the length and the time that were found.
+use Rattle.std.proofs.lemmas.Result.{IfOk-weaker}
+use Rattle.h2_files.specs.Paths.{texts}
+use Rattle.h2_files.specs.Tags.{validators_of}
+use Rattle.h2_folder.specs.Lines.{asked_in}
+use Rattle.h2_folder.proofs.AnswerLemmas.{some_file}
+use Rattle.h2_folder.proofs.answer.answer_at.Goals as goal
+
+pub returns : goal.returns
+returns g c =
+    IfOk-weaker c.answer_found.result _ _ (λ answered answers. some_file c.args.method
+    (texts c.args.names.now) (asked_in c.args.list.now) c.args.found.length c.args.found.modified
+    c.args.now (validators_of c.in_ok-version.version) c.kind_of.result.now c.args.date
+    c.modified_of.result answered c.in_ok-version.ensures c.kind_of.ensures c.requires
+    c.modified_of.ensures answers) c.answer_found.ensures
