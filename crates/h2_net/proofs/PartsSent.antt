@@ -2,7 +2,7 @@
 -- link has taken.
 use Rattle.std.proofs.Common.{◌≡◌, ◌≤◌, ◌<◌, ℕ, ◌-◌, ◌+◌, List, [], ◌++◌, length, take, drop}
 use Rattle.std.proofs.Common.{Bool, Option, Result, Ok, Err, refl, sym, ap, ◌∙◌, subst, arith}
-use Rattle.std.proofs.Common.{◌∷◌, inl, inr, take-append-drop, append-nil}
+use Rattle.std.proofs.Common.{◌∷◌, inl, inr, true, false, nat_lt, take-append-drop, append-nil}
 use Rattle.std.proofs.Common.{append_assoc, drop_of_length-le, take-take, length-append}
 use Rattle.std.proofs.Common.{length-take, drop-drop}
 use Rattle.std.proofs.Math.Seq.{take-append-add}
