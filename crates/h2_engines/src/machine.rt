@@ -139,7 +139,8 @@ fn write_out<M: Machine, L: Link>(machine: &mut M, link: &mut L) -> Result<(), L
 
 // rule: engines (own) Over a link input is used in order and all output is written
 /// Writes all octets that wait to a link, from where they lie and in order, in as many calls as it
-/// takes: four parts of them at a time. They wait on: whoever has written them takes them away.
+/// takes: up to four parts of them at a time. They wait on: whoever has written them takes them
+/// away.
 ///
 /// # Errors
 ///
@@ -182,6 +183,10 @@ fn write_from<L: Link>(link: &mut L, conn: &Conn, at: usize) -> Result<usize, Li
 {
     let first = conn.waiting_from(at);
     let past_first = at + first.len();
+    // Mostly one part is all that waits.
+    if past_first == conn.waiting() {
+        return link.write(first);
+    }
     let second = conn.waiting_from(past_first);
     let past_second = past_first + second.len();
     let third = conn.waiting_from(past_second);

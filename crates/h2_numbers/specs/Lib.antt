@@ -1,2 +1,4 @@
 pub mod Entries
 pub mod Lends
+pub mod Tables
+pub mod TableLends

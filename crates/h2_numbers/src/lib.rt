@@ -2,5 +2,7 @@
 #![tactic(auto)]
 
 mod map;
+mod table;
 
 pub use map::NumberMap;
+pub use table::NumberTable;

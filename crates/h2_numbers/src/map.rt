@@ -7,32 +7,32 @@ ghost use Rattle.h2_numbers.specs.Entries.{value_at, SetsValue, IsNextAbove, Asc
 ghost use Rattle.h2_numbers.specs.Entries.{IsAboveAll};
 ghost use Rattle.h2_numbers.specs.Lends.{lends_at};
 
+use crate::table::NumberTable;
 use std::alloc::{AllocError, Global};
-use std::collections::HashMap;
 use std::marker::Model;
 
-/// Values by number. A value is looked up by the hash of its number, so that a look-up costs about
-/// the same for a thousand numbers as for one. The numbers are kept in rising order beside it, for
-/// [`NumberMap::next_above`]: a number above all others, as that of a new stream is, is put last in
-/// one step, and so is the last one taken out.
+/// Values by number, as a [`NumberTable`] has them. The numbers are kept in rising order beside it,
+/// for [`NumberMap::next_above`]: a number above all others, as that of a new stream is, is put last
+/// in one step, and so is the last one taken out.
 #[derive(Drop)]
 pub struct NumberMap<V> {
     /// The values, by number.
-    found: HashMap<u32, V>,
+    table: NumberTable<V>,
     /// Their numbers, in rising order.
     order: Vec<u32>,
 }
 
 impl<V> Model for NumberMap<V> {
     ghost use Rattle.h2_numbers.specs.Entries.{NumberEntries, entries_code, IsOrderOf};
+    ghost use Rattle.h2_numbers.specs.Tables.{all_of};
 
     ghost Value = { NumberEntries V };
 
     ghost coded = { entries_code V.code };
 
-    ghost view = { λ map. record { entries = map.found.entries } };
+    ghost view = { λ map. record { entries = all_of map.table } };
 
-    ghost invariant = { λ map. IsOrderOf map.found.entries map.order.items };
+    ghost invariant = { λ map. IsOrderOf (all_of map.table) map.order.items };
 }
 
 impl<V> NumberMap<V> {
@@ -41,7 +41,7 @@ impl<V> NumberMap<V> {
         ensures empty { result.entries ≡ [] }
     {
         NumberMap {
-            found: HashMap::new(alloc),
+            table: NumberTable::new(alloc),
             order: Vec::new(alloc),
         }
     }
@@ -51,7 +51,7 @@ impl<V> NumberMap<V> {
     pub fn get(&self, id: u32) -> Option<&V>
         ensures value { option_copied result ≡ value_at id self.now.entries }
     {
-        self.found.get(&id)
+        self.table.get(id)
     }
 
     // rule: 5.1 (own) What is kept of a stream is found by its number
@@ -65,7 +65,7 @@ impl<V> NumberMap<V> {
         if is_above_all(&self.order, id) {
             return None;
         }
-        self.found.get_mut(&id)
+        self.table.get_mut(id)
     }
 
     // rule: 5.1 (own) A change of a stream changes that stream alone
@@ -81,10 +81,12 @@ impl<V> NumberMap<V> {
             self.new.entries) }
         ensures err { OnErr result (self.new.entries ≡ self.old.entries) }
     {
-        self.order.reserve(1)?;
-        if self.found.insert(id, value)?.is_some() {
+        if let Some(held) = self.get_mut(id) {
+            *held = value;
             return Ok(());
         }
+        self.order.reserve(1)?;
+        self.table.insert(id, value)?;
         let at = first_above(&self.order, id);
         // There is room for one more.
         let _placed = self.order.insert(at, id);
@@ -98,7 +100,7 @@ impl<V> NumberMap<V> {
         V: Drop,
         ensures updates { SetsValue id None self.old.entries self.new.entries }
     {
-        self.found.remove(&id);
+        self.table.remove(id);
         let end = first_above(&self.order, id);
         if end > 0 && self.order[end - 1] == id {
             self.order.remove(end - 1);

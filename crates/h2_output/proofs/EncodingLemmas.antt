@@ -4,7 +4,7 @@ use Rattle.std.proofs.Common.{refl, nat_lt, arith}
 use Rattle.std.proofs.lemmas.Bool.Decides.{nat_tests}
 use Rattle.std.specs.Int.{from_bool}
 use Rattle.h2_frame.specs.declared.kind.Kind.TheVariants as kinds
-use Rattle.h2_frame.specs.Frames.{Data, GoAway}
+use Rattle.h2_frame.specs.Frames.{Data, GoAway, WindowUpdate}
 use Rattle.h2_frame.specs.Heads.{head_octets, fits_stream}
 use Rattle.h2_frame.specs.Encoding.{encoding_of, kind_of_frame, flags_of, stream_of, payload_of}
 use Rattle.h2_frame.specs.Encoding.{has_good_values, refusal}
@@ -27,3 +27,15 @@ pub data-head : (stream count : ℕ) (end : Bool) (octets : List ℕ) → length
 unfolding encoding_of kind_of_frame flags_of stream_of payload_of
 data-head stream count true octets same = rw (← same) refl
 data-head stream count false octets same = rw (← same) refl
+
+-- WINDOW_UPDATE is its head, and then its increment in four octets.
+pub window-update : (stream increment : ℕ)
+    → head_octets kinds.WindowUpdate 0 stream 4 ++ payload_of (WindowUpdate stream increment)
+    ≡ encoding_of (WindowUpdate stream increment)
+unfolding encoding_of kind_of_frame flags_of stream_of payload_of
+window-update stream increment = refl
+
+pub length-window-update : (stream increment : ℕ)
+    → length (encoding_of (WindowUpdate stream increment)) ≡ 13
+unfolding encoding_of kind_of_frame flags_of stream_of payload_of
+length-window-update stream increment = refl

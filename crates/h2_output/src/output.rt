@@ -5,7 +5,7 @@ ghost use Rattle.std.specs.Prelude.{take, drop, true, false, None, Some, OnOk, I
 ghost use Rattle.std.specs.Prelude.{vec_len};
 ghost use Rattle.std.specs.Vec.{vec_capacity};
 ghost use Rattle.std.specs.Io.{StartsWith};
-ghost use Rattle.h2_frame.specs.Frames.{frame_of, Data, GoAway};
+ghost use Rattle.h2_frame.specs.Frames.{frame_of, Data, GoAway, WindowUpdate};
 ghost use Rattle.h2_frame.specs.Encoding.{encoding_of, refusal};
 ghost use Rattle.h2_output.specs.Output.{max_control_octets};
 
@@ -14,7 +14,7 @@ use crate::last_frame::LastFrame;
 use crate::queue::Queue;
 use bytes::Bytes;
 use h2_frame::limits::LARGE_FRAME;
-use h2_frame::{FrameRef, write_ref};
+use h2_frame::{FrameRef, Head, Kind, write_ref};
 use std::alloc::{AllocError, Global};
 use std::marker::Model;
 
@@ -124,6 +124,7 @@ impl Output {
     // contract: calls (own) Frames join the output that waits, in order
     // rule: calls (own) Frames join the output that waits, in order
     /// Adds a frame, of 64 octets at most, for which there is room. It takes no memory.
+    #[inline(always)]
     pub fn add_frame(&mut self, frame: FrameRef<'_>)
         requires up { self.old.ended ≡ false }
         requires writable { refusal (frame_of frame) ≡ None }
@@ -136,8 +137,32 @@ impl Output {
         ensures shared { self.new.shared ≡ self.old.shared }
         ensures ended { self.new.ended ≡ false }
     {
+        if let FrameRef::WindowUpdate { stream, increment } = frame {
+            return self.add_window_update(stream, increment);
+        }
         encode(frame, &mut self.frame);
         self.queue.extend_reserved(&self.frame);
+    }
+
+    // rule: calls (own) Frames join the output that waits, in order
+    /// Adds WINDOW_UPDATE, for which there is room. It takes no memory.
+    fn add_window_update(&mut self, stream: u32, increment: u32)
+        requires up { self.old.ended ≡ false }
+        requires room { 13 ≤ self.old.spare }
+        ensures waiting { self.new.waiting
+            ≡ self.old.waiting ++ encoding_of (WindowUpdate stream increment) }
+        ensures spare { self.new.spare + 13 ≡ self.old.spare }
+        ensures shared { self.new.shared ≡ self.old.shared }
+        ensures ended { self.new.ended ≡ false }
+    {
+        let head = Head {
+            length: 4,
+            kind: Kind::WindowUpdate,
+            flags: 0,
+            stream,
+        };
+        self.queue.extend_reserved(&head.octets());
+        self.queue.extend_reserved(&increment.to_be_bytes());
     }
 
     // contract: calls (own) Frames join the output that waits, in order

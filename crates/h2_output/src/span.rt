@@ -90,6 +90,10 @@ impl Spans {
         ensures shared { self.new.shared ≤ self.old.shared }
         ensures small { result ≤ count }
     {
+        // Mostly nothing is shared, and then nothing is looked at.
+        if self.all.is_empty() {
+            return count;
+        }
         let mut left = count;
         let mut queued = 0usize;
         while let Some(mut span) = self.all.pop_front() {

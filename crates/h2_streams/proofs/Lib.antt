@@ -7,3 +7,4 @@ pub mod Shifts
 pub mod TableSteps
 pub mod MostWindows
 pub mod Names
+pub mod NewestStreams

@@ -8,6 +8,7 @@ ghost use Rattle.std.specs.FinMap as map;
 ghost use Rattle.h2_spec_machine.specs.End.{stream_in, active_entry, reset_entry, any_above};
 ghost use Rattle.h2_spec_machine.specs.Machine.{each_entry, shifted_entry, recv_shifted_entry};
 ghost use Rattle.h2_spec_machine.specs.Machine.{first_active};
+ghost use Rattle.h2_numbers.specs.Tables.{all_of};
 ghost use Rattle.h2_streams.specs.Streams.{stream_view, entry_value, is_far, is_above_by_shift};
 ghost use Rattle.h2_streams.specs.Streams.{number_or_none};
 ghost use Rattle.h2_streams.specs.Table.{view_of_kept, is_far_offset, IsNearKept};
@@ -16,6 +17,7 @@ ghost use Rattle.h2_streams.specs.Table.{greater_of, IsGreatestOffset, IsLeastAb
 use crate::entry::{Entry, Stream};
 use h2_flow::StreamState;
 use h2_frame::limits::GREATEST_WINDOW;
+use h2_numbers::NumberTable;
 use std::alloc::{AllocError, Global};
 use std::collections::{BTreeSet, HashMap};
 use std::marker::Model;
@@ -30,13 +32,14 @@ pub(crate) struct Kept {
     pub(crate) state: StreamState,
 }
 
-/// The streams of one end. Active ones are looked up by the hashes of their numbers, so that a
-/// look-up costs about the same for a thousand streams as for one; `next_active` and
-/// `greatest_send_window` go over all of them. Numbers that were reset are few: a tree has them.
+/// The streams of one end. The one that was opened last is found by one comparison, the other active
+/// ones by the hashes of their numbers, so that a look-up costs about the same for a thousand
+/// streams as for one; `next_active` and `greatest_send_window` go over all of them. Numbers that
+/// were reset are few: a tree has them.
 #[derive(Drop)]
 pub struct StreamTable {
     /// The active streams, by number.
-    active: HashMap<u32, Kept>,
+    active: NumberTable<Kept>,
     /// The numbers that this end has reset.
     resets: BTreeSet<u32>,
     /// The initial window of this end's sending side: the peer's value.
@@ -51,6 +54,7 @@ impl Model for StreamTable {
     ghost use Rattle.h2_streams.specs.Table.{TableState, active_map, with_resets, IsKeptWell};
     ghost use Rattle.h2_streams.specs.Table.{IsMost};
     ghost use Rattle.h2_streams.specs.Codes.{table_code};
+    ghost use Rattle.h2_numbers.specs.Tables.{all_of};
 
     ghost Value = { TableState };
 
@@ -58,14 +62,14 @@ impl Model for StreamTable {
 
     ghost view = { λ table. record {
       entries = with_resets (active_map table.send_initial table.recv_initial
-          table.active.entries) table.resets.keys;
+          (all_of table.active)) table.resets.keys;
       send_initial = table.send_initial;
       recv_initial = table.recv_initial;
     } };
 
     ghost invariant = { λ table. record {
-      well : IsKeptWell table.active.entries table.resets.keys;
-      most : IsMost table.active.entries table.send_most;
+      well : IsKeptWell (all_of table.active) table.resets.keys;
+      most : IsMost (all_of table.active) table.send_most;
     } };
 }
 
@@ -79,7 +83,7 @@ impl StreamTable {
         } }
     {
         StreamTable {
-            active: HashMap::new(alloc),
+            active: NumberTable::new(alloc),
             resets: BTreeSet::new(alloc),
             send_initial,
             recv_initial,
@@ -104,7 +108,7 @@ impl StreamTable {
     pub fn stream(&self, id: u32) -> Option<Stream>
         ensures { option_map stream_view result ≡ stream_in (map.get self.now.entries id) }
     {
-        let kept = self.active.get(&id)?;
+        let kept = self.active.get(id)?;
         Some(Stream {
             send_window: kept.send_offset + i64::from(self.send_initial),
             recv_window: kept.recv_offset + i64::from(self.recv_initial),
@@ -149,7 +153,7 @@ impl StreamTable {
     {
         let kept = self.kept(stream);
         self.send_most = self.send_most.max(kept.send_offset);
-        if let Some(old) = self.active.get_mut(&id) {
+        if let Some(old) = self.active.get_mut(id) {
             *old = kept;
         }
     }
@@ -162,7 +166,7 @@ impl StreamTable {
         requires { IsSome (stream_in (map.get self.old.entries id)) }
         ensures { self.new ≡ record self.old { entries = map.remove self.old.entries id } }
     {
-        self.active.remove(&id);
+        self.active.remove(id);
     }
 
     // rule: 5.1 (own) A change of a stream changes that stream alone
@@ -179,7 +183,7 @@ impl StreamTable {
     {
         let is_new = self.resets.insert(id)?;
         if is_new {
-            self.active.remove(&id);
+            self.active.remove(id);
         }
         Ok(())
     }
@@ -278,11 +282,22 @@ impl StreamTable {
 }
 
 /// The greatest difference of the send windows from the initial window, if there are any.
-fn greatest_send_offset(active: &HashMap<u32, Kept>) -> Option<i64>
-    ensures { IsGreatestOffset active.now.entries result }
+fn greatest_send_offset(active: &NumberTable<Kept>) -> Option<i64>
+    ensures { IsGreatestOffset (all_of active.now) result }
+{
+    let greatest = greatest_of(active.older());
+    match active.newest() {
+        Some(kept) => Some(greater_of(greatest, kept.send_offset)),
+        None => greatest,
+    }
+}
+
+/// The greatest difference of the send windows of some streams from the initial window.
+fn greatest_of(streams: &HashMap<u32, Kept>) -> Option<i64>
+    ensures { IsGreatestOffset streams.now.entries result }
 {
     let mut greatest = None;
-    for kept in active.values() {
+    for kept in streams.values() {
         greatest = Some(greater_of(greatest, kept.send_offset));
     }
     greatest
@@ -300,29 +315,44 @@ fn greater_of(greatest: Option<i64>, offset: i64) -> i64
 
 /// The first of the next two numbers that is active. A client uses odd numbers (RFC 9113, section
 /// 5.1.1), so it is mostly there while no stream has ended.
-fn next_but_one(active: &HashMap<u32, Kept>, above: u32) -> Option<u32>
-    ensures { IfSome result (λ number. IsLeastAbove above active.now.entries (Some number)) }
+fn next_but_one(active: &NumberTable<Kept>, above: u32) -> Option<u32>
+    ensures { IfSome result (λ number. IsLeastAbove above (all_of active.now) (Some number)) }
 {
     let first = above.checked_add(1)?;
-    if active.contains_key(&first) {
+    if active.get(first).is_some() {
         return Some(first);
     }
     let second = first.checked_add(1)?;
-    if active.contains_key(&second) {
+    if active.get(second).is_some() {
         return Some(second);
     }
     None
 }
 
-/// The least active number above another, if there are any. Those above it wrap to less than
-/// `rest`, in their order, and no others do: so each step of the loop is one addition and one
+/// The least active number above another, if there are any.
+fn least_above(active: &NumberTable<Kept>, above: u32) -> Option<u32>
+    ensures { IsLeastAbove above (all_of active.now) result }
+{
+    let least = least_of(active.older(), above);
+    let newest = active.newest_number();
+    if active.newest().is_none() || newest <= above {
+        return least;
+    }
+    match least {
+        Some(number) => Some(number.min(newest)),
+        None => Some(newest),
+    }
+}
+
+/// The least number above another of some streams, if there are any. Those above it wrap to less
+/// than `rest`, in their order, and no others do: so each step of the loop is one addition and one
 /// minimum.
-fn least_above(active: &HashMap<u32, Kept>, above: u32) -> Option<u32>
-    ensures { IsLeastAbove above active.now.entries result }
+fn least_of(streams: &HashMap<u32, Kept>, above: u32) -> Option<u32>
+    ensures { IsLeastAbove above streams.now.entries result }
 {
     let rest = u32::MAX - above;
     let mut least = rest;
-    for number in active.keys() {
+    for number in streams.keys() {
         least = least.min(number.wrapping_add(rest));
     }
     if least < rest {

@@ -1,8 +1,8 @@
 -- Whatever is written, the numbers stay in order.
-use Rattle.std.proofs.Common.{◌≡◌, ℕ, List, nat_eq, ap}
+use Rattle.std.proofs.Common.{◌≡◌, ℕ, List, nat_eq}
 use Rattle.std.specs.Map.{keys_of}
 use Rattle.h2_numbers.specs.Entries.{IsOrderOf}
-use Rattle.std.specs.HashMap.{keys}
+use Rattle.h2_numbers.specs.Tables.{all_of}
 use Rattle.std.proofs.lemmas.Map.Made.{IsSome-lookup_same_keys}
 use Rattle.h2_numbers.proofs.Orders.{order_kept}
 use Rattle.h2_numbers.proofs.map.NumberMap.get_mut.Goals as goal
@@ -16,8 +16,7 @@ same_keys old new order same is =
 
 pub invariant_of-self-lent : goal.invariant_of-self-lent
 invariant_of-self-lent g c = λ lent. (
-  λ w. same_keys c.self.inside.found.entries (c.get_mut.follows.lender w).entries
-      c.self.inside.order.items (c.get_mut.follows.holds w).1 c.self.invariant,
-  same_keys c.self.inside.found.entries c.get_mut.follows.lender-at-none.entries
-      c.self.inside.order.items (ap keys c.get_mut.follows.holds-at-none) c.self.invariant,
+  λ w. same_keys (all_of c.self.inside.table) (all_of (c.get_mut.follows.lender w))
+      c.self.inside.order.items (c.get_mut.follows.holds w).numbers c.self.invariant,
+  rw (c.get_mut.follows.holds-at-none) c.self.invariant,
 )

@@ -2,6 +2,7 @@
 use Rattle.std.proofs.Common.{◌<◌, ◌≡◌, ◌+◌, ◌-◌, ◌∙◌, sym, length, arith}
 use Rattle.std.specs.List.{slice_index}
 use Rattle.std.proofs.lemmas.List.{get_or_default}
+use Rattle.h2_numbers.specs.Tables.{all_of}
 use Rattle.h2_numbers.proofs.Orders.{order_without}
 use Rattle.h2_numbers.proofs.map.NumberMap.remove.Goals as goal
 
@@ -16,8 +17,8 @@ invariant_of-self g c =
     get_or_default t.order.items place _ _ within ∙ sym c.index.ensures ∙ c.if-index-id.true in
     let count : length after.items + 1 ≡ length t.order.items =
     omega (arith, c.remove-then-index-id.ensures.len, after.ok.0, t.order.ok.0) in
-    order_without t.found.entries c.remove.new.self.entries t.order.items after.items c.args.id
-    place c.self.invariant c.remove.ensures.updates.0 here (record {
+    order_without (all_of t.table) (all_of c.remove.new.self) t.order.items after.items c.args.id
+    place c.self.invariant c.remove.ensures.updates here (record {
       within = within;
       count = count;
       below = λ k low. c.remove-then-index-id.ensures.by_index.0 k 0 low;

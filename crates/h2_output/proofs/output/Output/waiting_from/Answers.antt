@@ -1,6 +1,5 @@
 -- What is left of the last frame, after all of the queue.
-use Rattle.std.proofs.Common.{◌≡◌, ◌-◌, ◌++◌, length, drop, take, ap, sym, ◌∙◌, arith, refl, take_all}
-use Rattle.std.specs.Io.{StartsWith}
+use Rattle.std.proofs.Common.{◌≡◌, ◌-◌, ◌++◌, length, drop, ap, sym, ◌∙◌, arith, take_all}
 use Rattle.h2_output.specs.Output.{OutputState, waiting_of_last}
 use Rattle.h2_output.proofs.WovenLemmas.{weave-beyond}
 use Rattle.h2_output.proofs.output.Output.waiting_from.Goals as goal

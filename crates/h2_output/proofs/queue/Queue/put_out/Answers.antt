@@ -1,5 +1,5 @@
 -- Each part has the octets that follow those given before it.
-use Rattle.std.proofs.Common.{◌≡◌, ◌+◌, ◌-◌, ◌≤◌, ◌++◌, take, drop, length, ap, sym, ◌∙◌, arith}
+use Rattle.std.proofs.Common.{◌≡◌, ◌+◌, ◌≤◌, ◌++◌, take, drop, length, ap, sym, ◌∙◌, arith}
 use Rattle.std.proofs.Common.{length-take, take-take, take-add, append_assoc, vec_len}
 use Rattle.std.specs.Vec.{vec_capacity}
 use Rattle.h2_output.proofs.queue.Queue.put_out.Goals as goal

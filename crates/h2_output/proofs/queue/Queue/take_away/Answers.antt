@@ -1,5 +1,5 @@
 -- All octets are those of the queue and those of the spans.
-use Rattle.std.proofs.Common.{◌≡◌, ◌+◌, ◌≤◌, ◌<◌, [], length, drop, ap, sym, ◌∙◌, arith, length-drop}
+use Rattle.std.proofs.Common.{◌≡◌, length, ap, arith, length-drop}
 use Rattle.h2_output.specs.Woven.{QueueState, weave}
 use Rattle.h2_output.proofs.WovenLemmas.{weave-length}
 use Rattle.h2_output.proofs.queue.Queue.take_away.Goals as goal

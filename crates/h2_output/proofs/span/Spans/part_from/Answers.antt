@@ -1,9 +1,8 @@
 -- By the lemmas on taking from the front of what is woven.
-use Rattle.std.proofs.Common.{◌≡◌, ◌+◌, ◌-◌, ◌<◌, ◌≤◌, List, [], ◌∷◌, length, take, drop, min, ap, sym}
-use Rattle.std.proofs.Common.{◌∙◌, arith, length-drop, take_all, subst, refl, drop_of_length-le}
+use Rattle.std.proofs.Common.{◌≡◌, ◌+◌, ◌-◌, ◌<◌, ◌≤◌, [], ◌∷◌, length, take, drop, ap, sym}
+use Rattle.std.proofs.Common.{◌∙◌, arith, length-drop, take_all, drop_of_length-le}
 use Rattle.std.specs.Io.{StartsWith}
 use Rattle.h2_output.specs.Woven.{weave, octets_before}
-use Rattle.h2_output.specs.declared.span.Span.{Span}
 use Rattle.h2_output.proofs.WovenLemmas.{early-part, inside-part, weave-passed, drop-min}
 use Rattle.h2_output.proofs.WovenLemmas.{spans-from}
 use Rattle.h2_output.proofs.span.Spans.part_from.Goals as goal

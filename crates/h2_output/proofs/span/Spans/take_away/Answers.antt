@@ -1,6 +1,7 @@
 -- By the lemmas on taking from the front of what is woven.
-use Rattle.std.proofs.Common.{◌≡◌, ◌+◌, ◌-◌, ◌≤◌, ℕ, List, ◌∷◌, length, drop, ap, sym, ◌∙◌, arith}
+use Rattle.std.proofs.Common.{◌≡◌, ◌+◌, ◌-◌, ◌≤◌, ◌∷◌, length, drop, ap, sym, ◌∙◌, arith}
 use Rattle.std.proofs.Common.{length-drop, drop-drop, drop_of_length-le, subst, []}
+use Rattle.std.proofs.Common.{eqb-true, deque_len}
 use Rattle.h2_output.specs.Woven.{weave, octets_before, octets_shared}
 use Rattle.h2_output.proofs.WovenLemmas.{weave-early, weave-past, weave-inside, weave-passed}
 use Rattle.h2_output.proofs.WovenLemmas.{weave-length}
@@ -266,3 +267,25 @@ returns-clause-fits c = λ queue fits within.
     (c.loop-span.invariant.enough queue fits within) in
     let first : octets_before all.items ≡ 0 = ap octets_before none in
     omega (arith, last, first, c.loop-span.self.placed, length-drop queued queue)
+
+pub returns-then-is_empty-clause-woven : goal.returns-then-is_empty-clause-woven
+unfolding weave
+returns-then-is_empty-clause-woven c = λ queue fits within.
+    let all = c.args.self.now.all in
+    let zero : deque_len all ≡ 0 = eqb-true (deque_len all) 0 (sym c.if-is_empty.ensures) in
+    let none : all.items ≡ [] =
+    drop_of_length-le all.items {i = 0} (omega (arith, zero, all.ok.0)) in
+    ap (λ s. drop c.args.count (weave s queue)) none
+    ∙ ap (λ s. weave s (drop c.args.count queue)) (sym none)
+
+pub returns-then-is_empty-clause-fits : goal.returns-then-is_empty-clause-fits
+unfolding weave octets_before
+returns-then-is_empty-clause-fits c = λ queue fits within.
+    let all = c.args.self.now.all in
+    let zero : deque_len all ≡ 0 = eqb-true (deque_len all) 0 (sym c.if-is_empty.ensures) in
+    let none : all.items ≡ [] =
+    drop_of_length-le all.items {i = 0} (omega (arith, zero, all.ok.0)) in
+    let some : c.args.count ≤ length queue =
+    subst (λ s. c.args.count ≤ length (weave s queue)) none within in
+    let first : octets_before all.items ≡ 0 = ap octets_before none in
+    omega (arith, some, first, c.args.self.now.placed)

@@ -1,6 +1,5 @@
 -- What is left to be taken of what is left, and how much of the queue was passed.
 use Rattle.std.proofs.Common.{◌≡◌, ◌+◌, ◌≤◌, List, ℕ, length, drop}
-use Rattle.std.specs.VecDeque.{deque_len, deque_capacity}
 use Rattle.h2_output.specs.Woven.{weave, octets_before, octets_shared}
 use Rattle.h2_output.proofs.span.Spans.take_away.Given as goal
 

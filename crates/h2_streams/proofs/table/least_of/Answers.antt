@@ -1,11 +1,11 @@
 use Rattle.h2_streams.proofs.Names.{◌≡◌, ℕ, ◌^◌, ◌<◌, ◌∙◌, length, rules, keys_of, deref}
 use Rattle.h2_streams.proofs.Names.{length_push, iter_turn, iter_end}
 use Rattle.h2_streams.proofs.ActiveNumbers.{least_more, none_of_all, least_of_all}
-use Rattle.h2_streams.proofs.table.least_above.Goals as goal
+use Rattle.h2_streams.proofs.table.least_of.Goals as goal
 
 pub loop-number-preserved : goal.loop-number-preserved
 loop-number-preserved c =
-    let numbers = keys_of c.args.active.now.entries in
+    let numbers = keys_of c.args.streams.now.entries in
     let start : c.into_iter-number-iterator.result ≡ numbers =
     c.into_iter-number-iterator.ensures.into_iter_gives ∙ c.keys-number-items.ensures.rest in
     let turn = iter_turn (deref {X = ℕ}) numbers c.loop-number.yielded
@@ -19,24 +19,24 @@ loop-number-preserved c =
 
 pub returns-then-least-rest : goal.returns-then-least-rest
 returns-then-least-rest c =
-    let numbers = keys_of c.args.active.now.entries in
+    let numbers = keys_of c.args.streams.now.entries in
     let start : c.into_iter-number-iterator.result ≡ numbers =
     c.into_iter-number-iterator.ensures.into_iter_gives ∙ c.keys-number-items.ensures.rest in
     let end = iter_end (deref {X = ℕ}) numbers c.loop-number.yielded
     c.into_iter-number-iterator.result c.loop-number.number-iterator c.next.new.self c.next.result
     start c.loop-number.yielded_by c.in-None.is c.next.ensures.steps in
-    least_of_all c.args.active.now (length c.loop-number.yielded) c.args.above c.loop-number.least
+    least_of_all c.args.streams.now (length c.loop-number.yielded) c.args.above c.loop-number.least
     c.keys-number-items.ensures.unique end.1 c.loop-number.invariant
     c.if-least-rest.true
 
 pub returns-else-least-rest : goal.returns-else-least-rest
 returns-else-least-rest c =
-    let numbers = keys_of c.args.active.now.entries in
+    let numbers = keys_of c.args.streams.now.entries in
     let start : c.into_iter-number-iterator.result ≡ numbers =
     c.into_iter-number-iterator.ensures.into_iter_gives ∙ c.keys-number-items.ensures.rest in
     let end = iter_end (deref {X = ℕ}) numbers c.loop-number.yielded
     c.into_iter-number-iterator.result c.loop-number.number-iterator c.next.new.self c.next.result
     start c.loop-number.yielded_by c.in-None.is c.next.ensures.steps in
-    none_of_all c.args.active.now.entries (length c.loop-number.yielded) c.args.above
+    none_of_all c.args.streams.now.entries (length c.loop-number.yielded) c.args.above
     c.loop-number.least end.1 c.loop-number.invariant
     c.if-least-rest.false
