@@ -7,6 +7,7 @@ use Rattle.h2_core.proofs.Names.{payload_of, has_good_values, refusal, encoding_
 use Rattle.h2_core.proofs.Names.{encoding_of_items}
 use Rattle.std.proofs.Common.{nat_lt}
 use Rattle.h2_frame.specs.Frames.{Reset}
+pub use Rattle.h2_output.proofs.EncodingLemmas.{length-update}
 
 -- A frame as the one item has its octets.
 pub one-item : (most : ℕ) (frame : Frame)
@@ -22,11 +23,6 @@ update-written stream increment number small =
     let first : nat_lt stream (2 ^ 31) ≡ true = grind (arith, nat_tests) in
     let second : nat_lt increment (2 ^ 31) ≡ true = grind (arith, nat_tests) in
     rw (first, second) refl
-
-pub length-update : (stream increment : ℕ)
-    → length (encoding_of (WindowUpdate stream increment)) ≡ 13
-unfolding encoding_of kind_of_frame flags_of stream_of payload_of
-length-update stream increment = refl
 
 -- RST_STREAM.
 pub reset-written : (stream code : ℕ) → 1 ≤ stream → stream < 2 ^ 31

@@ -12,8 +12,8 @@ pub record TableEntries (V : Type 0) : Type 0 where
   pub older : List (ℕ × V)
 
 -- such a table is stored as its three parts
-abbrev pub table_code : {V : Type 0} → Coded V → Coded (TableEntries V)
-table_code {V} value = code_by (ℕ × (Option V × List (ℕ × V)))
+abbrev pub number_table_code : {V : Type 0} → Coded V → Coded (TableEntries V)
+number_table_code {V} value = code_by (ℕ × (Option V × List (ℕ × V)))
     (coded× coded_ℕ (coded× (coded_option value) (coded_list (coded× coded_ℕ value))))
     (λ table. (table.number, (table.newest, table.older)))
     (λ parts. record { number = parts.0; newest = parts.1.0; older = parts.1.1 }) (λ _. refl)

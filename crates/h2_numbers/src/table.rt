@@ -25,11 +25,11 @@ pub struct NumberTable<V> {
 }
 
 impl<V> Model for NumberTable<V> {
-    ghost use Rattle.h2_numbers.specs.Tables.{TableEntries, table_code, IsApart};
+    ghost use Rattle.h2_numbers.specs.Tables.{TableEntries, number_table_code, IsApart};
 
     ghost Value = { TableEntries V };
 
-    ghost coded = { table_code V.code };
+    ghost coded = { number_table_code V.code };
 
     ghost view = { λ table. record {
       number = table.number;

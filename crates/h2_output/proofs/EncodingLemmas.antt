@@ -35,7 +35,7 @@ pub window-update : (stream increment : ℕ)
 unfolding encoding_of kind_of_frame flags_of stream_of payload_of
 window-update stream increment = refl
 
-pub length-window-update : (stream increment : ℕ)
+pub length-update : (stream increment : ℕ)
     → length (encoding_of (WindowUpdate stream increment)) ≡ 13
 unfolding encoding_of kind_of_frame flags_of stream_of payload_of
-length-window-update stream increment = refl
+length-update stream increment = refl

@@ -9,6 +9,7 @@ mod in_step;
 mod laws;
 mod lent;
 mod memory;
+mod numbers;
 mod output;
 mod output_memory;
 mod streams;
