@@ -105,18 +105,27 @@ impl<V> NumberTable<V> {
     }
 
     // rule: 5.1 (own) A change of a stream changes that stream alone
-    /// Takes the value out at a number, if there is one. It takes no memory.
+    /// Takes the value out at a number, if there is one, and answers it. It takes no memory.
+    #[inline(always)]
+    pub fn take(&mut self, id: u32) -> Option<V>
+        ensures value { result ≡ value_at id (all_of self.old) }
+        ensures updates { SetsValue id None (all_of self.old) (all_of self.new) }
+    {
+        if self.is_newest(id) {
+            return self.newest.take();
+        }
+        self.older.remove(&id)
+    }
+
+    // rule: 5.1 (own) A change of a stream changes that stream alone
+    /// Drops the value at a number, if there is one. It takes no memory.
     #[inline(always)]
     pub fn remove(&mut self, id: u32)
     where
         V: Drop,
         ensures updates { SetsValue id None (all_of self.old) (all_of self.new) }
     {
-        if self.is_newest(id) {
-            self.newest = None;
-        } else {
-            self.older.remove(&id);
-        }
+        self.take(id);
     }
 
     /// Whether a number is the one that was put in last, and has its value still.
