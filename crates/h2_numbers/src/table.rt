@@ -61,6 +61,9 @@ impl<V> NumberTable<V> {
         if self.is_newest(id) {
             return self.newest.as_ref();
         }
+        if self.older.is_empty() {
+            return None;
+        }
         self.older.get(&id)
     }
 
@@ -74,6 +77,9 @@ impl<V> NumberTable<V> {
     {
         if self.is_newest(id) {
             return self.newest.as_mut();
+        }
+        if self.older.is_empty() {
+            return None;
         }
         self.older.get_mut(&id)
     }
@@ -113,6 +119,9 @@ impl<V> NumberTable<V> {
     {
         if self.is_newest(id) {
             return self.newest.take();
+        }
+        if self.older.is_empty() {
+            return None;
         }
         self.older.remove(&id)
     }
