@@ -133,7 +133,6 @@ pub use Rattle.std.proofs.lemmas.Bool.{lt-ltb, ne_eqb, or_from}
 pub use Rattle.std.proofs.lemmas.Bool.Decides.{nat_tests}
 pub use Rattle.std.proofs.lemmas.List.{drop_all, length-append}
 pub use Rattle.std.proofs.lemmas.Result.{err_from_is_err_and}
-pub use Rattle.std.specs.Cmp.{nat_eq_equiv, unsigned_tied}
+pub use Rattle.std.specs.Cmp.{nat_eq_equiv}
 pub use Rattle.std.specs.List.{AllByRecursion, Contains, list_any}
-pub use Rattle.std.specs.Ordering.{is_eq, nat_cmp}
 pub use denote.Enum.Bare.{sameb}

@@ -8,6 +8,7 @@ use Names.{WasReportedReset, WasTooLarge, WasAnswered, AnswersAll, calm, ends_me
 use Names.{parts_on, MayReply, MayRespond, answer_to, body_of_parts, is_too_large_body, ◌≢◌}
 use Names.{◌⊎◌, Requests, RequestState, has_not_come, comes, was_answered, was_given_up}
 use Names.{KeepsRequests, IsToAnswer, request_at, end_with_said, at_once}
+use Rattle.h2_numbers.specs.Tables.{all_of}
 use Rattle.h2_engines.specs.ServerHistories.{AreOnce}
 use Rattle.h2_engines.proofs.SameRequests.{SameOn, same_on, stands_as}
 use Rattle.h2_engines.proofs.LinkInvariants.{holds_responding}
@@ -95,7 +96,7 @@ kept_reset {end} {id} keeps large =
     })) keeps.unanswered) (λ i other. same_on end after i refl refl (keeps_by_call _ _ Done))
 
 -- Of no requests nothing is kept.
-none_at : (requests : Requests) (id : ℕ) → requests.kept.entries ≡ []
+none_at : (requests : Requests) (id : ℕ) → all_of requests.kept ≡ []
     → request_at id requests ≡ None
 none_at requests id none = rw none refl
 
@@ -103,7 +104,7 @@ none_come : (values : Values) (id : ℕ) → RequestState (new_end_log Server va
 unfolding parts_on said_for
 none_come values id = has_not_come refl refl
 
-pub kept_none : (requests : Requests) → requests.kept.entries ≡ [] → (values : Values)
+pub kept_none : (requests : Requests) → all_of requests.kept ≡ [] → (values : Values)
     → KeepsRequests requests (new_end_log Server values)
 kept_none requests none values id = rw ((none_at requests id none)) (none_come values id)
 

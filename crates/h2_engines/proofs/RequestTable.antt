@@ -2,27 +2,22 @@
 use Rattle.h2_engines.proofs.Names.{◌≡◌, ℕ, Bool, true, List, Option, Some, None, ◌≤◌, length, ap}
 use Rattle.h2_engines.proofs.Names.{◌∙◌, inr, Request, Next, IsLonger, body_room, EndsKept}
 use Rattle.h2_engines.proofs.Names.{EndsRequest, AddsOctets, cond, Requests, ChangesAt, request_at}
-use Rattle.std.specs.BTreeMap.{is_at}
-use Rattle.std.specs.Map.{lookup}
-use Rattle.std.specs.Ordering.{nat_cmp, is_eq}
-use Rattle.h2_ends.proofs.TableSteps.{test_other, test_same}
+use Rattle.std.proofs.Common.{refl, sym, ne_eqb}
+use Rattle.std.proofs.lemmas.Bool.{eq-eqb}
+use Rattle.h2_numbers.specs.Entries.{SetsValue, value_at}
+use Rattle.h2_numbers.specs.Tables.{all_of}
 use Rattle.h2_engines.specs.declared.request.Next.TheVariants as nexts
 
--- other entries, with another one at a number
-abbrev pub HasEntry : ℕ → Option Request → (old new : List (ℕ × Request)) → Type 0
-HasEntry id now old new =
-    (q : ℕ) → lookup (is_at (nat_cmp q)) new
-    ≡ cond (is_eq (nat_cmp id q)) now (lookup (is_at (nat_cmp q)) old)
-
--- Such entries keep all but that one.
+-- Other entries with another one at a number keep all but that one.
 pub changes_one : (old new : Requests) (id : ℕ) (now : Option Request)
-    → HasEntry id now old.kept.entries new.kept.entries → ChangesAt old new id now
+    → SetsValue id now (all_of old.kept) (all_of new.kept) → ChangesAt old new id now
 changes_one old new id now changes =
     record {
       at = changes id
-          ∙ ap (λ (b : Bool). cond b now (request_at id old)) (test_same id);
+          ∙ ap (λ (b : Bool). cond b now (request_at id old)) (eq-eqb id id refl);
       others = λ i other. changes i
-          ∙ ap (λ (b : Bool). cond b now (request_at i old)) (test_other id i other);
+          ∙ ap (λ (b : Bool). cond b now (request_at i old))
+          (ne_eqb id i (λ same. other (sym same)));
     }
 
 -- What was changed twice at a number, was changed there.
@@ -36,12 +31,12 @@ changes_twice one two =
 
 -- Where nothing is kept, nothing changes.
 pub changes_none : (old new : Requests) (id : ℕ) → request_at id old ≡ None
-    → new.kept.entries ≡ old.kept.entries → ChangesAt old new id None
+    → all_of new.kept ≡ all_of old.kept → ChangesAt old new id None
 changes_none old new id none same =
     record {
-      at = ap (λ (entries : List (ℕ × Request)). lookup (is_at (nat_cmp id)) entries) same ∙ none;
+      at = ap (λ (entries : List (ℕ × Request)). value_at id entries) same ∙ none;
       others = λ i other.
-          ap (λ (entries : List (ℕ × Request)). lookup (is_at (nat_cmp i)) entries) same;
+          ap (λ (entries : List (ℕ × Request)). value_at i entries) same;
     }
 
 -- The last octets: the longer one is kept, and then taken out.

@@ -2,9 +2,8 @@
 use Rattle.std.specs.Prelude.{◌≡◌, ◌≢◌, ◌⊎◌, ◌<◌, ◌≤◌, ℕ, ◌-◌, Bool, true, false, List, [], ◌∷◌}
 use Rattle.std.specs.Prelude.{◌++◌, length, map as each, option_map, Option, Some, None}
 use Rattle.std.specs.List.{AllByRecursion, concat}
-use Rattle.std.specs.Map.{lookup}
-use Rattle.std.specs.Ordering.{nat_cmp}
-use Rattle.std.specs.BTreeMap.{is_at}
+use Rattle.h2_numbers.specs.Entries.{value_at}
+use Rattle.h2_numbers.specs.Tables.{all_of}
 use Rattle.hpack.specs.declared.types.field.Field.{Field}
 use Rattle.h2_spec_log.specs.Events.{ResetEvent}
 use Rattle.h2_message.specs.Messages.{first_broken, interim_rules}
@@ -24,7 +23,7 @@ use Rattle.h2_engines.specs.ClientHistories.{IsFetched}
 
 -- what is kept of the request on a stream
 abbrev pub request_at : ℕ → Requests → Option Request
-request_at id requests = lookup (is_at (nat_cmp id)) requests.kept.entries
+request_at id requests = value_at id (all_of requests.kept)
 
 -- The state of the request on a stream, and what is kept of it.
 pub data RequestState (end : EndLog) (id : ℕ) : Option Request → Type 0 where

@@ -2,6 +2,7 @@
 
 ghost use Rattle.std.specs.Prelude.{◌≡◌, ◌≤◌, [], IfOk, OnOk, length, true};
 ghost use Rattle.std.specs.Vec.{vec_capacity};
+ghost use Rattle.h2_numbers.specs.Tables.{all_of};
 ghost use Rattle.h2_message.specs.Fields.{value_or_nothing};
 ghost use Rattle.h2_message.specs.Messages.{plain_field};
 ghost use Rattle.h2_message.specs.Values.{message_value};
@@ -13,10 +14,10 @@ ghost use Rattle.h2_engines.specs.Rooms.{most_room};
 
 use h2_ends::{EndEvent, Field, FieldList, Message};
 use h2_frame::limits::GREATEST_BODY;
+use h2_numbers::NumberTable;
 use hpack::Octets;
 use itoa::Buffer;
 use std::alloc::{AllocError, Global};
-use std::collections::BTreeMap;
 
 /// How many octets of a body are reserved with its head, at most.
 const FIRST_ROOM: usize = 16_384;
@@ -56,7 +57,7 @@ pub(crate) enum Next {
 #[derive(Drop)]
 pub(crate) struct Requests {
     pub(crate) alloc: Global,
-    pub(crate) kept: BTreeMap<u32, Request>,
+    pub(crate) kept: NumberTable<Request>,
 }
 
 impl Request {
@@ -168,11 +169,11 @@ fn plain_field(name: &'static [u8], value: Octets) -> Field
 impl Requests {
     /// No requests.
     pub(crate) fn new(alloc: Global) -> Requests
-        ensures { result.kept.entries ≡ [] }
+        ensures { all_of result.kept ≡ [] }
     {
         Requests {
             alloc,
-            kept: BTreeMap::new(alloc),
+            kept: NumberTable::new(alloc),
         }
     }
 
@@ -189,17 +190,15 @@ impl Requests {
         match event {
             EndEvent::Head { id, list, end } => {
                 let request = Request::begin(self.alloc, list, end)?;
+                self.kept.remove(id);
                 if end {
-                    self.kept.remove(&id);
                     return Ok(Next::Answer { id, request });
                 }
                 self.kept.insert(id, request)?;
             }
             EndEvent::Body { id, bytes, end } => return self.add(id, bytes, end),
             EndEvent::Trailers { id, .. } => return Ok(self.end(id)),
-            EndEvent::Reset { id, .. } => {
-                self.kept.remove(&id);
-            }
+            EndEvent::Reset { id, .. } => self.kept.remove(id),
             _ => {}
         }
         Ok(Next::Again)
@@ -214,11 +213,11 @@ impl Requests {
         if end {
             return self.add_last(id, bytes);
         }
-        let Some(request) = self.kept.get_mut(&id) else {
+        let Some(request) = self.kept.get_mut(id) else {
             return Ok(Next::Again);
         };
         if bytes.len() > request.room() {
-            self.kept.remove(&id);
+            self.kept.remove(id);
             return Ok(Next::Reset { id });
         }
         request.extend(bytes)?;
@@ -231,7 +230,7 @@ impl Requests {
         ensures { IfOk result (λ next. AddsOctets self.old self.new id bytes.now true
             (request_at id self.old) next) }
     {
-        let Some(mut request) = self.kept.remove(&id) else {
+        let Some(mut request) = self.kept.take(id) else {
             return Ok(Next::Again);
         };
         if bytes.len() > request.room() {
@@ -246,7 +245,7 @@ impl Requests {
     fn end(&mut self, id: u32) -> Next
         ensures { EndsKept self.old self.new id (request_at id self.old) result }
     {
-        match self.kept.remove(&id) {
+        match self.kept.take(id) {
             Some(request) => Next::Answer { id, request },
             None => Next::Again,
         }

@@ -3,6 +3,7 @@
 ghost use Rattle.std.specs.Prelude.{◌≡◌, ◌≤◌, ◌<◌, ◌^◌, [], IfOk, IfErr, length, true};
 ghost use Rattle.h2_flow.specs.ConfigValues.{values_of};
 ghost use Rattle.h2_spec_log.specs.declared.role.Role.TheVariants as roles;
+ghost use Rattle.h2_numbers.specs.Tables.{all_of};
 ghost use Rattle.h2_ends.specs.Represents.{EndRepresents, new_end_log};
 ghost use Rattle.h2_engines.specs.Answers.{answer_with};
 ghost use Rattle.h2_engines.specs.Failures.{IsOfCall, IsOfServer};
@@ -41,7 +42,7 @@ impl Responder {
     pub fn new(alloc: Global, config: Config) -> Result<Responder, LinkError>
         ensures ok { IfOk result (λ responder. EndRepresents (values_of config)
             responder.server.end (new_end_log roles.Server (values_of config))) }
-        ensures requests { IfOk result (λ responder. responder.requests.kept.entries ≡ []) }
+        ensures requests { IfOk result (λ responder. all_of responder.requests.kept ≡ []) }
         ensures answered { IfOk result (λ responder. responder.answered ≡ 0) }
         ensures alone { IfOk result (λ responder. IsServingAlone (values_of config) responder
             (new_end_log roles.Server (values_of config))) }

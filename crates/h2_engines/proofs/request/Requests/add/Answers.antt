@@ -1,7 +1,7 @@
 -- The octets are added to what is kept.
 use Rattle.h2_engines.proofs.Names.{ℕ, ap, sym, Some, None, refl, inl, inr, arith, Request}
 use Rattle.h2_engines.proofs.Names.{AddsOctets, EndsRequest, Requests}
-use Rattle.std.specs.BTreeMap.{BTreeMap}
+use Rattle.h2_numbers.specs.Tables.{TableEntries, all_of}
 use Rattle.std.specs.Option.{is_some}
 use Rattle.h2_engines.proofs.RequestTable.{changes_one, changes_none, changes_twice}
 use Rattle.h2_engines.proofs.request.Requests.add.Goals as goal
@@ -16,7 +16,8 @@ returns-in_default c =
     rw none (
       refl,
       changes_none c.args.self.now _ c.args.id none
-          (ap (λ (map : BTreeMap ℕ Request). map.entries) c.get_mut.follows.holds-at-none),
+          (ap (λ (table : TableEntries Request). all_of table)
+          c.get_mut.follows.holds-at-none),
     )
 
 pub returns-then-bytes-room : goal.returns-then-bytes-room
@@ -30,8 +31,8 @@ returns-then-bytes-room c =
       refl,
       changes_twice
           (changes_one c.args.self.now before c.args.id (Some request)
-          ((c.get_mut.follows.holds request).3 (ap is_some found)).0)
-          (changes_one before _ c.args.id None c.remove.ensures.updates.0),
+          ((c.get_mut.follows.holds request).changes (ap is_some found)))
+          (changes_one before _ c.args.id None c.remove.ensures.updates),
     ))
 
 pub returns : goal.returns
@@ -48,7 +49,7 @@ returns c =
         (
           refl,
           changes_one c.args.self.now next c.args.id (Some longer)
-              ((c.get_mut.follows.holds longer).3 (ap is_some found)).0,
+              ((c.get_mut.follows.holds longer).changes (ap is_some found)),
         ),
       ),
     ))

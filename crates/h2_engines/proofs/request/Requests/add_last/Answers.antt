@@ -7,7 +7,7 @@ pub returns-in_default : goal.returns-in_default
 unfolding AddsOctets
 returns-in_default c =
     rw (sym c.in_default.ensures.value)
-    (refl, changes_one c.args.self.now _ c.args.id None c.remove.ensures.updates.0)
+    (refl, changes_one c.args.self.now _ c.args.id None c.take.ensures.updates)
 
 pub returns-then-bytes-room : goal.returns-then-bytes-room
 unfolding AddsOctets
@@ -15,7 +15,7 @@ returns-then-bytes-room c =
     rw (sym c.in-Some.ensures.value) (inl (
       omega (arith, c.room.ensures),
       refl,
-      changes_one c.args.self.now _ c.args.id None c.remove.ensures.updates.0,
+      changes_one c.args.self.now _ c.args.id None c.take.ensures.updates,
     ))
 
 pub returns : goal.returns
@@ -26,6 +26,6 @@ returns c =
       (
         c.extend.new.self,
         c.in_ok-extend.ensures,
-        (refl, changes_one c.args.self.now _ c.args.id None c.remove.ensures.updates.0),
+        (refl, changes_one c.args.self.now _ c.args.id None c.take.ensures.updates),
       ),
     ))

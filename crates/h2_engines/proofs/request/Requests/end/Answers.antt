@@ -7,10 +7,10 @@ pub returns-in-Some : goal.returns-in-Some
 unfolding EndsKept EndsRequest
 returns-in-Some c =
     rw (sym c.in-Some.ensures.value)
-    (refl, changes_one c.args.self.now _ c.args.id None c.remove.ensures.updates.0)
+    (refl, changes_one c.args.self.now _ c.args.id None c.take.ensures.updates)
 
 pub returns-in-None : goal.returns-in-None
 unfolding EndsKept
 returns-in-None c =
     rw (sym c.in-None.ensures.value)
-    (refl, changes_one c.args.self.now _ c.args.id None c.remove.ensures.updates.0)
+    (refl, changes_one c.args.self.now _ c.args.id None c.take.ensures.updates)

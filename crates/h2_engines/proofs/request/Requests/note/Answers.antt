@@ -18,7 +18,7 @@ returns-then-end c =
     rw (c.in-Head.is, c.if-end.true) (
       c.in_ok-request-in-Head.request,
       c.in_ok-request-in-Head.ensures,
-      (refl, changes_one c.args.self.now _ c.in-Head.id None c.remove.ensures.updates.0),
+      (refl, changes_one c.args.self.now _ c.in-Head.id None c.remove.ensures.updates),
     )
 
 pub returns-in-Body : goal.returns-in-Body
@@ -40,7 +40,7 @@ returns c =
             (
               refl,
               changes_one c.args.self.now _ w.in-Head.id (Some w.in_ok-request-in-Head.request)
-                  w.in_ok-insert-in-Head.ensures.updates.0,
+                  w.in_ok-insert-in-Head.ensures.updates,
             ),
           )
       | in-Head+in_ok-request-in-Head+else-end+in_ok-insert-in-Head+in-None-1 w ↦
@@ -50,18 +50,18 @@ returns c =
             (
               refl,
               changes_one c.args.self.now _ w.in-Head.id (Some w.in_ok-request-in-Head.request)
-                  w.in_ok-insert-in-Head.ensures.updates.0,
+                  w.in_ok-insert-in-Head.ensures.updates,
             ),
           )
       | in-Reset+in-Some-1 w ↦ rw (w.self-is, w.in-Reset.is) (
         refl,
         changes_one c.args.self.now _
-            w.in-Reset.id None w.remove-in-Reset.ensures.updates.0,
+            w.in-Reset.id None w.remove-in-Reset.ensures.updates,
       )
       | in-Reset+in-None-1 w ↦ rw (w.self-is, w.in-Reset.is) (
         refl,
         changes_one c.args.self.now _
-            w.in-Reset.id None w.remove-in-Reset.ensures.updates.0,
+            w.in-Reset.id None w.remove-in-Reset.ensures.updates,
       )
       | in_default w ↦ rw w.self-is (notes_other c.args.self.now c.args.event w.in_default.not-Head
           w.in_default.not-Body w.in_default.not-Trailers w.in_default.not-Reset)
