@@ -64,7 +64,8 @@ record HasTaken (values : Values) (message : SentMessage) (start now : Traffic)
       ≡ handed_on fetch.id before.handed ++ answered fetch.id part
 
 -- The rest of a piece is a list of its own.
-takes_rest : (old new : End) (id : ℕ) (piece : List ℕ) (used : ℕ) (result : Result PartTaken LinkError)
+takes_rest : (old new : End) (id : ℕ) (piece : List ℕ) (used : ℕ)
+    (result : Result PartTaken LinkError)
     → TakesPartOnce old new id (take (length piece - used) (drop used piece)) result
     → TakesPartOnce old new id (drop used piece) result
 takes_rest old new id piece used result part =
@@ -99,7 +100,8 @@ module _ {values : Values} {message : SentMessage} {start now : Traffic} {old : 
               (took_links (given_within is.represents) is.linked first.uses first.says.0);
         };
         turns = turns_of_take may;
-        handed = rw stream (hands_on old.id taken.used so.0 (part_in taken.next) end.handed says.handed so.2);
+        handed = rw stream (hands_on old.id taken.used so.0
+            (part_in taken.next) end.handed says.handed so.2);
       }
 
 -- Why a client has taken its last octets, by what `take` has answered, and which parts are lost.

@@ -28,7 +28,8 @@ pub refill_unsent : (before now : Traffic) (old new : PartFetch) (error : LinkEr
     → Refills before now old new (Err error)
 unfolding RefilledSo
 refill_unsent before now old new error stream writing sends values message start end is empty =
-    let sent = sends values message start end (octets_unused old) is.represents is.fetching is.linked
+    let sent = sends values message start end (octets_unused old) is.represents is.fetching
+    is.linked
     is.up in (
       sent.after,
       sent.same.handed,
@@ -80,7 +81,8 @@ module _ (before middle : Traffic) (now : Traffic) (old new : PartFetch) (done :
                 ∙ ap (said_for old.id) sent.same.accepted ∙ is.accepted;
             up = sent.same.failed ∙ is.up;
             linked = record {
-              given = gives_more start middle now sent.after.log (octets_unused new) linked.given gives;
+              given = gives_more start middle now sent.after.log
+                  (octets_unused new) linked.given gives;
               taken = takes_none start middle now _ linked.taken gone;
             };
           },
@@ -108,7 +110,12 @@ module _ (before middle : Traffic) (now : Traffic) (old new : PartFetch) (done :
                 ∙ ap (said_for old.id) sent.same.accepted ∙ is.accepted;
             linked = all_in_part
                 (record { given = given; taken = takes_none start middle now _ linked.taken gone });
-            so = (up, given, takes_none start middle now _ sent.taken.taken gone, sent.taken.returned up);
+            so = (
+              up,
+              given,
+              takes_none start middle now _ sent.taken.taken gone,
+              sent.taken.returned up,
+            );
           },
         )
 

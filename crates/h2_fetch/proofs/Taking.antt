@@ -70,7 +70,8 @@ answered id None = []
 answered id (Some part) = handed_of id part ∷ []
 
 pub hands_on : (id count : ℕ) (handed : Option Handed) (part : Option ResponsePart)
-    (before : List Handed) {after : List Handed} → after ≡ handed_after (EndTook count handed) before
+    (before : List Handed) {after : List Handed} → after ≡ handed_after
+    (EndTook count handed) before
     → HandsPart id handed part → handed_on id after ≡ handed_on id before ++ answered id part
 hands_on id count None None before same hands =
     ap (handed_on id) same ∙ sym (append-nil (handed_on id before))

@@ -12,7 +12,7 @@ ghost use Rattle.h2_fetch.specs.Takes.{TakesPartOnce, part_in};
 use crate::errors::{error_of_refusal, unless_failed};
 use crate::part::{ResponsePart, part_of};
 use crate::sending::{send_all, write_out};
-use h2_ends::{Client, Code, Config, EndEvent, EndRefusal, Message, Refusal};
+use h2_ends::{Client, Code, Config, Conn, EndEvent, EndRefusal, Message, Refusal};
 use h2_link::{Link, LinkError};
 use std::alloc::Global;
 
@@ -55,7 +55,8 @@ pub(crate) enum PartNext {
 }
 
 impl PartFetch {
-    ghost use Rattle.h2_fetch.specs.Comings.{AnswersNext, BeginsFetch, EndsSo, Refills, TakesUntilPart};
+    ghost use Rattle.h2_fetch.specs.Comings.{AnswersNext, BeginsFetch, EndsSo, Refills};
+    ghost use Rattle.h2_fetch.specs.Comings.{TakesUntilPart};
 
     // rule: engines (own) N7 comes only where the message breaks a rule or is too large
     /// A new one, whose opening and the head of the request wait.
@@ -85,6 +86,13 @@ impl PartFetch {
             Err((_, EndRefusal::Conn(Refusal::ListTooLarge))) => Err(LinkError::Refused),
             Err((_, refusal)) => Err(error_of_refusal(refusal)),
         }
+    }
+
+    /// Its connection, for what that answers of itself, as why it has failed. It takes no memory.
+    pub fn conn(&self) -> &Conn
+        ensures { result.now ≡ self.now.client.end.conn }
+    {
+        self.client.conn()
     }
 
     // contract: engines (own) A response in parts is what is handed out, in order
@@ -164,7 +172,8 @@ impl PartFetch {
         Ok(())
     }
 
-    /// How a fetch ends that can't go on. Where the connection has failed, all that waits is written.
+    /// How a fetch ends that can't go on. Where the connection has failed, all that waits is
+    /// written.
     fn end_early<L: Link>(&mut self, link: &mut L, error: LinkError) -> LinkError
         requires fits { L.faults link.old < 2 ^ 64 - 1 }
         requires is { IsOfClient error }

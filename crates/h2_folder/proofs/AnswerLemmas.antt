@@ -37,7 +37,8 @@ refused_if : {F : Type 0} (m : Method) (read : Result (List (List ℕ)) PathFaul
     → IsShortAnswer (status_of_fault fault) (has_content m) answered
     → AnswersMethod (Some m) read asked answered
 refused_if m read asked faults.TooLong answered is short = faulty m read asked _ answered is short
-refused_if m read asked faults.NotAbsolute answered is short = faulty m read asked _ answered is short
+refused_if m read asked faults.NotAbsolute answered is short =
+    faulty m read asked _ answered is short
 refused_if m read asked faults.BadEscape answered is short = faulty m read asked _ answered is short
 refused_if m read asked faults.Control answered is short = faulty m read asked _ answered is short
 refused_if m read asked faults.NotText answered is short = faulty m read asked _ answered is short
@@ -100,7 +101,8 @@ some_file method names asked length modified now version kind date stated answer
         last,
         subst (λ (v : Validators). AnswersFile (file_answer v method asked) method v
             (kind_of_names names) date stated answered) is
-            (subst (λ (k : List ℕ). AnswersFile (file_answer version method asked) method version k date
+            (subst (λ (k : List ℕ). AnswersFile
+            (file_answer version method asked) method version k date
             stated answered) named answers),
       ),
     )

@@ -8,7 +8,8 @@ ghost use Rattle.h2_message.specs.Values.{message_value};
 ghost use Rattle.h2_files.specs.Tags.{validators_of};
 ghost use Rattle.h2_folder.specs.Heads.{file_head, head_with, method_message, phrase_or_nothing};
 ghost use Rattle.h2_folder.specs.Heads.{reason_if, short_message, short_text, text_message};
-ghost use Rattle.h2_folder.specs.Heads.{octets_of_part, unsatisfied_message, with_content, head_and_field};
+ghost use Rattle.h2_folder.specs.Heads.{octets_of_part, unsatisfied_message, with_content};
+ghost use Rattle.h2_folder.specs.Heads.{head_and_field};
 ghost use Rattle.h2_folder.specs.Heads.{head_and_field_if, with_part, with_version};
 
 use h2_files::{Answer, Version, content_range, unsatisfied_range};

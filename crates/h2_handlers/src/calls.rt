@@ -27,8 +27,8 @@ impl<W: Drop, H: Handler<Work = W>> Handled<H, W> {
         ensures handles { Handles (relations H.heads H.bodies H.trails H.gives H.ends)
             self.old.server.end (handling_of self.old.exchanges) self.new.server.end
             (handling_of self.new.exchanges) }
-        ensures answers { EndAnswers self.old.server.end SendGoAway (answer_by (λ done. Done) result)
-            self.new.server.end }
+        ensures answers { EndAnswers self.old.server.end SendGoAway
+            (answer_by (λ done. Done) result) self.new.server.end }
         ensures exchanges { self.new.exchanges ≡ self.old.exchanges }
     {
         self.server.go_away()

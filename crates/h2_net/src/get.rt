@@ -91,8 +91,8 @@ fn address_of(location: &Location) -> (&str, u16)
     (location.host.as_str(), location.port)
 }
 
-/// Makes a request over a link, as [`fetch_link`] does, and sends all that is held for it. Where the
-/// fetch fails the hint says what is likely the cause.
+/// Makes a request over a link, as [`fetch_link`] does, and sends all that is held for it. Where
+/// the fetch fails the hint says what is likely the cause.
 fn fetch_with_hint<S: Read + WriteParts + OpenStream>(
     alloc: Global,
     link: &mut StreamLink<S>,

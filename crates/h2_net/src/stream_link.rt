@@ -5,7 +5,8 @@ ghost use Rattle.std.specs.Prelude.{OnOk};
 ghost use Rattle.std.specs.Prelude.{true, false};
 ghost use Rattle.std.specs.Io.KnownBytes.{Appends};
 ghost use Rattle.std.specs.Io.Slices.{io_slices_bytes};
-ghost use Rattle.h2_link.specs.Links.{failures_after, ended_after, stalled_after, Gives, Takes, TakesFirst};
+ghost use Rattle.h2_link.specs.Links.{failures_after, ended_after, stalled_after, Gives, Takes};
+ghost use Rattle.h2_link.specs.Links.{TakesFirst};
 ghost use Rattle.h2_net.specs.StreamLinks.{octets_passed, SendsThrough, ReadsThrough};
 ghost use Rattle.h2_net.specs.StreamLinks.{KeepsRead};
 

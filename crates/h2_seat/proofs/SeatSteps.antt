@@ -66,7 +66,8 @@ module _ {H W : Type 0} {rel : Relations H W} where
   }
 
 -- It goes on, or can't, and so again.
-pub goes_on_then : (one two three : Phase) → IsUpOrStopped one two → IsUpOrStopped two three → IsUpOrStopped one three
+pub goes_on_then : (one two three : Phase) → IsUpOrStopped one two → IsUpOrStopped two three →
+    IsUpOrStopped one three
 goes_on_then one two three (inl first) (inl second) = inl (second ∙ first)
 goes_on_then one two three (inr first) (inl second) = inr (rw second first)
 goes_on_then one two three first (inr second) = inr second

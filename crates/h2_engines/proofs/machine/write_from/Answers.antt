@@ -35,7 +35,8 @@ pub returns-clause-takes : goal.returns-clause-takes
 returns-clause-takes g c =
     takes_part _ _ (drop c.args.at (octets_queued c.args.conn.now)) _ c.write_parts.result
     (slices_four (octets_queued c.args.conn.now) c.args.at _ _ _ _ _ _ _ c.new.result
-    c.new-2.result c.new-3.result c.new-4.result c.new.ensures c.new-2.ensures c.new-3.ensures c.new-4.ensures refl refl refl
+    c.new-2.result c.new-3.result c.new-4.result c.new.ensures c.new-2.ensures c.new-3.ensures
+    c.new-4.ensures refl refl refl
     c.waiting_from-first.ensures.part c.waiting_from-second.ensures.part
     c.waiting_from-third.ensures.part c.waiting_from-fourth.ensures.part)
     c.write_parts.ensures.takes

@@ -24,7 +24,8 @@ returns-in_err-unless_refused-clause-writes g c values message start end unused 
     let answer = err_from_is_err_and c.from_residual.result c.from_residual.ensures.1 in
     let (refused, refusal, same, made, ends) = c.in_err-unless_refused.ensures.err in
     rw (answer.1, answer.2) (writes_refused (IsFetching values message) puts_at
-    (c.loop.invariant.writes values message start end unused is was linked) new 0 refused (omega arith)
+    (c.loop.invariant.writes values message start end unused is was linked) new 0 refused
+    (omega arith)
     (rw same at c.ready.ensures.answers) (ends ∙ ap error_after made))
 
 pub returns-then-waiting-eq0-clause-writes : goal.returns-then-waiting-eq0-clause-writes
@@ -50,7 +51,8 @@ returns-in_err-written g c =
     at c.write_waiting-written.ensures.writes in
     let some = written_some _ _ _ _ _ _ written in
     rw (answer.1, answer.2) (record {
-      writes = λ values message start end unused is was linked. writes_lent_first (IsFetching values message)
+      writes = λ values message start end unused is was linked. writes_lent_first
+          (IsFetching values message)
           puts_at now c.ready.new.self.end
           c.consume-consumed.new.self.end
           (c.loop.invariant.writes values message start end unused is was linked)
@@ -89,7 +91,8 @@ loop-preserved g c =
     at c.write_waiting-written.ensures.writes in
     record {
       failures = written.1 ∙ c.loop.invariant.failures;
-      writes = λ values message start end unused is was linked. writes_lent (IsFetching values message)
+      writes = λ values message start end unused is was linked. writes_lent
+          (IsFetching values message)
           puts_at now c.ready.new.self.end
           c.consume-consumed.new.self.end
           (c.loop.invariant.writes values message start end unused is was linked)

@@ -1,5 +1,5 @@
 -- The octets are added to what is kept.
-use Rattle.h2_engines.proofs.Names.{ℕ, ap, sym, Some, None, refl, inl, inr, arith, Request}
+use Rattle.h2_engines.proofs.Names.{ap, sym, Some, None, refl, inl, inr, arith, Request}
 use Rattle.h2_engines.proofs.Names.{AddsOctets, EndsRequest, Requests}
 use Rattle.h2_numbers.specs.Tables.{TableEntries, all_of}
 use Rattle.std.specs.Option.{is_some}

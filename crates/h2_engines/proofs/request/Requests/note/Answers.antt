@@ -1,16 +1,12 @@
 -- What was handed out of a request is kept.
 use Rattle.h2_engines.proofs.Names.{None, Some, refl, EndsRequest, NotesHanded}
 use Rattle.h2_engines.proofs.NoteOne.{notes_other}
-use Rattle.h2_engines.proofs.RequestTable.{changes_one}
-use Rattle.h2_engines.proofs.request.Requests.note.Goals.{in-Reset+in-Some-1, in-Reset+in-None-1}
-use Rattle.h2_engines.proofs.request.Requests.note.Goals.{in_default}
+use Rattle.h2_engines.proofs.RequestTable.{changes_one, changes_twice}
+use Rattle.h2_engines.proofs.request.Requests.note.Goals.{in-Reset, in_default}
+use Rattle.h2_engines.proofs.request.Requests.note.Goals.{
+  in-Head+in_ok-request-in-Head+else-end+in_ok-insert-in-Head,
+}
 use Rattle.h2_engines.proofs.request.Requests.note.Goals as goal
-use Rattle.h2_engines.proofs.request.Requests.note.Goals.{
-  in-Head+in_ok-request-in-Head+else-end+in_ok-insert-in-Head+in-Some-1,
-}
-use Rattle.h2_engines.proofs.request.Requests.note.Goals.{
-  in-Head+in_ok-request-in-Head+else-end+in_ok-insert-in-Head+in-None-1,
-}
 
 pub returns-then-end : goal.returns-then-end
 unfolding NotesHanded EndsRequest
@@ -33,32 +29,21 @@ pub returns : goal.returns
 unfolding NotesHanded EndsRequest
 returns c =
     elim c.match-event.branch [
-      | in-Head+in_ok-request-in-Head+else-end+in_ok-insert-in-Head+in-Some-1 w ↦
+      | in-Head+in_ok-request-in-Head+else-end+in_ok-insert-in-Head w ↦
           rw (w.self-is, w.in-Head.is, w.if-end.false) (
             w.in_ok-request-in-Head.request,
             w.in_ok-request-in-Head.ensures,
             (
               refl,
-              changes_one c.args.self.now _ w.in-Head.id (Some w.in_ok-request-in-Head.request)
-                  w.in_ok-insert-in-Head.ensures.updates,
+              changes_twice (changes_one c.args.self.now
+                  (record c.args.self.now { kept = w.remove.new.self }) w.in-Head.id None
+                  w.remove.ensures.updates)
+                  (changes_one (record c.args.self.now { kept = w.remove.new.self }) _ w.in-Head.id
+                  (Some w.in_ok-request-in-Head.request)
+                  w.in_ok-insert-in-Head.ensures.updates),
             ),
           )
-      | in-Head+in_ok-request-in-Head+else-end+in_ok-insert-in-Head+in-None-1 w ↦
-          rw (w.self-is, w.in-Head.is, w.if-end.false) (
-            w.in_ok-request-in-Head.request,
-            w.in_ok-request-in-Head.ensures,
-            (
-              refl,
-              changes_one c.args.self.now _ w.in-Head.id (Some w.in_ok-request-in-Head.request)
-                  w.in_ok-insert-in-Head.ensures.updates,
-            ),
-          )
-      | in-Reset+in-Some-1 w ↦ rw (w.self-is, w.in-Reset.is) (
-        refl,
-        changes_one c.args.self.now _
-            w.in-Reset.id None w.remove-in-Reset.ensures.updates,
-      )
-      | in-Reset+in-None-1 w ↦ rw (w.self-is, w.in-Reset.is) (
+      | in-Reset w ↦ rw (w.self-is, w.in-Reset.is) (
         refl,
         changes_one c.args.self.now _
             w.in-Reset.id None w.remove-in-Reset.ensures.updates,

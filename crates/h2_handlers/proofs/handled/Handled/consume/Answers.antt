@@ -3,4 +3,5 @@ use Rattle.h2_handlers.proofs.StepsMade.{called_handles}
 use Rattle.h2_handlers.proofs.handled.Handled.consume.Goals as goal
 
 pub returns-clause-handles : goal.returns-clause-handles
-returns-clause-handles g c = called_handles (handling_of c.args.self.now.exchanges) c.consume.ensures.answers
+returns-clause-handles g c = called_handles (handling_of c.args.self.now.exchanges)
+    c.consume.ensures.answers

@@ -5,4 +5,5 @@ pub returns-in-Err-clause-handles : goal.returns-in-Err-clause-handles
 returns-in-Err-clause-handles g c = seat_so_then c.stop.ensures.handles c.take_some.ensures.handles
 
 pub returns-then-is_err-clause-handles : goal.returns-then-is_err-clause-handles
-returns-then-is_err-clause-handles g c = seat_so_then c.refuse.ensures.handles c.take_some.ensures.handles
+returns-then-is_err-clause-handles g c = seat_so_then c.refuse.ensures.handles
+    c.take_some.ensures.handles

@@ -6,4 +6,5 @@ pub returns-then-not-matches-clause-handles : goal.returns-then-not-matches-clau
 returns-then-not-matches-clause-handles g c = seat_same _ _ refl
 
 pub returns-then-is_err-clause-handles : goal.returns-then-is_err-clause-handles
-returns-then-is_err-clause-handles g c = seat_so_then c.fail.ensures.handles c.go_away.ensures.handles
+returns-then-is_err-clause-handles g c = seat_so_then c.fail.ensures.handles
+    c.go_away.ensures.handles

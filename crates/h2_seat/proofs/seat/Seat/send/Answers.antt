@@ -15,4 +15,5 @@ returns-then-is_err-clause-handles g c =
     (then_handles c.send_some.ensures.handles c.ready.ensures.handles)
 
 pub returns-else-is_err-clause-handles : goal.returns-else-is_err-clause-handles
-returns-else-is_err-clause-handles g c = seat_so (then_handles c.send_some.ensures.handles c.ready.ensures.handles)
+returns-else-is_err-clause-handles g c = seat_so
+    (then_handles c.send_some.ensures.handles c.ready.ensures.handles)
