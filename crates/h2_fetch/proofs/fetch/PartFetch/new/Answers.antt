@@ -2,6 +2,7 @@
 use Rattle.h2_engines.proofs.Names.{◌≡◌, rules, Malformed, message_value, error_after, ◌≢◌}
 use Rattle.h2_engines.proofs.FetcherStart.{refused_as_broken, refused_as_large}
 use Rattle.h2_engines.proofs.FetcherStart.{refused_otherwise}
+use Rattle.h2_engines.proofs.ResponderFaults.{call_ends_client}
 use Rattle.h2_fetch.proofs.Beginning.{begins_fetch}
 use Rattle.h2_spec_log.specs.declared.refusal.Refusal.TheVariants as reasons
 use Rattle.h2_ends.specs.declared.refusal.EndRefusal.TheVariants as refusals
@@ -38,3 +39,7 @@ returns-clause-refused c =
     let ends : c.error_of_refusal.result ≡ error_after c.in-Err.refusal = search rules in
     refused_otherwise (message_value c.args.message) c.request.new.self.end c.in-Err.field-0-0
     c.in-Err.refusal c.in-Ok.ensures.ok kept small ends c.in-Err.ensures
+
+pub returns-clause-err : goal.returns-clause-err
+returns-clause-err c =
+    call_ends_client c.error_of_refusal.result c.error_of_refusal.ensures.kind
