@@ -1,13 +1,14 @@
 //! Values by the numbers of streams.
 
-ghost use Rattle.std.specs.Prelude.{◌≡◌, []};
-ghost use Rattle.h2_numbers.specs.Tables.{all_of};
-
 use h2_numbers::{NumberMap, NumberTable};
 
 // Whether these values are at 1, 3 and 5.
 fn has(map: &NumberMap<u8>, values: [Option<u8>; 3]) -> bool {
-    [map.get(1).copied(), map.get(3).copied(), map.get(5).copied()] == values
+    [
+        map.get(1).copied(),
+        map.get(3).copied(),
+        map.get(5).copied(),
+    ] == values
 }
 
 // Changes the value at a number, if there is one.
@@ -62,17 +63,37 @@ fn a_value_is_taken_out_at_its_number(rt: HostRuntime) {
     assert!(rt; puts(&mut map) && takes_out(&mut map) && map.next_above(5).is_none());
 }
 
-// Whether a table keeps apart what was put in last.
-fn keeps_newest(table: &mut NumberTable<u8>) -> bool
-    requires { all_of table.old ≡ [] }
-{
-    table.insert(1, 10).is_ok()
+// Puts a value at a number that has none.
+fn puts_new(table: &mut NumberTable<u8>, id: u32, value: u8) -> bool {
+    table.get(id).is_none() && table.insert(id, value).is_ok()
+}
+
+// Whether a table keeps apart what was put in last, and has what was put in before it.
+fn keeps_newest(table: &mut NumberTable<u8>) -> bool {
+    puts_new(table, 1, 10)
         && table.newest() == Some(&10)
         && table.newest_number() == 1
         && table.older().is_empty()
+        && puts_new(table, 3, 30)
+        && table.newest() == Some(&30)
+        && table.older().get(&1) == Some(&10)
 }
 
 #[test]
 fn the_newest_value_lies_apart(rt: HostRuntime) {
     assert!(rt; keeps_newest(&mut NumberTable::new(rt.alloc())));
+}
+
+// Whether the newest value is taken out, and then one that was put in before it.
+fn gives_back(table: &mut NumberTable<u8>) -> bool {
+    table.take(3) == Some(30)
+        && table.newest().is_none()
+        && table.take(1) == Some(10)
+        && table.take(1).is_none()
+}
+
+#[test]
+fn a_value_that_is_taken_is_answered(rt: HostRuntime) {
+    let mut table = NumberTable::new(rt.alloc());
+    assert!(rt; keeps_newest(&mut table) && gives_back(&mut table));
 }

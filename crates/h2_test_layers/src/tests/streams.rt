@@ -300,6 +300,9 @@ const ORDER: &[Step] = &[
     Step::Next(11, Some(u32::MAX)),
     Step::Next(u32::MAX - 1, Some(u32::MAX)),
     Step::Next(u32::MAX, None),
+    Step::Open(7, OPENED),
+    Step::Next(3, Some(7)),
+    Step::Next(7, Some(11)),
 ];
 
 // rule: 5.1 (own) The next active stream is the least above a number
