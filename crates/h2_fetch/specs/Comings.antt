@@ -60,8 +60,8 @@ StopsFor start now end id errors.Memory = IsOutOfMemory end.log
 StopsFor start now end id errors.Device = Unit {0}
 StopsFor start now end id errors.Refused = ⊥
 
--- The fetch has ended early, with this error: the octets that the client has used are the first that
--- the link gave, and the link took the first of its output.
+-- The fetch has ended early, with this error: the octets that the client has used are the first
+-- that the link gave, and the link took the first of its output.
 -- rule: engines (own) A response in parts is what is handed out, in order
 pub record HasStopped (values : Values) (message : SentMessage) (start now : Traffic)
     (fetch : PartFetch) (end : EndLog) (error : LinkError) : Type 0 where
