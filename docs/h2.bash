@@ -12,7 +12,7 @@ _h2() {
             'replay --as') words='client server' ;;
             'replay '*) words='--hex --as --messages --help' ;;
             'serve '*) words='--help' ;;
-            'get '*) words='--include --header --request --data --fail --port --help' ;;
+            'get '*) words='--include --header --request --data --fail --port --output --stream --help' ;;
             'loop '*) words='--each-way --help' ;;
         esac
     fi
