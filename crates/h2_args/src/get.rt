@@ -140,10 +140,11 @@ and has no clocks: it waits for a server that stays idle.
 
 Without --output and --stream the body is kept until the response is complete,
 and nothing is printed of one that isn't. With either the body goes out as it
-comes, and little of it is kept: where the response is reset or cut off, what
-came before stands in the file or was printed. A file is made, or emptied where
-it is there, once the response's head has come, and not where --fail makes it a
-failure; then no more of the response is fetched either.
+comes, with both into the file, and little of it is kept: where the response is
+reset or cut off, what came before stands in the file or was printed. A file is
+made, or emptied where it is there, once the response's head has come, and not
+where --fail makes it a failure; then no more of the response is fetched either.
+A FILE of - is a file of that name.
 
 The URL has the scheme http, a host, and a port of 1 to 65535, unless --port
 names one; a user's name is refused, and a fragment is dropped.
@@ -167,7 +168,7 @@ Exit status (the lines in backquotes are on standard error):
   2  wrong arguments, or a URL that can't be fetched
      `N7 Refused`: the request breaks a rule, or its fields are too many
   3  `N1 Device`: no connection can be made, or a read or a write failed, of
-     the file of --output too, which the hint names
+     the files of --data and --output too, which a hint names
      `N5 NoProgress`: a write took nothing
   4  `N3 Memory`: out of memory
 

@@ -96,8 +96,7 @@ request_asked words body location = record {
 }
 
 -- whether a field is named `host`: in a request of HTTP/2 that is `:authority`, which the URL
--- gives,
--- and the two must not differ (RFC 9113, section 8.3.1)
+-- gives, and the two must not differ (RFC 9113, section 8.3.1)
 -- rule: engines (own) The words of get make its request and say what is printed
 abbrev pub has_host : List Field → Bool
 has_host fields = list_any (λ field. bytes_eq field.name (codes "host")) fields

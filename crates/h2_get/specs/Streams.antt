@@ -50,8 +50,7 @@ abbrev pub body_shown : GetWords → List ℕ → List ℕ
 body_shown words octets = if is_some words.output then [] else octets
 
 -- The rest of a response ends it: it was whole with its head, and nothing came; or its body ends,
--- or
--- its trailers came.
+-- or its trailers came.
 abbrev pub IsWholeWith : (id : ℕ) → (was_whole : Bool) → (came : List Handed)
     → Option (List Field) → Type 0
 IsWholeWith id true came trailers = (came ≡ []) × (trailers ≡ None)
@@ -124,9 +123,8 @@ pub record ShowsFailure (words : GetWords) (id : ℕ) (before after : Option (Li
   pub head : HeadCame id handed (record { list = fetched.head; end = end })
   pub first : PrintsHead words before after fetched.head.items
 
--- what is said of the response once it was printed as it came; where something could not be
--- written,
--- only what has been written of its body
+-- what is said of the response once it was printed as it came; of what was printed nothing, where
+-- something could not be written
 -- rule: engines (own) get -o and --stream write the body as it comes, in order
 unfoldable pub StreamedSo : GetWords → (id : ℕ) → Values → SentMessage → (start now : Traffic)
     → PartFetch → EndLog → (before after : Option (List ℕ)) → Result Fetched StreamError → Type 0

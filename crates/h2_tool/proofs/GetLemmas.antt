@@ -157,15 +157,15 @@ get_ends_early words remaining before errors.Refused gets = inr (record {
 })
 
 -- So `get` ends with what came of its fetch.
-pub gets_so : (words : GetWords) (before after : Option (List ℕ)) (got : Result Fetched LinkError)
-    (status : Status) → GetsAsked words got → EndsWithFetch words got before after status
-    → GetsSo words before after status
-gets_so words before after (Ok fetched) Good gets prints = (fetched, gets, prints)
-gets_so words before after (Ok fetched) Fault gets prints = inr (fetched, gets, prints)
-gets_so words before after (Ok fetched) Usage gets so = absurd (cc)
-gets_so words before after (Ok fetched) Device gets so = inr (inr (inr (fetched, gets)))
-gets_so words before after (Ok fetched) Memory gets so = absurd (cc)
-gets_so words before after (Err error) status gets so =
+pub gets_so : (words : GetWords) (remaining before after : Option (List ℕ))
+    (got : Result Fetched LinkError) (status : Status) → GetsAsked words remaining got
+    → EndsWithFetch words got before after status → GetsSo words remaining before after status
+gets_so words remaining before after (Ok fetched) Good gets prints = (fetched, gets, prints)
+gets_so words remaining before after (Ok fetched) Fault gets prints = inr (fetched, gets, prints)
+gets_so words remaining before after (Ok fetched) Usage gets so = absurd (cc)
+gets_so words remaining before after (Ok fetched) Device gets so = inr (inr (fetched, gets))
+gets_so words remaining before after (Ok fetched) Memory gets so = absurd (cc)
+gets_so words remaining before after (Err error) status gets so =
     rw (so.0, so.1) (get_ends_early words remaining before error gets)
 
 -- A response that is printed as it comes has ended early,

@@ -117,8 +117,7 @@ EndsWithFetch words (Err error) before after status =
     (status ≡ status_with error) × (after ≡ before)
 
 -- How `get` ends before it asks for anything: the URL can't be fetched, the body can't be read, or
--- no
--- request can be made.
+-- no request can be made.
 -- rule: engines (own) The words of get make its request and say what is printed
 abbrev pub AsksNothing : GetWords → (remaining before after : Option (List ℕ)) → Status → Type 0
 AsksNothing words remaining before after Usage =
@@ -192,8 +191,7 @@ EndsWithStream words (Err error) status = status ≡ Device
 
 -- How the fetch of a response that is printed as it comes ends: as any, but that what came before
 -- it has ended early was printed, or stands in the file; and with `Device` also where the file
--- can't
--- be written.
+-- can't be written.
 -- rule: engines (own) get -o and --stream write the body as it comes, in order
 abbrev pub StreamsSo : GetWords → (remaining before after : Option (List ℕ)) → Status → Type 0
 StreamsSo words remaining before after Good = StreamsResult words remaining before after false

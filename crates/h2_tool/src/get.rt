@@ -192,7 +192,7 @@ fn refuse_file<E: Write>(path: &str, err: &mut E) -> Status
     ensures { result ≡ Device }
 {
     // There is no place left to report that this write fails.
-    let _ = writeln!(err, "N1 Device\nhint: {path} can't be written");
+    let _ = writeln!(err, "N1 Device\nhint: file {path}: it can't be written");
     Status::Device
 }
 
