@@ -23,7 +23,7 @@ use Rattle.h2_get.specs.Ports.{NamesAtPort, IsRefusedAtPort}
 use Rattle.h2_get.specs.Requests.{IsAskable, IsBodyAsked, IsRefusedRequest, IsUnread}
 use Rattle.h2_get.specs.Requests.{request_asked}
 use Rattle.h2_get.specs.Streams.{StreamsRequest}
-use Rattle.h2_get.specs.Responses.{fails_as_asked}
+use Rattle.h2_get.specs.Responses.{PrintsAsked, fails_as_asked}
 use Rattle.h2_tool.specs.Gets.{AsksNothing, AsksSo, EndsByRefusal, EndsWithFetch, EndsWithStream}
 use Rattle.h2_tool.specs.Gets.{GetsAsked, GetsSo, IsRefusedRequestOf, IsRefusedUrlOf, RefusesBody}
 use Rattle.h2_tool.specs.Gets.{GetsOrStreams, RefusesRequest, RefusesUrl, StreamsAsked, StreamsSo}
@@ -262,8 +262,9 @@ module _ (words : GetWords) (remaining before after : Option (List ℕ)) (status
       (subst (λ (one : SentMessage). AsksSo words one before after status) same so)
 
 -- A response that was printed ends `get` with the status that the words give it.
-pub ends_with_stream : (words : GetWords) (fetched : Fetched) (fails : Bool)
-    → fails_as_asked words fetched ≡ fails
-    → EndsWithStream words (Ok fetched) (if fails then Fault else Good)
-ends_with_stream words fetched true is = is
-ends_with_stream words fetched false is = is
+pub ends_with_fetch : (words : GetWords) (before after : Option (List ℕ)) (fetched : Fetched)
+    (fails : Bool) → fails_as_asked words fetched ≡ fails
+    → PrintsAsked words before after fetched
+    → EndsWithFetch words (Ok fetched) before after (if fails then Fault else Good)
+ends_with_fetch words before after fetched true is prints = (is, prints)
+ends_with_fetch words before after fetched false is prints = (is, prints)
