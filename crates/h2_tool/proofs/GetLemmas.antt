@@ -1,6 +1,6 @@
 -- How `get` ends.
 use Rattle.std.proofs.Common.{inl, inr, ℕ, Bool, true, false, List, Option, Result, Ok, Err}
-use Rattle.std.proofs.Common.{refl, subst, sym, MatchBool, ◌≡◌, ◌⊎◌, if◌then◌else◌}
+use Rattle.std.proofs.Common.{refl, subst, sym, MatchBool, ◌≡◌, if◌then◌else◌}
 use Rattle.h2_cli.specs.declared.status.Status.{Status}
 use Rattle.h2_cli.specs.declared.status.Status.TheVariants.{Good, Fault, Usage, Device, Memory}
 use Rattle.h2_link.specs.declared.error.LinkError.{LinkError}
