@@ -7,15 +7,20 @@ _h2() {
         case "${COMP_WORDS[1]} $before" in
             'show --from') words='client server' ;;
             'show --max-frame') words='16384 65536 1048576' ;;
+            'show --file') words= ;;
             'show --color') words='always never auto' ;;
+            'show --client') words= ;;
+            'show --server') words= ;;
+            'show --page') words= ;;
             'show '*) words='--hex --from --max-frame --follow --file --names --offsets --color --json --client --server --page --help' ;;
             'replay --as') words='client server' ;;
             'replay '*) words='--hex --as --messages --help' ;;
             'serve '*) words='--help' ;;
-            'get '*) words='--include --header --request --data --fail --port --help' ;;
+            'get -o'|'get --output') words= ;;
+            'get '*) words='--include --header --request --data --fail --port --output --stream --help' ;;
             'loop '*) words='--each-way --help' ;;
         esac
     fi
     COMPREPLY=($(compgen -W "$words" -- "$word"))
 }
-complete -F _h2 h2
+complete -o default -F _h2 h2

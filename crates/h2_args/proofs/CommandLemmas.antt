@@ -1,6 +1,7 @@
 -- What holds of the commands.
 use Rattle.h2_args.proofs.Names.{◌≡◌, ◌<◌, refl, arith, codes, true, ℕ, slice_index_or, bytes_eq}
-use Rattle.h2_args.proofs.Names.{Rule, follow_app, get_app, loop_app, number_option_rule, number_rule}
+use Rattle.h2_args.proofs.Names.{Rule, follow_app, get_app, loop_app, number_option_rule}
+use Rattle.h2_args.proofs.Names.{number_rule}
 use Rattle.h2_args.proofs.Names.{replay_app, required_rule, serve_app, show_app}
 use Rattle.std.proofs.Common.{lit<, zero, suc}
 use Rattle.h2_args.specs.Commands.{ShowNames, SideNames}
@@ -64,7 +65,7 @@ pub get_is_alone : IsAlone get_app
 get_is_alone = record { ready = refl; leaves = refl; free = refl; negates = refl }
 
 -- the first argument of `get` alone is its URL
-only_url : (j : ℕ) (d : Rule) → j < 7
+only_url : (j : ℕ) (d : Rule) → j < 9
     → bytes_eq (slice_index_or get_app.top.rules j d).id (codes "URL") ≡ true → j ≡ 0
 only_url zero d lt same = refl
 only_url (suc zero) d lt same = cc
@@ -73,10 +74,12 @@ only_url (suc (suc (suc zero))) d lt same = cc
 only_url (suc (suc (suc (suc zero)))) d lt same = cc
 only_url (suc (suc (suc (suc (suc zero))))) d lt same = cc
 only_url (suc (suc (suc (suc (suc (suc zero)))))) d lt same = cc
-only_url (suc (suc (suc (suc (suc (suc (suc j))))))) d lt same = absurd (omega arith)
+only_url (suc (suc (suc (suc (suc (suc (suc zero))))))) d lt same = cc
+only_url (suc (suc (suc (suc (suc (suc (suc (suc zero)))))))) d lt same = cc
+only_url (suc (suc (suc (suc (suc (suc (suc (suc (suc j))))))))) d lt same = absurd (omega arith)
 
--- the last argument of `get` alone is its port
-only_get_port : (j : ℕ) (d : Rule) → j < 7
+-- the seventh argument of `get` alone is its port
+only_get_port : (j : ℕ) (d : Rule) → j < 9
     → bytes_eq (slice_index_or get_app.top.rules j d).id (codes "port") ≡ true → j ≡ 6
 only_get_port zero d lt same = cc
 only_get_port (suc zero) d lt same = cc
@@ -85,7 +88,10 @@ only_get_port (suc (suc (suc zero))) d lt same = cc
 only_get_port (suc (suc (suc (suc zero)))) d lt same = cc
 only_get_port (suc (suc (suc (suc (suc zero))))) d lt same = cc
 only_get_port (suc (suc (suc (suc (suc (suc zero)))))) d lt same = refl
-only_get_port (suc (suc (suc (suc (suc (suc (suc j))))))) d lt same = absurd (omega arith)
+only_get_port (suc (suc (suc (suc (suc (suc (suc zero))))))) d lt same = cc
+only_get_port (suc (suc (suc (suc (suc (suc (suc (suc zero)))))))) d lt same = cc
+only_get_port (suc (suc (suc (suc (suc (suc (suc (suc (suc j))))))))) d lt same = absurd
+    (omega arith)
 
 pub get_wants_url : IsRequiredAt get_app 0 (required_rule (codes "URL"))
 get_wants_url = record {

@@ -208,13 +208,19 @@ url_and_print_app = with_rule
 -- `get [-i] [-H NAME:VALUE].. [-X METHOD] [-d DATA] [--fail] [--port N] URL`; the number is from 1
 -- to 65,535
 -- rule: engines (own) serve, get and loop have their words
-abbrev pub get_app : App
-get_app = with_rule
+abbrev pub asking_app : App
+asking_app = with_rule
     (with_rule
     (with_rule (with_rule url_and_print_app (text_option_rule (codes "request") 88))
     (text_option_rule (codes "data") 100))
     (flag_rule (codes "fail")))
     (number_option_rule (codes "port") 1 65535)
+
+-- the same with `[-o FILE] [--stream]`
+-- rule: engines (own) serve, get and loop have their words
+abbrev pub get_app : App
+get_app = with_rule (with_rule asking_app (text_option_rule (codes "output") 111))
+    (flag_rule (codes "stream"))
 
 -- `loop N [--each-way]`; the number is from 0 to 1,048,576
 -- rule: engines (own) serve, get and loop have their words

@@ -221,7 +221,8 @@ serve_faults = fault_of serve_app
 
 -- What the words after `get` ask for: a URL; whether the response's fields are printed; the fields
 -- of the request, each as it was written; its method and its body, where they are given; whether a
--- status of 400 or above is a failure; and the port where the URL names none.
+-- status of 400 or above is a failure; the port where the URL names none; the file that the body
+-- goes into, if one is named; and whether the body is printed as it comes.
 -- rule: engines (own) serve, get and loop have their words
 pub record GetWords : Type 0 where
   pub url : Text
@@ -231,6 +232,8 @@ pub record GetWords : Type 0 where
   pub body : Option Text
   pub fail : Bool
   pub port : Option ℕ
+  pub output : Option Text
+  pub stream : Bool
 
 -- the number that an option's value writes in decimal digits, where it is given
 abbrev pub number_if : Option Text → Option ℕ
@@ -246,6 +249,8 @@ get_words_in rows = record {
   body = first_of (codes "data") rows;
   fail = is_set (one_of (codes "fail") rows);
   port = number_if (one_of (codes "port") rows);
+  output = first_of (codes "output") rows;
+  stream = is_set (one_of (codes "stream") rows);
 }
 
 -- What the words after `get` ask for, if they have no fault.
@@ -263,6 +268,8 @@ asked_by options = record {
   body = option_map (λ body. body.now) options.body;
   fail = options.fail;
   port = options.port;
+  output = option_map (λ output. output.now) options.output;
+  stream = options.stream;
 }
 
 -- the kinds of error that the words after `get` may have

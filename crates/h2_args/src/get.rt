@@ -3,7 +3,7 @@
 ghost use Rattle.std.specs.Prelude.{◌≡◌, ◌≤◌, IfErr, IfOk, IfSome, codes, false, map, pos, Some};
 ghost use Rattle.std.specs.Prelude.{[], string_bytes, unwrap_or};
 ghost use Rattle.clap.specs.Words.{HasKind, all_of, app_of, found_of, rows_of, rule_of};
-ghost use Rattle.h2_args.specs.Commands.{get_app, header_rule, include_rule};
+ghost use Rattle.h2_args.specs.Commands.{asking_app, flag_rule, get_app, header_rule, include_rule};
 ghost use Rattle.h2_args.specs.Commands.{number_option_rule, text_option_rule, url_and_print_app};
 ghost use Rattle.h2_args.specs.Words.{asked_by, get_faults, get_words_of};
 
@@ -30,6 +30,10 @@ pub struct GetOptions<'a> {
     pub fail: bool,
     /// The port where the URL names none, from 1 to 65,535.
     pub port: Option<u16>,
+    /// The file that the body goes into as it comes, where one is named.
+    pub output: Option<&'a str>,
+    /// Whether the body is printed as it comes.
+    pub stream: bool,
 }
 
 // contract: engines (own) serve, get and loop have their words
@@ -61,6 +65,8 @@ pub fn get_args<'a>(alloc: Global, words: &'a [String]) -> Result<GetOptions<'a>
         body: matches.get_str(DATA),
         fail: is_set(&matches, FAIL),
         port: matches.get_one::<u16>(AT_PORT),
+        output: matches.get_str(OUTPUT),
+        stream: is_set(&matches, STREAM),
     })
 }
 
@@ -101,8 +107,9 @@ const REQUEST_HELP: &str = r"The request's method [default: GET, or POST with
 
 const DATA: &str = "data";
 
-const DATA_HELP: &str = r"The request's body, UTF-8 text as it is; it may not
-begin with @, and with - or = as --data=DATA";
+const DATA_HELP: &str = r"The request's body: UTF-8 text as it is, @FILE for
+what a file holds, or @- for standard input; text
+that begins with - or = as --data=DATA";
 
 const FAIL: &str = "fail";
 
@@ -113,6 +120,15 @@ const AT_PORT: &str = "port";
 
 const AT_PORT_HELP: &str = r"The port where the URL names none, 1 to 65535";
 
+const OUTPUT: &str = "output";
+
+const OUTPUT_HELP: &str = r"Write the body into this file as it comes, and not
+to standard output";
+
+const STREAM: &str = "stream";
+
+const STREAM_HELP: &str = r"Print the body as it comes, and keep none of it";
+
 /// What `get` prints, how it ends, and an example.
 const FETCHED_AND_STATUSES: &str =
     r"It asks for the URL over a new connection, which begins with the preface: the
@@ -121,6 +137,14 @@ prints the status with its phrase, `200 OK`, or the status alone where it has no
 phrase, and then the octets of the body as they are. Interim responses (1xx)
 aren't printed, nor are trailers without --include. It follows no redirection
 and has no clocks: it waits for a server that stays idle.
+
+Without --output and --stream the body is kept until the response is complete,
+and nothing is printed of one that isn't. With either the body goes out as it
+comes, with both into the file, and little of it is kept: where the response is
+reset or cut off, what came before stands in the file or was printed. A file is
+made, or emptied where it is there, once the response's head has come, and not
+where --fail makes it a failure; then no more of the response is fetched either.
+A FILE of - is a file of that name.
 
 The URL has the scheme http, a host, and a port of 1 to 65535, unless --port
 names one; a user's name is refused, and a fragment is dropped.
@@ -143,7 +167,8 @@ Exit status (the lines in backquotes are on standard error):
      `error: status NUMBER`: with --fail, a response of 400 or above has come
   2  wrong arguments, or a URL that can't be fetched
      `N7 Refused`: the request breaks a rule, or its fields are too many
-  3  `N1 Device`: no connection can be made, or a read or a write failed
+  3  `N1 Device`: no connection can be made, or a read or a write failed, of
+     the files of --data and --output too, which a hint names
      `N5 NoProgress`: a write took nothing
   4  `N3 Memory`: out of memory
 
@@ -227,13 +252,22 @@ fn fetching_command<'a>(alloc: Global) -> Result<Command<'a>, AllocError>
         .arg(header_arg(alloc))
 }
 
-/// The command as clap has it.
-pub(super) fn get_command<'a>(alloc: Global) -> Result<Command<'a>, AllocError>
-    ensures { IfOk result (λ command. app_of command ≡ get_app) }
+// The command with what is asked for.
+fn asking_command<'a>(alloc: Global) -> Result<Command<'a>, AllocError>
+    ensures { IfOk result (λ command. app_of command ≡ asking_app) }
 {
     fetching_command(alloc)?
         .arg(text_arg(alloc, REQUEST, 'X', "METHOD", REQUEST_HELP))?
         .arg(text_arg(alloc, DATA, 'd', "DATA", DATA_HELP))?
         .arg(flag_arg(alloc, FAIL, FAIL_HELP))?
         .arg(port_arg(alloc))
+}
+
+/// The command as clap has it.
+pub(super) fn get_command<'a>(alloc: Global) -> Result<Command<'a>, AllocError>
+    ensures { IfOk result (λ command. app_of command ≡ get_app) }
+{
+    asking_command(alloc)?
+        .arg(text_arg(alloc, OUTPUT, 'o', "FILE", OUTPUT_HELP))?
+        .arg(flag_arg(alloc, STREAM, STREAM_HELP))
 }

@@ -1,2 +1,5 @@
 pub mod Appending
+mod Bodies
+mod Receiving
+mod StreamLemmas
 pub mod examples

@@ -1,3 +1,5 @@
 pub mod Ports
+pub mod Receives
 pub mod Requests
 pub mod Responses
+pub mod Streams

@@ -1,7 +1,8 @@
 -- The request that the words after `get` ask for.
 use Rattle.std.specs.Prelude.{◌≡◌, ℕ, ◌==◌, ◌||◌, Bool, true, false, List, [], ◌∷◌, ◌++◌, map}
 use Rattle.std.specs.Prelude.{position, reverse}
-use Rattle.std.specs.Prelude.{codes, unwrap_or, is_some, Option, Some, None, if◌then◌else◌}
+use Rattle.std.specs.Prelude.{codes, unwrap_or, is_some, Option, Some, None, if◌then◌else◌, IfSome}
+use Rattle.std.specs.Prelude.{MatchBool}
 use Rattle.std.specs.List.{list_all, list_any, before_first, after_first}
 use Rattle.std.specs.Str.{bytes_eq}
 use Rattle.std.specs.Char.{to_ascii_lowercase}
@@ -10,6 +11,8 @@ use Rattle.h2_message.specs.Messages.{SentMessage, broken_by_request, plain_fiel
 use Rattle.h2_net.specs.declared.location.Location.{Location}
 use Rattle.h2_net.specs.Fetching.{pseudo_fields_to}
 use Rattle.h2_args.specs.Words.{GetWords}
+use Rattle.h2_get.specs.declared.body.BodyFault.{BodyFault}
+use Rattle.h2_get.specs.declared.body.BodyFault.TheVariants as bodies
 use Rattle.h2_get.specs.declared.request.RequestFault.{RequestFault}
 use Rattle.h2_get.specs.declared.request.RequestFault.TheVariants as faults
 
@@ -50,20 +53,10 @@ abbrev pub method_asked : GetWords → List ℕ
 method_asked words =
     unwrap_or words.method (if is_some words.body then codes "POST" else codes "GET")
 
--- the body that the words give, which is empty where they give none
+-- the word that gives the body, which is empty where they give none
 -- rule: engines (own) The words of get make its request and say what is printed
-abbrev pub body_asked : GetWords → List ℕ
-body_asked words = unwrap_or words.body []
-
--- The request for a location: the pseudo-fields (RFC 9113, section 8.3.1), the fields of the words
--- in their order, and the body that they give. It has no other field, and no trailers.
--- rule: engines (own) The words of get make its request and say what is printed
-abbrev pub request_asked : GetWords → Location → SentMessage
-request_asked words location = record {
-  head = pseudo_fields_to (method_asked words) location ++ map field_of_word words.fields;
-  body = body_asked words;
-  trailers = None;
-}
+abbrev pub body_word : GetWords → List ℕ
+body_word words = unwrap_or words.body []
 
 -- whether octets begin with `@`
 -- rule: engines (own) The words of get make its request and say what is printed
@@ -71,20 +64,50 @@ abbrev pub begins_with_at : List ℕ → Bool
 begins_with_at [] = false
 begins_with_at (octet ∷ octets) = octet == 64
 
--- whether a field is named `host`: in a request of HTTP/2 that is `:authority`, which the URL gives,
--- and the two must not differ (RFC 9113, section 8.3.1)
+-- whether the body is that of standard input, which `@-` names
+-- rule: engines (own) The words of get make its request and say what is printed
+abbrev pub reads_input : GetWords → Bool
+reads_input words = bytes_eq (body_word words) (codes "@-")
+
+-- These octets are the body that the words ask for, at a reader with these octets left: all of them
+-- where the word is `@-`; those of the file that the word names after an `@`, of which nothing is
+-- known; or else the word.
+-- rule: engines (own) The words of get make its request and say what is printed
+abbrev pub IsBodyAsked : GetWords → (remaining : Option (List ℕ)) → (body : List ℕ) → Type 0
+IsBodyAsked words remaining body =
+    MatchBool (reads_input words) (IfSome remaining (λ given. body ≡ given))
+    (MatchBool (begins_with_at (body_word words)) (Unit {0}) (body ≡ body_word words))
+
+-- Why the body can't be had: only where the words name standard input or a file. Out of memory says
+-- nothing.
+-- rule: engines (own) The words of get make its request and say what is printed
+abbrev pub IsUnread : GetWords → BodyFault → Type 0
+IsUnread words bodies.Memory = Unit {0}
+IsUnread words fault = begins_with_at (body_word words) ≡ true
+
+-- The request for a location: the pseudo-fields (RFC 9113, section 8.3.1), the fields of the words
+-- in their order, and the body. It has no other field, and no trailers.
+-- rule: engines (own) The words of get make its request and say what is printed
+abbrev pub request_asked : GetWords → (body : List ℕ) → Location → SentMessage
+request_asked words body location = record {
+  head = pseudo_fields_to (method_asked words) location ++ map field_of_word words.fields;
+  body = body;
+  trailers = None;
+}
+
+-- whether a field is named `host`: in a request of HTTP/2 that is `:authority`, which the URL
+-- gives, and the two must not differ (RFC 9113, section 8.3.1)
 -- rule: engines (own) The words of get make its request and say what is printed
 abbrev pub has_host : List Field → Bool
 has_host fields = list_any (λ field. bytes_eq field.name (codes "host")) fields
 
--- The words ask for a request: each field is NAME:VALUE and none is `host`, the body doesn't begin
--- with `@`, and the request breaks no rule of messages (section 8).
+-- The words ask for a request with this body: each field is NAME:VALUE and none is `host`, and the
+-- request breaks no rule of messages (section 8).
 -- rule: engines (own) The words of get make its request and say what is printed
-pub record IsAskable (words : GetWords) (location : Location) : Type 0 where
+pub record IsAskable (words : GetWords) (body : List ℕ) (location : Location) : Type 0 where
   pub fields : list_all has_colon words.fields ≡ true
-  pub host : has_host (request_asked words location).head ≡ false
-  pub body : begins_with_at (body_asked words) ≡ false
-  pub unbroken : broken_by_request (request_asked words location) ≡ None
+  pub host : has_host (request_asked words body location).head ≡ false
+  pub unbroken : broken_by_request (request_asked words body location) ≡ None
 
 -- Why no field can be made of a word: it has no colon. Out of memory says nothing.
 abbrev pub IsRefusedWord : (word : List ℕ) → RequestFault → Type 0
@@ -98,15 +121,13 @@ AreRefusedWords words faults.NoColon = list_all has_colon words ≡ false
 AreRefusedWords words faults.Memory = Unit {0}
 AreRefusedWords words fault = ⊥
 
--- Why no request can be made: a word is no NAME:VALUE; one is `host`; the body begins with `@`; or
--- the request breaks a rule, this one first. Out of memory says nothing.
+-- Why no request can be made: a word is no NAME:VALUE; one is `host`; or the request breaks a rule,
+-- this one first. Out of memory says nothing.
 -- rule: engines (own) The words of get make its request and say what is printed
-abbrev pub IsRefusedRequest : GetWords → Location → RequestFault → Type 0
-IsRefusedRequest words location faults.NoColon = list_all has_colon words.fields ≡ false
-IsRefusedRequest words location faults.AtSign =
-    begins_with_at (body_asked words) ≡ true
-IsRefusedRequest words location faults.Host =
-    has_host (request_asked words location).head ≡ true
-IsRefusedRequest words location (faults.Malformed rule) =
-    broken_by_request (request_asked words location) ≡ Some rule
-IsRefusedRequest words location faults.Memory = Unit {0}
+abbrev pub IsRefusedRequest : GetWords → (body : List ℕ) → Location → RequestFault → Type 0
+IsRefusedRequest words body location faults.NoColon = list_all has_colon words.fields ≡ false
+IsRefusedRequest words body location faults.Host =
+    has_host (request_asked words body location).head ≡ true
+IsRefusedRequest words body location (faults.Malformed rule) =
+    broken_by_request (request_asked words body location) ≡ Some rule
+IsRefusedRequest words body location faults.Memory = Unit {0}

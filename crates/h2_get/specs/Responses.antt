@@ -53,6 +53,11 @@ abbrev pub trailer_lines : Option (List Field) → List ℕ
 trailer_lines None = []
 trailer_lines (Some fields) = codes "\n" ++ response_lines fields
 
+-- the trailers, where some came and fields are printed
+-- rule: engines (own) get -o and --stream write the body as it comes, in order
+abbrev pub trailers_shown : (include : Bool) → Option (List Field) → List ℕ
+trailers_shown include trailers = if include then trailer_lines trailers else []
+
 -- The octets of the body, and then the trailers where fields are printed.
 -- rule: engines (own) The words of get make its request and say what is printed
 abbrev pub body_printed : (include : Bool) → Fetched → List ℕ

@@ -1,15 +1,27 @@
 //! What `h2 get` asks for and prints, by the words that follow it.
 //!
-//! [`location_at`] reads the URL, which may leave its port to another word. [`request_of`] makes
-//! the request, of the fields, the method and the body that the words give. [`print_asked`] prints
+//! [`location_at`] reads the URL, which may leave its port to another word. [`body_of`] reads the
+//! body, and [`request_of`] makes the request with it, of the fields and the method that the words
+//! give. [`print_asked`] prints
 //! the response, with its fields where the words ask for them, and [`is_failure`] says whether the
-//! words make it a failure.
+//! words make it a failure. [`stream_location`] fetches a response and prints it as it comes.
 #![tactic(auto)]
 
+mod body;
+mod connect;
+mod pass_error;
 mod port;
+mod receive;
 mod request;
 mod response;
+mod stream;
+mod streaming;
 
+pub use body::{BodyFault, body_of};
+pub use pass_error::{PassError, ResponseHead, StreamEnding, StreamError};
 pub use port::location_at;
+pub use receive::{bodies_are_in_order, next_head, pass_body};
 pub use request::{RequestFault, request_of};
 pub use response::{is_failure, print_asked, write_failure};
+pub use stream::stream_response;
+pub use streaming::stream_location;

@@ -8,8 +8,8 @@ ghost use Rattle.h2_args.specs.Words.{asked_by};
 ghost use Rattle.h2_get.specs.Requests.{AreRefusedWords, IsAskable, IsRefusedRequest, IsRefusedWord};
 ghost use Rattle.h2_get.specs.Requests.{field_of_word, has_colon, has_host, method_asked};
 ghost use Rattle.h2_get.specs.Requests.{request_asked};
-ghost use Rattle.h2_get.specs.Requests.{begins_with_at, body_asked, is_outer_blank, is_colon};
-ghost use Rattle.h2_get.specs.Requests.{skip_blanks, without_outer_blanks};
+ghost use Rattle.h2_get.specs.Requests.{is_colon, is_outer_blank, skip_blanks};
+ghost use Rattle.h2_get.specs.Requests.{without_outer_blanks};
 
 use h2_args::GetOptions;
 use h2_message::{Field, Malformed, Message, check_request};
@@ -23,9 +23,6 @@ pub enum RequestFault {
     /// A field has no colon.
     #[error("error: a field has to be NAME:VALUE")]
     NoColon,
-    /// The body begins with `@`.
-    #[error("error: data that begin with @ are not taken")]
-    AtSign,
     /// A field is named `host`, which is `:authority` in the request (RFC 9113, section 8.3.1).
     #[error("error: the URL names the host, so a field host is not taken")]
     Host,
@@ -49,7 +46,7 @@ impl From<AllocError> for RequestFault {
 
 // contract: engines (own) The words of get make its request and say what is printed
 // rule: engines (own) The words of get make its request and say what is printed
-/// Makes the request for a location that the words ask for, which breaks no rule.
+/// Makes the request for a location that the words ask for with this body, which breaks no rule.
 ///
 /// # Errors
 ///
@@ -58,16 +55,13 @@ pub fn request_of(
     alloc: Global,
     options: &GetOptions<'_>,
     location: &Location,
+    body: Vec<u8>,
 ) -> Result<Message, RequestFault>
     ensures ok { IfOk result (λ message.
-        message_value message ≡ request_asked (asked_by options.now) location.now) }
-    ensures asked { OnOk result (IsAskable (asked_by options.now) location.now) }
-    ensures err { IfErr result (IsRefusedRequest (asked_by options.now) location.now) }
+        message_value message ≡ request_asked (asked_by options.now) body.items location.now) }
+    ensures asked { OnOk result (IsAskable (asked_by options.now) body.items location.now) }
+    ensures err { IfErr result (IsRefusedRequest (asked_by options.now) body.items location.now) }
 {
-    let body = body_of(options);
-    if begins_with_at(body) {
-        return Err(RequestFault::AtSign);
-    }
     let mut head = head_to(alloc, method_of(options).as_bytes(), location)?;
     add_fields(alloc, &mut head, &options.fields)?;
     if has_host(&head) {
@@ -75,7 +69,7 @@ pub fn request_of(
     }
     let message = Message {
         head,
-        body: Vec::from_slice(alloc, body)?,
+        body,
         trailers: None,
     };
     match check_request(&message) {
@@ -93,26 +87,6 @@ fn method_of<'a>(options: &GetOptions<'a>) -> &'a str
         (Some(method), _) => method,
         (None, Some(_)) => "POST",
         (None, None) => "GET",
-    }
-}
-
-/// The body that the options give, which is empty where they give none.
-fn body_of<'a>(options: &GetOptions<'a>) -> &'a [u8]
-    ensures { result.now ≡ body_asked (asked_by options.now) }
-{
-    match options.body {
-        Some(body) => body.as_bytes(),
-        None => &[],
-    }
-}
-
-/// Whether octets begin with `@`.
-fn begins_with_at(octets: &[u8]) -> bool
-    ensures { result ≡ begins_with_at octets.now }
-{
-    match octets {
-        [octet, ..] => *octet == b'@',
-        [] => false,
     }
 }
 

@@ -7,7 +7,8 @@ ghost use Rattle.h2_args.specs.Words.{asked_by};
 ghost use Rattle.h2_get.specs.Responses.{PrintsAsked, body_printed, fails_as_asked};
 ghost use Rattle.h2_get.specs.Responses.{failure_line, fields_printed, is_failure};
 ghost use Rattle.h2_get.specs.Responses.{response_lines, response_part, rest_printed};
-ghost use Rattle.h2_get.specs.Responses.{trailer_lines};
+ghost use Rattle.h2_get.specs.Receives.{fields_in_trailers};
+ghost use Rattle.h2_get.specs.Responses.{trailer_lines, trailers_shown};
 
 use h2_args::GetOptions;
 use h2_message::Field;
@@ -103,6 +104,24 @@ fn write_body<W: Write>(include: bool, fetched: &Fetched, out: &mut W) -> io::Re
         Some(fields) if include => write_trailers(fields, out),
         _ => Ok(()),
     }
+}
+
+// rule: engines (own) get -o and --stream write the body as it comes, in order
+/// Prints the trailers of a body that was passed on, if it has any, where the options ask for
+/// fields.
+pub(crate) fn print_trailers<W: Write>(
+    include: bool,
+    trailers: &Option<Vec<Field>>,
+    out: &mut W,
+) -> io::Result<()>
+    ensures { OnOk result (Appends (W.contents out.old) (W.contents out.new)
+        (trailers_shown include (fields_in_trailers trailers.now))) }
+{
+    match trailers {
+        Some(fields) if include => write_trailers(fields, out)?,
+        _ => {}
+    }
+    out.flush()
 }
 
 // Prints trailers: a line end, and then their lines.

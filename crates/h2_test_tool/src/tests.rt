@@ -4,11 +4,13 @@
 //! Tests are proved as well: small functions return whether a case holds.
 
 mod asking;
+mod bodies;
 mod devices;
 mod fetching;
 mod library;
 mod links;
 mod long;
+mod parts;
 mod recorder;
 mod replaying;
 mod serving;

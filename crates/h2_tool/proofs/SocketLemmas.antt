@@ -3,7 +3,7 @@ use Rattle.std.proofs.Common.{◌≡◌, inl, inr, ℕ, List, Option, Result, Ok
 use Rattle.std.proofs.Common.{OnOk, MatchResult, subst}
 use Rattle.std.specs.Io.KnownBytes.{Appends}
 use Rattle.h2_cli.specs.declared.status.Status.{Status}
-use Rattle.h2_cli.specs.declared.status.Status.TheVariants.{Good, Fault, Usage, Device, Memory}
+use Rattle.h2_cli.specs.declared.status.Status.TheVariants.{Good, Device}
 use Rattle.h2_link.specs.declared.error.LinkError.{LinkError}
 use Rattle.h2_link.specs.declared.error.LinkError.TheVariants as errors
 use Rattle.h2_engines.specs.declared.fetcher.Fetched.{Fetched}

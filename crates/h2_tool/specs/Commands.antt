@@ -1,7 +1,7 @@
 -- What the commands of `h2` do, by the words that follow their names and the status with which they
 -- end.
 use Rattle.std.specs.Prelude.{◌≡◌, ◌≢◌, ◌⊎◌, ℕ, Bool, true, false, List, [], ◌∷◌, Option, Some}
-use Rattle.std.specs.Prelude.{None, Result, Ok, Err, IfSome, MatchBool, MatchOption, codes}
+use Rattle.std.specs.Prelude.{None, Ok, Err, IfSome, MatchBool, MatchOption, codes}
 use Rattle.std.specs.Io.KnownBytes.{Appends}
 use Rattle.clap.specs.Words.{IsAmong, Kinds}
 use Rattle.clap.specs.declared.error.kind.ErrorKind.{ErrorKind}
@@ -22,7 +22,7 @@ use Rattle.h2_messages.specs.Messages.{MessagesOfInput}
 use Rattle.h2_args.specs.Commands.{AreSides, SideNames, AreShowNames, ShowNames}
 use Rattle.h2_args.specs.Words.{ShowAsked, ShowWordsAsk, show_faults, ReplayWordsGive}
 use Rattle.h2_args.specs.Words.{replay_faults}
-use Rattle.h2_args.specs.Words.{serve_options_of, serve_faults, GetWords, get_words_of, get_faults}
+use Rattle.h2_args.specs.Words.{serve_options_of, serve_faults, GetWords, get_words_of}
 use Rattle.h2_args.specs.Words.{loop_options_of, asks_messages}
 use Rattle.h2_args.specs.declared.sockets.LoopOptions.{LoopOptions}
 use Rattle.h2_args.specs.Words.{FollowAsked, asks_follow, follow_asked_of, follow_faults}
@@ -30,19 +30,11 @@ use Rattle.h2_args.specs.Words.{loop_faults, program_faults}
 use Rattle.h2_args.specs.declared.sockets.ServeOptions.{ServeOptions}
 use Rattle.h2_link.specs.declared.error.LinkError.{LinkError}
 use Rattle.h2_engines.specs.declared.fetcher.Fetched.{Fetched}
-use Rattle.h2_net.specs.declared.location.Location.{Location}
-use Rattle.h2_net.specs.declared.location.TargetFault.{TargetFault}
-use Rattle.h2_net.specs.declared.location.TargetFault.TheVariants as faults
 use Rattle.h2_net.specs.Endings.{IsServingStatus, status_with}
-use Rattle.h2_net.specs.Fetching.{FetchesRequest}
 use Rattle.h2_net.specs.Loopback.{ExchangesPost}
 use Rattle.h2_net.specs.Printing.{exchange_line}
 use Rattle.h2_net.specs.Serving.{ServesPort}
-use Rattle.h2_get.specs.declared.request.RequestFault.{RequestFault}
-use Rattle.h2_get.specs.declared.request.RequestFault.TheVariants as requests
-use Rattle.h2_get.specs.Ports.{NamesAtPort, IsRefusedAtPort}
-use Rattle.h2_get.specs.Requests.{IsAskable, IsRefusedRequest, request_asked}
-use Rattle.h2_get.specs.Responses.{PrintsAsked, fails_as_asked}
+use Rattle.h2_get.specs.Requests.{reads_input}
 
 -- A kind of clap's error that asks for help, or for the version.
 abbrev pub IsOfHelp : ErrorKind → Type 0
@@ -371,105 +363,6 @@ abbrev pub EndsServe : (words : List (List ℕ)) → (before after : Option (Lis
 EndsServe words before after status =
     ServesCount words before after status ⊎ EndsByWords (serve_faults words) before after status
 
--- The location that the words name was fetched with the request that they ask for, with this
--- result.
--- rule: engines (own) The words of get make its request and say what is printed
-pub record GetsAsked (words : GetWords) (result : Result Fetched LinkError) : Type 0 where
-  pub location : Location
-  pub names : NamesAtPort words.url words.port location
-  pub asked : IsAskable words location
-  pub fetches : FetchesRequest (request_asked words location) result
-
--- The fetch has ended early, with an error of this status, and nothing was printed.
-pub record FailsToGet (words : GetWords) (before after : Option (List ℕ)) (status : Status) : Type 0
-  where
-    pub error : LinkError
-    pub got : GetsAsked words (Err error)
-    pub status_is : status_with error ≡ status
-    pub unwritten : after ≡ before
-
--- The URL can't be fetched, for another fault than of memory, and nothing was printed.
-pub record IsRefusedUrlOf (words : GetWords) (before after : Option (List ℕ)) : Type 0 where
-  pub fault : TargetFault
-  pub refused : IsRefusedAtPort words.url words.port fault
-  pub other : fault ≢ faults.Memory
-  pub unwritten : after ≡ before
-
--- No request can be made for the location, for another fault than of memory, and nothing was
--- printed.
--- rule: engines (own) The words of get make its request and say what is printed
-pub record IsRefusedRequestOf (words : GetWords) (before after : Option (List ℕ)) : Type 0 where
-  pub location : Location
-  pub names : NamesAtPort words.url words.port location
-  pub fault : RequestFault
-  pub refused : IsRefusedRequest words location fault
-  pub other : fault ≢ requests.Memory
-  pub unwritten : after ≡ before
-
--- The program ends so after a line on standard error that refuses its words: the line was printed,
--- or could not be.
-abbrev pub EndsByRefusal : Status → Type 0
-EndsByRefusal Usage = Unit {0}
-EndsByRefusal Device = Unit {0}
-EndsByRefusal status = ⊥
-
--- How the program ends where a URL can't be fetched.
-abbrev pub RefusesUrl : TargetFault → Status → Type 0
-RefusesUrl faults.Memory status = status ≡ Memory
-RefusesUrl fault status = EndsByRefusal status
-
--- How the program ends where no request can be made.
--- rule: engines (own) The words of get make its request and say what is printed
-abbrev pub RefusesRequest : RequestFault → Status → Type 0
-RefusesRequest requests.Memory status = status ≡ Memory
-RefusesRequest fault status = EndsByRefusal status
-
--- The response was printed as the words ask, and they make it a failure, or don't.
--- rule: engines (own) With --fail a status of 400 or above ends get with status 1
-abbrev pub PrintsResult : GetWords → (before after : Option (List ℕ)) → Fetched → (fails : Bool)
-    → Type 0
-PrintsResult words before after fetched fails =
-    (fails_as_asked words fetched ≡ fails) × PrintsAsked words before after fetched
-
--- How the program ends where a fetch has come to this: the response is printed, or can't be; or the
--- fetch has ended early, with its own status, and nothing is printed.
--- rule: engines (own) N1 to N7 end a command with their statuses
--- rule: engines (own) With --fail a status of 400 or above ends get with status 1
-abbrev pub EndsWithFetch : GetWords → Result Fetched LinkError → (before after : Option (List ℕ))
-    → Status
-    → Type 0
-EndsWithFetch words (Ok fetched) before after Good = PrintsResult words before after fetched false
-EndsWithFetch words (Ok fetched) before after Fault = PrintsResult words before after fetched true
-EndsWithFetch words (Ok fetched) before after status = status ≡ Device
-EndsWithFetch words (Err error) before after status =
-    (status ≡ status_with error) × (after ≡ before)
-
--- How the fetch that words ask for ends, with a writer whose contents are known. `Fault` comes
--- where the fetch has ended early, or its response is a failure; `Usage` only where the URL can't be
--- fetched, no request can be made, or the request was refused (N7); `Device` for N1 and N5, and
--- where a line about the words or the response could not be printed.
--- rule: engines (own) serve, get and loop have their words
--- rule: engines (own) The words of get make its request and say what is printed
-abbrev pub GetsSo : GetWords → (before after : Option (List ℕ)) → Status → Type 0
-GetsSo words before after Good = (fetched : Fetched) × GetsAsked words (Ok fetched)
-    × PrintsResult words before after fetched false
-GetsSo words before after Fault = FailsToGet words before after Fault
-    ⊎ ((fetched : Fetched) × GetsAsked words (Ok fetched)
-    × PrintsResult words before after fetched true)
-GetsSo words before after Usage = IsRefusedUrlOf words before after
-    ⊎ (IsRefusedRequestOf words before after ⊎ FailsToGet words before after Usage)
-GetsSo words before after Device = IsRefusedUrlOf words before after
-    ⊎ (IsRefusedRequestOf words before after ⊎ (FailsToGet words before after Device
-    ⊎ ((fetched : Fetched) × GetsAsked words (Ok fetched))))
-GetsSo words before after Memory = after ≡ before
-
--- How `h2 get` ends.
--- rule: engines (own) serve, get and loop have their words
-abbrev pub EndsGet : (words : List (List ℕ)) → (before after : Option (List ℕ)) → Status → Type 0
-EndsGet words before after status =
-    ((asked : GetWords) × (get_words_of words ≡ Some asked) × GetsSo asked before after status)
-    ⊎ EndsByWords (get_faults words) before after status
-
 -- The exchange has ended early, with an error of this status, and nothing was printed.
 pub record FailsToPost (count : ℕ) (before after : Option (List ℕ)) (status : Status) : Type 0 where
   pub error : LinkError
@@ -506,11 +399,20 @@ NamesNoCommand (name ∷ others) =
     (name ≢ codes "show") × ((name ≢ codes "replay") × ((name ≢ codes "serve")
     × ((name ≢ codes "get") × (name ≢ codes "loop"))))
 
--- The first of the words, if there is one, names no command that reads standard input.
+-- The words after `get` don't ask for a body that standard input gives.
+-- rule: engines (own) The words of get make its request and say what is printed
+abbrev pub ReadNoInput : (words : List (List ℕ)) → Type 0
+ReadNoInput words =
+    (asked : GetWords) → get_words_of words ≡ Some asked → reads_input asked ≡ false
+
+-- The first of the words, if there is one, names no command that reads standard input: not `show`,
+-- not `replay`, and not `get` with `-d @-`.
 -- rule: show (own) The words choose the end and hexadecimal
+-- rule: engines (own) The words of get make its request and say what is printed
 abbrev pub NamesNoReader : (words : List (List ℕ)) → Type 0
 NamesNoReader [] = Unit {0}
-NamesNoReader (name ∷ others) = (name ≢ codes "show") × (name ≢ codes "replay")
+NamesNoReader (name ∷ others) = (name ≢ codes "show")
+    × ((name ≢ codes "replay") × (name ≡ codes "get" → ReadNoInput others))
 
 -- How the program ends with words that name no command: they ask for help or the version, or are
 -- wrong.

@@ -1,41 +1,58 @@
 //! The command `h2 get`.
 
-ghost use Rattle.std.specs.Prelude.{◌≡◌, Ok, if◌then◌else◌, is_ok, map, string_bytes};
-ghost use Rattle.h2_cli.specs.declared.status.Status.TheVariants.{Device, Usage};
+ghost use Rattle.std.specs.Prelude.{◌≡◌, Ok, Err, if◌then◌else◌, is_ok, map, string_bytes};
+ghost use Rattle.h2_cli.specs.declared.status.Status.TheVariants.{Device, Fault, Good, Usage};
 ghost use Rattle.h2_net.specs.Endings.{status_with, without_hint};
 ghost use Rattle.h2_args.specs.Words.{asked_by};
-ghost use Rattle.h2_tool.specs.Commands.{EndsGet, EndsWithFetch, RefusesRequest, RefusesUrl};
+ghost use Rattle.h2_get.specs.Responses.{fails_as_asked};
+ghost use Rattle.h2_get.specs.Streams.{without_stream_hint};
+ghost use Rattle.h2_tool.specs.Commands.{ReadNoInput};
+ghost use Rattle.h2_message.specs.Values.{message_value};
+ghost use Rattle.h2_tool.specs.Gets.{AsksSo, EndsGet, EndsWithFetch, EndsWithStream};
+ghost use Rattle.h2_tool.specs.Gets.{RefusesBody, RefusesRequest, RefusesUrl, is_in_parts};
 
 use crate::program::{answer, give_up};
+use crate::show::end_unopened;
 use h2_args::{GetOptions, get_args};
 use h2_cli::{Failure, Status, hint_at_client, write_hint};
-use h2_get::{RequestFault, is_failure, location_at, print_asked, request_of, write_failure};
-use h2_net::{Ending, Fetched, LinkError, TargetFault, WriteParts, fetch_location, report};
+use h2_engines::Message;
+use h2_get::{
+    BodyFault, RequestFault, StreamEnding, StreamError, body_of, is_failure, location_at,
+    print_asked, request_of, stream_location, write_failure,
+};
+use h2_net::{
+    Ending, Fetched, LinkError, Location, TargetFault, WriteParts, fetch_location, report,
+};
 use std::alloc::Global;
-use std::io::{self, Write};
+use std::fs::Files;
+use std::io::{self, Read, Write};
 use std::net::Net;
 
 // contract: engines (own) The words of get make its request and say what is printed
 // rule: engines (own) The words of get make its request and say what is printed
 /// Runs `h2 get` with the words after `get`: fetches a URL with the request that the words ask for,
-/// and prints the status with its phrase, the fields where the words ask for them, and the body. A
-/// fetch that fails has a line on standard error, and a hint where the cause is known.
+/// whose body a file or `input` gives where they say so, and prints the status with its phrase, the
+/// fields where the words ask for them, and the body; as it comes, or into a file, where they ask
+/// for that. A fetch that fails has a line on standard error, and a hint where the cause is known.
 ///
 /// The status is [`Status::Good`] for a response that has come, whatever its own status is, and for
 /// help; [`Status::Fault`] for a response that the words make a failure; [`Status::Usage`] for
 /// wrong words, a URL that can't be fetched and a request that breaks a rule; and else that of
 /// [`h2_net::status_of`].
-pub fn cmd_get<N: Net, W: Write, E: Write>(
+pub fn cmd_get<N: Net + Files, R: Read, W: Write, E: Write>(
     net: &N,
     alloc: Global,
     words: &[String],
+    input: &mut R,
     out: &mut W,
     err: &mut E,
 ) -> Status
 where
     N::Stream: WriteParts,
-    ensures { EndsGet (map string_bytes words.now) (W.contents out.old) (W.contents out.new)
-        result }
+    ensures ends { EndsGet (map string_bytes words.now) (R.remaining input.old)
+        (W.contents out.old) (W.contents out.new) result }
+    ensures unread { ReadNoInput (map string_bytes words.now)
+        → R.remaining input.new ≡ R.remaining input.old }
 {
     let options = match get_args(alloc, words) {
         Ok(options) => options,
@@ -45,12 +62,48 @@ where
         Ok(location) => location,
         Err(fault) => return refuse_url(fault, options.port, err),
     };
-    let message = match request_of(alloc, &options, &location) {
+    let body = match body_of(net, alloc, &options, input) {
+        Ok(body) => body,
+        Err(fault) => return refuse_body(fault, &options, err),
+    };
+    let message = match request_of(alloc, &options, &location, body) {
         Ok(message) => message,
         Err(fault) => return refuse_request(fault, err),
     };
-    let got = fetch_location(net, alloc, &location, message);
-    end_get(&options, got, out, err)
+    ask(net, alloc, &options, &location, message, out, err)
+}
+
+// rule: engines (own) The words of get make its request and say what is printed
+// rule: engines (own) get -o and --stream write the body as it comes, in order
+// Makes the request and prints the response, as the options ask.
+fn ask<N: Net + Files, W: Write, E: Write>(
+    net: &N,
+    alloc: Global,
+    options: &GetOptions<'_>,
+    location: &Location,
+    message: Message,
+    out: &mut W,
+    err: &mut E,
+) -> Status
+where
+    N::Stream: WriteParts,
+    ensures { AsksSo (asked_by options.now) (message_value message) (W.contents out.old)
+        (W.contents out.new) result }
+{
+    if is_in_parts(options) {
+        let got = stream_location(net, alloc, options, location, message, out);
+        return end_stream(options, got, err);
+    }
+    let got = fetch_location(net, alloc, location, message);
+    end_get(options, got, out, err)
+}
+
+// rule: engines (own) get -o and --stream write the body as it comes, in order
+// Whether the options ask for the body as it comes.
+fn is_in_parts(options: &GetOptions<'_>) -> bool
+    ensures { result ≡ is_in_parts (asked_by options.now) }
+{
+    options.stream || options.output.is_some()
 }
 
 // rule: engines (own) N1 to N7 end a command with their statuses
@@ -101,6 +154,53 @@ fn end_fetched<W: Write, E: Write>(
     if let Err(error) = print_asked(options, fetched, out) {
         return report(Ending { error, hint: None }, err);
     }
+    end_response(options, fetched, err)
+}
+
+// rule: engines (own) get -o and --stream write the body as it comes, in order
+// rule: engines (own) N1 to N7 end a command with their statuses
+// Prints on standard error how a response ends that was printed as it came, if it is a failure or
+// has ended early.
+fn end_stream<E: Write>(
+    options: &GetOptions<'_>,
+    got: Result<Fetched, StreamEnding>,
+    err: &mut E,
+) -> Status
+    ensures { EndsWithStream (asked_by options.now) (without_stream_hint got) result }
+{
+    match got {
+        Ok(fetched) => end_response(options, &fetched, err),
+        Err(ending) => end_unstreamed(options, ending, err),
+    }
+}
+
+// rule: engines (own) N1 to N7 end a command with their statuses
+// Prints on standard error why a response was not printed whole.
+fn end_unstreamed<E: Write>(options: &GetOptions<'_>, ending: StreamEnding, err: &mut E) -> Status
+    ensures { EndsWithStream (asked_by options.now) (Err ending.error) result }
+{
+    let hint = ending.hint;
+    match ending.error {
+        StreamError::Link(error) => report_fetch(Ending { error, hint }, err),
+        StreamError::Output => give_up(Failure::Device, err),
+        StreamError::File => refuse_file(options.output.unwrap_or(""), err),
+    }
+}
+
+// Prints on standard error that a file can't be written.
+fn refuse_file<E: Write>(path: &str, err: &mut E) -> Status
+    ensures { result ≡ Device }
+{
+    // There is no place left to report that this write fails.
+    let _ = writeln!(err, "N1 Device\nhint: file {path}: it can't be written");
+    Status::Device
+}
+
+// rule: engines (own) With --fail a status of 400 or above ends get with status 1
+// The status once a response was printed; on standard error stands that it is a failure, if it is.
+fn end_response<E: Write>(options: &GetOptions<'_>, fetched: &Fetched, err: &mut E) -> Status
+    ensures { result ≡ (if fails_as_asked (asked_by options.now) fetched.now then Fault else Good) }
+{
     if is_failure(options, fetched) {
         // The status is that of the response, whether or not this write fails.
         let _ = write_failure(fetched, err);
@@ -123,6 +223,22 @@ fn refuse_url<E: Write>(fault: TargetFault, port: Option<u16>, err: &mut E) -> S
         return status_after(writeln!(err, "error: {fault}\n{hint}"));
     }
     status_after(writeln!(err, "error: {fault}"))
+}
+
+// rule: engines (own) The words of get make its request and say what is printed
+// Prints on standard error that the body can't be read, and which file it is.
+fn refuse_body<E: Write>(fault: BodyFault, options: &GetOptions<'_>, err: &mut E) -> Status
+    ensures { RefusesBody fault result }
+{
+    match fault {
+        BodyFault::Memory => give_up(Failure::Memory, err),
+        BodyFault::Input => give_up(Failure::Device, err),
+        BodyFault::File(kind) => {
+            let word = options.body.unwrap_or("");
+            let path = word.strip_prefix('@').unwrap_or("");
+            end_unopened(path, &io::Error::from(kind), err)
+        }
+    }
 }
 
 // Prints on standard error why no request can be made, with the rule that it would break.

@@ -3,8 +3,9 @@
 ghost use Rattle.std.specs.Prelude.{◌≡◌, ◌≢◌, List, ℕ, ◌∷◌, MatchResult, codes, map, string_bytes};
 ghost use Rattle.clap.specs.Words.{kind_of};
 ghost use Rattle.h2_cli.specs.Status.{failure_status};
-ghost use Rattle.h2_tool.specs.Commands.{AnswersWords, EndsShow, EndsReplay, EndsServe, EndsGet};
+ghost use Rattle.h2_tool.specs.Commands.{AnswersWords, EndsShow, EndsReplay, EndsServe};
 ghost use Rattle.h2_tool.specs.Commands.{EndsLoop, EndsProgram, NamesNoCommand, NamesNoReader};
+ghost use Rattle.h2_tool.specs.Gets.{EndsGet};
 
 use crate::get::cmd_get;
 use crate::replay::cmd_replay;
@@ -50,7 +51,7 @@ where
     ensures serve { (others : List (List ℕ)) → map string_bytes words.now ≡ codes "serve" ∷ others
         → EndsServe others (W.contents out.old) (W.contents out.new) result }
     ensures get { (others : List (List ℕ)) → map string_bytes words.now ≡ codes "get" ∷ others
-        → EndsGet others (W.contents out.old) (W.contents out.new) result }
+        → EndsGet others (R.remaining input.old) (W.contents out.old) (W.contents out.new) result }
     ensures post { (others : List (List ℕ)) → map string_bytes words.now ≡ codes "loop" ∷ others
         → EndsLoop others (W.contents out.old) (W.contents out.new) result }
     ensures none { NamesNoCommand (map string_bytes words.now)
@@ -64,7 +65,7 @@ where
             "show" => return cmd_show(net, alloc, others, colored, input, out, err),
             "replay" => return cmd_replay(alloc, others, input, out, err),
             "serve" => return cmd_serve(net, alloc, others, out, err),
-            "get" => return cmd_get(net, alloc, others, out, err),
+            "get" => return cmd_get(net, alloc, others, input, out, err),
             "loop" => return cmd_loop(net, alloc, others, out, err),
             _ => {}
         }

@@ -14,6 +14,8 @@ url_alone : get_words_of (codes "http://h:1/a" ∷ []) ≡ Some (record {
   body = None;
   fail = false;
   port = None;
+  output = None;
+  stream = false;
 })
 unfolding clap_on_literals
 url_alone = refl
@@ -28,6 +30,8 @@ short_words : get_words_of (codes "-i" ∷ codes "-H" ∷ codes "A: b" ∷ codes
       body = Some (codes "x=y");
       fail = false;
       port = None;
+      output = None;
+      stream = false;
     })
 unfolding clap_on_literals
 short_words = refl
@@ -42,9 +46,26 @@ long_words : get_words_of (codes "--include" ∷ codes "--header=a:b" ∷ codes 
       body = Some [];
       fail = true;
       port = Some 9001;
+      output = None;
+      stream = false;
     })
 unfolding clap_on_literals
 long_words = refl
+
+parts_words : get_words_of (codes "-o" ∷ codes "a" ∷ codes "--stream" ∷ codes "http://h/" ∷ [])
+    ≡ Some (record {
+      url = codes "http://h/";
+      include = false;
+      fields = [];
+      method = None;
+      body = None;
+      fail = false;
+      port = None;
+      output = Some (codes "a");
+      stream = true;
+    })
+unfolding clap_on_literals
+parts_words = refl
 
 no_url : get_faults (codes "-i" ∷ []) ≡ MissingRequiredArgument ∷ []
 unfolding clap_on_literals

@@ -7,7 +7,7 @@ use Rattle.h2_net.specs.Fetching.{get_request}
 use Rattle.h2_args.specs.Words.{GetWords}
 use Rattle.h2_get.specs.Ports.{url_with_port}
 use Rattle.h2_get.specs.Requests.{begins_with_at, field_of_word, has_colon, method_asked}
-use Rattle.h2_get.specs.Requests.{request_asked}
+use Rattle.h2_get.specs.Requests.{reads_input, request_asked}
 
 -- rule: engines (own) The port of --port is that of a URL without one
 port_before_the_path : url_with_port (codes "http://h/a?b") 9001 ≡ codes "http://h:9001/a?b"
@@ -61,10 +61,13 @@ url_alone = record {
   body = None;
   fail = false;
   port = None;
+  output = None;
+  stream = false;
 }
 
 -- rule: engines (own) A URL is asked for with GET
-url_alone_is_got : (location : Location) → request_asked url_alone location ≡ get_request location
+url_alone_is_got : (location : Location)
+    → request_asked url_alone [] location ≡ get_request location
 url_alone_is_got location = refl
 
 post_with_a_body : method_asked (record url_alone { body = Some [] }) ≡ codes "POST"
@@ -75,6 +78,12 @@ method_of_the_words : method_asked (record url_alone {
   body = Some (codes "a");
 }) ≡ codes "PUT"
 method_of_the_words = refl
+
+input_is_read : reads_input (record url_alone { body = Some (codes "@-") }) ≡ true
+input_is_read = refl
+
+file_is_read : reads_input (record url_alone { body = Some (codes "@-a") }) ≡ false
+file_is_read = refl
 
 at_sign : begins_with_at (codes "@file") ≡ true
 at_sign = refl

@@ -1,11 +1,13 @@
 //! What the words after `h2 get` ask for and print, over a link in memory.
 
+use super::devices::Failing;
 use crate::tests::fetching::RESPONSE;
 use h2_args::{GetOptions, get_args};
 use h2_engines::{Config, Field, Link, MemoryLink, Message, fetch_link};
-use h2_get::{is_failure, location_at, print_asked, request_of, write_failure};
+use h2_get::{body_of, is_failure, location_at, print_asked, request_of, write_failure};
 use h2_net::Fetched;
 use std::alloc::{AllocError, Global};
+use std::fs::Files;
 use std::test::Fail;
 
 /// Words, which a bar divides.
@@ -28,7 +30,8 @@ fn gets(alloc: Global, options: &GetOptions<'_>, link: &mut MemoryLink, text: &s
     let Ok(location) = location_at(alloc, options.url.as_bytes(), options.port) else {
         return false;
     };
-    let Ok(message) = request_of(alloc, options, &location) else {
+    let body = Vec::new(alloc);
+    let Ok(message) = request_of(alloc, options, &location, body) else {
         return false;
     };
     if link.failures() != 0 {
@@ -69,8 +72,14 @@ fn is_request(message: &Message, method: &str, name: &str, value: &str, body: &s
         && message.body.as_slice() == body.as_bytes()
 }
 
-/// Whether the words ask for a request with this method, this last field and this body.
-fn asks(alloc: Global, words: &[String], request: (&str, &str, &str, &str)) -> bool {
+/// Whether the words ask for a request with this method, this last field and this body, and read
+/// nothing.
+fn asks<F: Files>(
+    files: &F,
+    alloc: Global,
+    words: &[String],
+    request: (&str, &str, &str, &str),
+) -> bool {
     let Ok(options) = get_args(alloc, words) else {
         return false;
     };
@@ -78,7 +87,10 @@ fn asks(alloc: Global, words: &[String], request: (&str, &str, &str, &str)) -> b
         return false;
     };
     let (method, name, value, body) = request;
-    match request_of(alloc, &options, &location) {
+    let Ok(octets) = body_of(files, alloc, &options, &mut Failing) else {
+        return false;
+    };
+    match request_of(alloc, &options, &location, octets) {
         Ok(message) => is_request(&message, method, name, value, body),
         Err(_) => false,
     }
@@ -97,7 +109,7 @@ fn requests_of_words(rt: HostRuntime) -> Result<(), Fail> {
     ];
     for (line, request) in cases {
         let words = words_of(rt.alloc(), line)?;
-        assert!(rt; asks(rt.alloc(), &words, request), "{line}");
+        assert!(rt; asks(&rt, rt.alloc(), &words, request), "{line}");
     }
     Ok(())
 }

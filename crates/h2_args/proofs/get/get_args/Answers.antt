@@ -29,8 +29,10 @@ unreachable-requires c =
 -- words that ask for equal things are equal
 same_words : {url url_now : Text} {include include_now : Bool} {fields fields_now : List Text}
     {method method_now body body_now : Option Text} {fail fail_now : Bool}
-    {port port_now : Option ℕ} → url ≡ url_now → include ≡ include_now → fields ≡ fields_now
+    {port port_now : Option ℕ} {output output_now : Option Text} {stream stream_now : Bool} →
+    url ≡ url_now → include ≡ include_now → fields ≡ fields_now
     → method ≡ method_now → body ≡ body_now → fail ≡ fail_now → port ≡ port_now
+    → output ≡ output_now → stream ≡ stream_now
     → ◌≡◌ {A = GetWords} (record {
       url = url;
       include = include;
@@ -39,6 +41,8 @@ same_words : {url url_now : Text} {include include_now : Bool} {fields fields_no
       body = body;
       fail = fail;
       port = port;
+      output = output;
+      stream = stream;
     }) (record {
       url = url_now;
       include = include_now;
@@ -47,8 +51,10 @@ same_words : {url url_now : Text} {include include_now : Bool} {fields fields_no
       body = body_now;
       fail = fail_now;
       port = port_now;
+      output = output_now;
+      stream = stream_now;
     })
-same_words a b c d e f g = λ i. record {
+same_words a b c d e f g h k = λ i. record {
   url = a i;
   include = b i;
   fields = c i;
@@ -56,6 +62,8 @@ same_words a b c d e f g = λ i. record {
   body = e i;
   fail = f i;
   port = g i;
+  output = h i;
+  stream = k i;
 }
 
 -- the port is the number that is given, if one is
@@ -87,10 +95,12 @@ returns-clause-ok c =
     (sym (first_value-rows found (codes "URL")) ∙ sym c.in-Some.ensures) in
     let method = sym (first_value-rows found (codes "request")) ∙ sym c.get_str-2.ensures in
     let body = sym (first_value-rows found (codes "data")) ∙ sym c.get_str-3.ensures in
+    let output = sym (first_value-rows found (codes "output")) ∙ sym c.get_str-4.ensures in
     given_by-Ok get_app get_words_in _ c.in_ok-command.command c.in_ok-matches.matches
     c.in_ok-command.ensures refl refl c.in_ok-matches.ensures.matches
     c.in_ok-matches.ensures.kinds ∙ ap Some (same_words url (sym c.is_set.ensures)
-    (sym c.in_ok-fields.ensures) method body (sym c.is_set-2.ensures) (sym given.read))
+    (sym c.in_ok-fields.ensures) method body (sym c.is_set-2.ensures) (sym given.read) output
+    (sym c.is_set-3.ensures))
 
 pub returns-in_err-matches-clause-err : goal.returns-in_err-matches-clause-err
 returns-in_err-matches-clause-err c =

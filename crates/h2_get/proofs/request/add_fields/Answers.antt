@@ -17,7 +17,6 @@ refused_words words place other word faults.NoColon within is refused =
     (subst (λ (n : ℕ). place < n) (sym (length-map words (λ one. one.now))) within)
     (ap has_colon (get_or-map (λ one. one.now) words place other other.now within ∙ sym is)
     ∙ refused)
-refused_words words place other word faults.AtSign within is refused = absurd refused
 refused_words words place other word faults.Host within is refused = absurd refused
 refused_words words place other word (faults.Malformed rule) within is refused = absurd refused
 refused_words words place other word faults.Memory within is refused = tt

@@ -1,7 +1,8 @@
 -- Words that begin with `show`, `replay`, `get` or `loop` are that command's; words without a command
 -- have a fault.
-use Rattle.std.proofs.Common.{◌≡◌, ℕ, List, map, string_bytes, subst, rules}
-use Rattle.h2_tool.specs.Commands.{EndsGet, EndsLoop, EndsReplay, EndsShow}
+use Rattle.std.proofs.Common.{◌≡◌, ◌∷◌, ℕ, List, codes, map, refl, string_bytes, subst, rules}
+use Rattle.h2_tool.specs.Commands.{EndsLoop, EndsReplay, EndsShow}
+use Rattle.h2_tool.specs.Gets.{EndsGet}
 use Rattle.h2_tool.proofs.ProgramLemmas.{never_pass}
 use Rattle.h2_tool.proofs.WordLemmas.{program_fails}
 use Rattle.h2_tool.proofs.program.run.Goals as goal
@@ -24,8 +25,16 @@ returns-in-replay-clause-replay g c = λ others same.
 pub returns-in-get-clause-get : goal.returns-in-get-clause-get
 returns-in-get-clause-get g c = λ others same.
     let following : map string_bytes c.in-Some.others.now ≡ others = search rules in
-    subst (λ (words : List (List ℕ)). EndsGet words (g.W.Write.contents c.args.out.now)
-    (g.W.Write.contents c.cmd_get.new.out) c.cmd_get.result) following c.cmd_get.ensures
+    subst (λ (words : List (List ℕ)). EndsGet words (g.R.Read.remaining c.args.input.now)
+    (g.W.Write.contents c.args.out.now) (g.W.Write.contents c.cmd_get.new.out) c.cmd_get.result)
+    following c.cmd_get.ensures.ends
+
+-- `get` reads nothing but for `-d @-`.
+pub returns-in-get-clause-unread : goal.returns-in-get-clause-unread
+returns-in-get-clause-unread g c = λ none.
+    let same : map string_bytes c.args.words.now
+    ≡ codes "get" ∷ map string_bytes c.in-Some.others.now = search rules in
+    c.cmd_get.ensures.unread ((rw same at none).1.1 refl)
 
 pub returns-in-loop-clause-post : goal.returns-in-loop-clause-post
 returns-in-loop-clause-post g c = λ others same.

@@ -1,0 +1,17 @@
+-- No call of the link has failed, and all that has come of the body was written.
+use Rattle.std.proofs.Common.{◌≡◌}
+use Rattle.h2_engines.specs.Linked.{traffic}
+use Rattle.h2_get.proofs.Receiving.{PassesOn, Written}
+use Rattle.h2_get.proofs.receive.pass_body.Given as goal
+
+abbrev pub invariant-loop : goal.invariant-loop
+invariant-loop g l =
+    record {
+      failures : g.L.Link.faults l.link ≡ g.L.Link.faults l.initial.link;
+      stream : l.fetch.id ≡ l.initial.fetch.id;
+      passes : PassesOn (Written (g.W.Write.contents l.initial.out) (g.W.Write.contents l.out))
+          (traffic (g.L.Link.given l.initial.link) (g.L.Link.taken l.initial.link)
+          (g.L.Link.stalled l.initial.link))
+          (traffic (g.L.Link.given l.link) (g.L.Link.taken l.link) (g.L.Link.stalled l.link))
+          l.initial.fetch l.fetch l.counter;
+    }

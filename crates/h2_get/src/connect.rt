@@ -1,0 +1,79 @@
+//! The link of a response that comes in parts.
+
+ghost use Rattle.std.specs.Prelude.{◌≡◌, ◌⊎◌, ◌<◌, ◌-◌, ◌^◌, IfErr, IfOk};
+
+use h2_cli::{Hint, hint_at_client, hint_of_connecting, hint_of_device};
+use h2_net::{Ending, LinkError, Location, StreamLink, WriteParts};
+use std::alloc::Global;
+use std::io::Read;
+use std::net::{Net, OpenStream, TcpStream};
+
+// rule: engines (own) A hint after the line names the likely cause of N1 and N2
+/// A link over a new connection to the host and the port of a location. A host's name is looked up
+/// by the network.
+///
+/// # Errors
+///
+/// [`LinkError::Device`] (N1) where no connection can be made, [`LinkError::Memory`] (N3) where an
+/// allocation was refused. The hint says what is likely the cause.
+pub(crate) fn connect_to<N: Net>(
+    net: &N,
+    alloc: Global,
+    location: &Location,
+) -> Result<StreamLink<N::Stream>, Ending>
+where
+    N::Stream: WriteParts,
+    ensures new { IfOk result (λ link. link.failures ≡ 0) }
+    ensures err { IfErr result (λ ending. (ending.error ≡ LinkError.Device)
+        ⊎ (ending.error ≡ LinkError.Memory)) }
+{
+    match TcpStream::connect(net, (location.host.as_str(), location.port)) {
+        Ok(stream) => match StreamLink::new(alloc, stream) {
+            Ok(link) => Ok(link),
+            Err(error) => Err(Ending { error, hint: None }),
+        },
+        Err(fault) => Err(Ending {
+            error: LinkError::Device,
+            hint: hint_of_connecting(fault.kind()),
+        }),
+    }
+}
+
+// rule: engines (own) A hint after the line names the likely cause of N1 and N2
+/// How a fetch over a link has ended early, with the hint that says what is likely the cause. All
+/// that is held is sent, where the link has not failed.
+pub(crate) fn end_fetch<S: Read + WriteParts + OpenStream>(
+    link: &mut StreamLink<S>,
+    error: LinkError,
+) -> Ending
+    ensures { result.error ≡ error }
+{
+    let hint = hint_of(link, error);
+    if error != LinkError::Device {
+        send_held(link);
+    }
+    Ending { error, hint }
+}
+
+/// Sends all that a link holds that has not failed: a GOAWAY, or credit. That it can't be sent
+/// changes nothing of what has come.
+pub(crate) fn send_held<S: Read + WriteParts + OpenStream>(link: &mut StreamLink<S>) {
+    if h2_engines::Link::failures(link) == 0 {
+        let _ = link.flush();
+    }
+}
+
+/// The hint for an error over a link: for N1 by its last error, for N2 by its first octets.
+fn hint_of<S: Read + WriteParts + OpenStream>(
+    link: &StreamLink<S>,
+    error: LinkError,
+) -> Option<Hint> {
+    match error {
+        LinkError::Stream(code) => hint_at_client(code, link.first_octets()),
+        LinkError::Device => match link.last_error() {
+            Some(kind) => hint_of_device(kind),
+            None => None,
+        },
+        _ => None,
+    }
+}

@@ -1,0 +1,84 @@
+//! What comes of a response that is taken as it comes.
+
+ghost use Rattle.std.specs.Prelude.{◌≡◌};
+
+use h2_message::Field;
+use h2_net::{Ending, Hint, LinkError};
+
+/// Why the body of a response was not passed on whole.
+#[derive(Clone, Copy, Debug, PartialEq, Eq)]
+pub enum PassError {
+    /// The fetch has ended early.
+    Link(LinkError),
+    /// A write has failed, or took nothing.
+    Output,
+}
+
+impl From<LinkError> for PassError {
+    ghost use Rattle.h2_get.specs.declared.pass_error.PassError.TheVariants.{Link};
+
+    ghost from_gives = { λ error fault. fault ≡ Link error };
+
+    fn from(error: LinkError) -> PassError {
+        PassError::Link(error)
+    }
+}
+
+/// Why a response was not printed whole.
+#[derive(Clone, Copy, Debug, PartialEq, Eq)]
+pub enum StreamError {
+    /// The fetch has ended early.
+    Link(LinkError),
+    /// What is printed could not be.
+    Output,
+    /// The file can't be made, or a write to it has failed.
+    File,
+}
+
+/// Why a response was not printed whole, and what is likely the cause.
+#[derive(Clone, Copy, Debug, PartialEq, Eq)]
+pub struct StreamEnding {
+    /// Why.
+    pub error: StreamError,
+    /// What is likely the cause, where it is known.
+    pub hint: Option<Hint>,
+}
+
+impl StreamEnding {
+    ghost use Rattle.h2_get.specs.declared.pass_error.StreamError.TheVariants.{Link};
+
+    /// A fetch has ended so.
+    pub(crate) fn of_link(ending: Ending) -> StreamEnding
+        ensures { result.error ≡ Link ending.error }
+    {
+        StreamEnding {
+            error: StreamError::Link(ending.error),
+            hint: ending.hint,
+        }
+    }
+
+    /// This error, without a hint.
+    pub(crate) fn of_error(error: StreamError) -> StreamEnding
+        ensures { result.error ≡ error }
+    {
+        StreamEnding { error, hint: None }
+    }
+}
+
+/// The head of a response.
+#[derive(Debug, Drop)]
+pub struct ResponseHead {
+    /// Its fields, in order.
+    pub list: Vec<Field>,
+    /// Whether the response is whole with it.
+    pub end: bool,
+}
+
+/// What follows a part of a response.
+#[derive(Debug, Drop)]
+pub(crate) enum Passed {
+    /// More parts.
+    GoesOn,
+    /// Nothing: it is whole, and these are its trailers, if it has any.
+    Whole(Option<Vec<Field>>),
+}

@@ -1,0 +1,151 @@
+//! A response that is fetched and printed as it comes.
+
+ghost use Rattle.std.specs.Prelude.{◌≡◌, ◌<◌, ◌-◌, ◌^◌, [], IfErr, None, OnOk, is_some};
+ghost use Rattle.std.specs.Io.KnownBytes.{Appends};
+ghost use Rattle.h2_engines.specs.Linked.{traffic};
+ghost use Rattle.h2_args.specs.Words.{asked_by};
+ghost use Rattle.h2_get.specs.Receives.{fields_in_trailers};
+ghost use Rattle.h2_get.specs.Responses.{trailers_shown};
+ghost use Rattle.h2_get.specs.Streams.{PrintsHead, ShowsRest, StreamsResponse};
+
+use crate::pass_error::{PassError, StreamError};
+use crate::receive::{next_head, pass_body};
+use crate::response::{is_failure, print_asked, print_trailers};
+use h2_args::GetOptions;
+use h2_engines::Link;
+use h2_fetch::PartFetch;
+use h2_message::Field;
+use h2_net::Fetched;
+use std::alloc::Global;
+use std::fs::{File, Files};
+use std::io::Write;
+
+// contract: engines (own) get -o and --stream write the body as it comes, in order
+// rule: engines (own) get -o and --stream write the body as it comes, in order
+/// Prints the response that a fetch answers as it comes: the line of its status, its fields where
+/// the options ask for them, and the body, which goes into a file where the options name one. The
+/// file is made once the head has come. Where the options make the response a failure, nothing
+/// follows its fields, no file is made, and no more of it is fetched. Answers its head, without the
+/// body.
+///
+/// # Errors
+///
+/// [`StreamError`] says why it is not printed whole. All that came before a fetch has ended early
+/// was printed, or stands in the file.
+pub fn stream_response<F: Files, L: Link, W: Write>(
+    files: &F,
+    alloc: Global,
+    options: &GetOptions<'_>,
+    fetch: &mut PartFetch,
+    link: &mut L,
+    out: &mut W,
+) -> Result<Fetched, StreamError>
+    requires { L.faults link.old < 2 ^ 64 - 1 }
+    ensures { StreamsResponse (asked_by options.now)
+        (traffic (L.given link.old) (L.taken link.old) (L.stalled link.old))
+        (traffic (L.given link.new) (L.taken link.new) (L.stalled link.new))
+        fetch.old fetch.new (W.contents out.old) (W.contents out.new) result }
+{
+    let head = match next_head(fetch, link) {
+        Ok(head) => head,
+        Err(error) => return Err(StreamError::Link(error)),
+    };
+    let end = head.end;
+    let fetched = fetched_with(alloc, head.list);
+    print_head(options, &fetched, out)?;
+    if is_failure(options, &fetched) {
+        return Ok(fetched);
+    }
+    let trailers = show_rest(files, options, end, fetch, link, out)?;
+    print_last(options.include, &trailers, out)?;
+    Ok(fetched)
+}
+
+/// A response with this head, and nothing else.
+fn fetched_with(alloc: Global, head: Vec<Field>) -> Fetched
+    ensures head { result.head ≡ head }
+    ensures body { result.body.items ≡ [] }
+    ensures trailers { result.trailers ≡ None }
+{
+    Fetched {
+        interims: Vec::new(alloc),
+        head,
+        body: Vec::new(alloc),
+        trailers: None,
+    }
+}
+
+/// Prints the head of a response of which nothing else is known.
+fn print_head<W: Write>(
+    options: &GetOptions<'_>,
+    fetched: &Fetched,
+    out: &mut W,
+) -> Result<(), StreamError>
+    requires body { fetched.now.body.items ≡ [] }
+    requires trailers { fetched.now.trailers ≡ None }
+    ensures head { OnOk result (PrintsHead (asked_by options.now) (W.contents out.old)
+        (W.contents out.new) fetched.now.head.items) }
+    ensures err { IfErr result (λ error. error ≡ StreamError.Output) }
+{
+    match print_asked(options, fetched, out) {
+        Ok(()) => Ok(()),
+        Err(_) => Err(StreamError::Output),
+    }
+}
+
+/// Prints the trailers that follow a body, if it has any, where the options ask for fields.
+fn print_last<W: Write>(
+    include: bool,
+    trailers: &Option<Vec<Field>>,
+    out: &mut W,
+) -> Result<(), StreamError>
+    ensures trailers { OnOk result (Appends (W.contents out.old) (W.contents out.new)
+        (trailers_shown include (fields_in_trailers trailers.now))) }
+    ensures err { IfErr result (λ error. error ≡ StreamError.Output) }
+{
+    match print_trailers(include, trailers, out) {
+        Ok(()) => Ok(()),
+        Err(_) => Err(StreamError::Output),
+    }
+}
+
+// rule: engines (own) get -o and --stream write the body as it comes, in order
+/// Passes the body on into the file that the options name, which is made, or emptied where it is
+/// there, or else to what is printed, and answers the trailers.
+fn show_rest<F: Files, L: Link, W: Write>(
+    files: &F,
+    options: &GetOptions<'_>,
+    is_whole: bool,
+    fetch: &mut PartFetch,
+    link: &mut L,
+    out: &mut W,
+) -> Result<Option<Vec<Field>>, StreamError>
+    requires { L.faults link.old < 2 ^ 64 - 1 }
+    ensures rest { ShowsRest (is_some (asked_by options.now).output) is_whole
+        (traffic (L.given link.old) (L.taken link.old) (L.stalled link.old))
+        (traffic (L.given link.new) (L.taken link.new) (L.stalled link.new))
+        fetch.old fetch.new (W.contents out.old) (W.contents out.new) result }
+    ensures stream { fetch.new.id ≡ fetch.old.id }
+{
+    let Some(path) = options.output else {
+        if is_whole {
+            return Ok(None);
+        }
+        return match pass_body(fetch, link, out) {
+            Ok(trailers) => Ok(trailers),
+            Err(PassError::Link(error)) => Err(StreamError::Link(error)),
+            Err(PassError::Output) => Err(StreamError::Output),
+        };
+    };
+    let Ok(mut file) = File::create(files, path) else {
+        return Err(StreamError::File);
+    };
+    if is_whole {
+        return Ok(None);
+    }
+    match pass_body(fetch, link, &mut file) {
+        Ok(trailers) => Ok(trailers),
+        Err(PassError::Link(error)) => Err(StreamError::Link(error)),
+        Err(PassError::Output) => Err(StreamError::File),
+    }
+}
