@@ -1,9 +1,11 @@
 //! A response that is printed as it comes, over a link in memory.
 
+ghost use Rattle.std.specs.Prelude.{◌≡◌, IfOk};
+
 use super::devices::Failing;
 use crate::tests::fetching::RESPONSE;
 use h2_args::{GetOptions, get_args};
-use h2_engines::{Config, MemoryLink, Message};
+use h2_engines::{Config, Link, MemoryLink, Message};
 use h2_fetch::{PartFetch, ResponsePart};
 use h2_get::{PassError, StreamError, next_head, pass_body, stream_response};
 use h2_net::LinkError;
@@ -13,7 +15,9 @@ use std::fs::Files;
 use std::test::Fail;
 
 /// A link that gives these octets, so many a read.
-fn link_of(alloc: Global, octets: &[u8], most: usize) -> Result<MemoryLink, AllocError> {
+fn link_of(alloc: Global, octets: &[u8], most: usize) -> Result<MemoryLink, AllocError>
+    ensures { IfOk result (λ link. link.failures ≡ 0) }
+{
     let input = Vec::from_slice(alloc, octets)?;
     Ok(MemoryLink::new(alloc, input).with_most(most, usize::MAX))
 }
@@ -32,6 +36,9 @@ fn answers_parts(alloc: Global, most: usize) -> bool {
     let Ok(ResponsePart::Head { list, end: false }) = fetch.next(&mut link) else {
         return false;
     };
+    if link.failures() > 0 {
+        return false;
+    }
     match fetch.next(&mut link) {
         Ok(ResponsePart::Body { octets, end: true }) => {
             octets.as_slice() == b"GET /\n".as_slice() && list.len() == 2
@@ -52,6 +59,9 @@ fn parts_of_a_response(rt: HostRuntime) {
 fn passed(alloc: Global, octets: &[u8]) -> Option<(Vec<u8>, Result<bool, PassError>)> {
     let (mut fetch, mut link) = (fetch_of(alloc)?, link_of(alloc, octets, 1).ok()?);
     let _ = next_head(&mut fetch, &mut link).ok()?;
+    if link.failures() > 0 {
+        return None;
+    }
     let mut out = Vec::new(alloc);
     let ended = pass_body(&mut fetch, &mut link, &mut out);
     Some((out, ended.map(|trailers| trailers.is_some())))
@@ -156,6 +166,9 @@ fn words_that_stream(rt: HostRuntime) -> Result<(), Fail> {
 fn unwritten(alloc: Global) -> Option<Result<bool, PassError>> {
     let (mut fetch, mut link) = (fetch_of(alloc)?, link_of(alloc, RESPONSE, 80).ok()?);
     let _ = next_head(&mut fetch, &mut link).ok()?;
+    if link.failures() > 0 {
+        return None;
+    }
     let ended = pass_body(&mut fetch, &mut link, &mut Failing);
     Some(ended.map(|trailers| trailers.is_some()))
 }
