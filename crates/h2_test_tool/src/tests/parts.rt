@@ -123,6 +123,9 @@ fn streamed<F: Files>(
     options: &GetOptions<'_>,
 ) -> Option<(Vec<u8>, Result<(), StreamError>)> {
     let (mut fetch, mut link) = (fetch_of(alloc)?, link_of(alloc, RESPONSE, 7).ok()?);
+    if link.failures() > 0 {
+        return None;
+    }
     let mut out = Vec::new(alloc);
     let ended = stream_response(files, alloc, options, &mut fetch, &mut link, &mut out);
     Some((out, ended.map(|_| ())))
