@@ -1,0 +1,5 @@
+pub mod Ending
+pub mod Guests
+pub mod Logging
+pub mod Noting
+pub mod Serving

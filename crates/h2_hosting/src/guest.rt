@@ -1,0 +1,108 @@
+//! A connection that ends in order once its host is asked to end.
+
+ghost use Rattle.std.specs.Prelude.{◌≡◌, ⊤, false, true};
+ghost use Rattle.h2_hosting.specs.Guests.{IsTimeStep};
+
+use h2_handlers::Handler;
+use h2_host::{Answer, Own, Party};
+use h2_seat::Seat;
+use std::cell::Cell;
+
+/// A connection that can be asked to end in order.
+pub trait Leaves {
+    /// Asked to end in order in the first state, it may be in the second one.
+    ghost leaves: { Self → Self → Type 0 } = { λ _ _. ⊤ };
+
+    /// It begins to end in order: what was asked is answered still.
+    fn leave(&mut self)
+        ensures { leaves self.old self.new };
+}
+
+impl<W: Drop, H: Handler<Work = W>> Leaves for Seat<H, W> {
+    ghost use Rattle.h2_handlers.specs.Exchanges.{relations};
+    ghost use Rattle.h2_hosting.specs.Guests.{SeatLeaves};
+
+    ghost leaves = { λ old new.
+        SeatLeaves (relations H.heads H.bodies H.trails H.gives H.ends) old new };
+
+    fn leave(&mut self) {
+        Seat::leave(self);
+    }
+}
+
+/// A connection that leaves, at the next time that it sees, once all are to.
+#[derive(Drop)]
+pub struct Guest<'a, P> {
+    party: P,
+    /// Whether all are to leave.
+    leaving: &'a Cell<bool>,
+    /// Whether this one was asked to.
+    asked: bool,
+}
+
+impl<'a, P> Guest<'a, P> {
+    /// A connection that leaves as soon as the cell says so.
+    pub fn new(party: P, leaving: &'a Cell<bool>) -> Guest<'a, P>
+        ensures party { result.party ≡ party }
+        ensures asked { result.asked ≡ false }
+    {
+        Guest {
+            party,
+            leaving,
+            asked: false,
+        }
+    }
+
+    /// Whether it is asked in this step to end.
+    fn is_to_leave(&self, own: Own) -> bool
+        ensures asked { result ≡ true → self.now.asked ≡ false }
+        ensures passed { result ≡ true → IsTimeStep own }
+    {
+        match own {
+            Own::Passed { .. } => !self.asked && self.leaving.get(),
+            _ => false,
+        }
+    }
+}
+
+impl<'a, P: Party + Leaves> Party for Guest<'a, P> {
+    ghost use Rattle.h2_hosting.specs.Guests.{GuestSteps};
+
+    ghost steps = { λ old own octets answer new.
+        GuestSteps P.leaves P.steps old own octets answer new };
+
+    ghost held_of = { λ guest. P.held_of guest.party };
+
+    ghost ready_of = { λ guest. P.ready_of guest.party };
+
+    ghost takes = { λ guest wants. P.takes guest.party wants };
+
+    ghost output_of = { λ guest. P.output_of guest.party };
+
+    // contract: hosts (own) A connection is asked once to end in order, as time passes
+    // rule: hosts (own) A connection is asked once to end in order, as time passes
+    fn step(&mut self, own: Own, octets: &[u8], room: &mut [u8]) -> Answer {
+        if !self.is_to_leave(own) {
+            return self.party.step(own, octets, room);
+        }
+        self.asked = true;
+        self.party.leave();
+        self.party.step(own, octets, room)
+    }
+
+    fn held(&self) -> usize {
+        self.party.held()
+    }
+
+    fn is_ready(&self) -> bool {
+        self.party.is_ready()
+    }
+
+    fn wants_input(&self) -> bool {
+        self.party.wants_input()
+    }
+
+    fn output(&self) -> (&[u8], &[u8]) {
+        self.party.output()
+    }
+}
