@@ -56,16 +56,14 @@ BY_NAME = {"main", "fmt", "from", "drop", "clone", "eq", "next", "debug", "displ
 WINDOWS = "an end keeps windows as differences from the initial one (docs/DECISIONS.md); for users that keep one of their own"
 JOINED = "users join two ends, which no end does"
 LINK = "a link in memory is for users' tests"
-FILES = "whoever serves a folder calls it, and h2 does not yet"
+HOSTS = "for programs with many connections, and h2 is none yet"
 TEXTS = "hpack reads into a text that it has, with the function that appends"
 API = {
     "h2_frame::FrameRef::payload_len": "an end counts the payload of DATA alone; for users that count any frame",
     "h2_fetch::PartFetch::new": "the program keeps a response until it is whole; for users that take it as it comes",
-    "h2_folder::Folder::answer": FILES,
-    "h2_folder::Sending::next_part": FILES,
-    "h2_folder::add_one": "for hosts that write a log, and h2 does not yet",
-    "h2_folder::log_line": "for hosts that write a log, and h2 does not yet",
-    "h2_mio::Driver::run": "for programs with many connections, and h2 is none yet",
+    "h2_hosting::host_port": HOSTS,
+    "h2_hosting::hint_of_port": HOSTS,
+    "h2_hosting::place_of": HOSTS,
     "h2_flow::Config::with_max_frame": "a program with larger frames configures its ends so",
     "h2_flow::StreamState::closed": "an end asks for both sides at once",
     "h2_flow::StreamState::end_in": "an end sets the side with the rest of its stream",

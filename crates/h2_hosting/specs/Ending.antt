@@ -17,6 +17,7 @@ abbrev pub EndsHosting : Status → Type 0
 EndsHosting status = (status ≡ Good) ⊎ IsFailedHost status
 
 -- seconds in milliseconds; no more than 2^64 - 1
+-- rule: hosts (own) The options of a host say what is served, where, and for how long
 abbrev pub in_milliseconds : (seconds : ℕ) → ℕ
 in_milliseconds seconds = min (2 ^ 64 - 1) (seconds * 1000)
 

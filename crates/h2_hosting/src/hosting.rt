@@ -143,7 +143,7 @@ pub fn host_port<'x, R: Net + Files + Clock, W: Write, E: Write>(
     }
 }
 
-// contract: hosts (own) The words of host say what is served, where, and for how long
+// contract: hosts (own) The options of a host say what is served, where, and for how long
 /// The journal, where lines are written.
 fn journal_if<'j>(journal: &'j Journal, log: bool) -> Option<&'j Journal>
     ensures { is_some result ≡ log }
@@ -191,8 +191,8 @@ where
     driver.run(rt, &mut guests)
 }
 
-// contract: hosts (own) The words of host say what is served, where, and for how long
-// rule: hosts (own) The words of host say what is served, where, and for how long
+// contract: hosts (own) The options of a host say what is served, where, and for how long
+// rule: hosts (own) The options of a host say what is served, where, and for how long
 /// Where a host listens, and for how many connections.
 fn place_of(options: HostOptions<'_>) -> Place
     ensures address { socket_ip result.address ≡ options.entry.address }
@@ -207,7 +207,7 @@ fn place_of(options: HostOptions<'_>) -> Place
     }
 }
 
-// contract: hosts (own) The words of host say what is served, where, and for how long
+// contract: hosts (own) The options of a host say what is served, where, and for how long
 /// The limits of a connection that may be idle for so many seconds.
 fn seat_limits(idle: u64) -> SeatLimits
     ensures { result.times.idle ≡ in_milliseconds idle }
