@@ -43,7 +43,7 @@ EXEMPT = {"h2_spec_machine/specs/End.antt", "h2_spec_machine/specs/Machine.antt"
 
 # Crates of tests and cases, whose calls are no use of a function.
 TESTS = {"h2_cases", "h2_case", "h2_case_conn", "h2_case_ends", "h2_test_ends", "h2_test_files", "h2_test_host",
-         "h2_test_layers", "h2_test_parts", "h2_test_scarce", "h2_test_tool"}
+         "h2_test_hosting", "h2_test_layers", "h2_test_parts", "h2_test_scarce", "h2_test_tool"}
 TESTS |= {"h2_measure", "h2_uses"}
 
 # Crates whose functions C calls, and how the names of those begin.
@@ -56,14 +56,10 @@ BY_NAME = {"main", "fmt", "from", "drop", "clone", "eq", "next", "debug", "displ
 WINDOWS = "an end keeps windows as differences from the initial one (docs/DECISIONS.md); for users that keep one of their own"
 JOINED = "users join two ends, which no end does"
 LINK = "a link in memory is for users' tests"
-HOSTS = "for programs with many connections, and h2 is none yet"
 TEXTS = "hpack reads into a text that it has, with the function that appends"
 API = {
     "h2_frame::FrameRef::payload_len": "an end counts the payload of DATA alone; for users that count any frame",
     "h2_fetch::PartFetch::new": "the program keeps a response until it is whole; for users that take it as it comes",
-    "h2_hosting::host_port": HOSTS,
-    "h2_hosting::hint_of_port": HOSTS,
-    "h2_hosting::place_of": HOSTS,
     "h2_flow::Config::with_max_frame": "a program with larger frames configures its ends so",
     "h2_flow::StreamState::closed": "an end asks for both sides at once",
     "h2_flow::StreamState::end_in": "an end sets the side with the rest of its stream",

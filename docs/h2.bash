@@ -2,7 +2,7 @@
 _h2() {
     local word=${COMP_WORDS[COMP_CWORD]} before=${COMP_WORDS[COMP_CWORD-1]} words=
     if [ "$COMP_CWORD" -eq 1 ]; then
-        words='show replay serve get loop --help --version'
+        words='show replay serve get loop host --help --version'
     else
         case "${COMP_WORDS[1]} $before" in
             'show --from') words='client server' ;;
@@ -19,6 +19,7 @@ _h2() {
             'get -o'|'get --output') words= ;;
             'get '*) words='--include --header --request --data --fail --port --output --stream --help' ;;
             'loop '*) words='--each-way --help' ;;
+            'host '*) words='--root --address --connections --idle --log --until-closed --help' ;;
         esac
     fi
     COMPREPLY=($(compgen -W "$words" -- "$word"))

@@ -1,6 +1,6 @@
 -- What holds of the commands.
 use Rattle.h2_args.proofs.Names.{◌≡◌, ◌<◌, refl, arith, codes, true, ℕ, slice_index_or, bytes_eq}
-use Rattle.h2_args.proofs.Names.{Rule, follow_app, get_app, loop_app, number_option_rule}
+use Rattle.h2_args.proofs.Names.{Rule, follow_app, get_app, host_app, loop_app, number_option_rule}
 use Rattle.h2_args.proofs.Names.{number_rule}
 use Rattle.h2_args.proofs.Names.{replay_app, required_rule, serve_app, show_app}
 use Rattle.std.proofs.Common.{lit<, zero, suc}
@@ -177,6 +177,77 @@ loop_wants_number = record {
   range = refl;
   simple = refl;
   unique = only_octets;
+  named = refl;
+  own = refl;
+}
+
+pub host_is_alone : IsAlone host_app
+host_is_alone = record { ready = refl; leaves = refl; free = refl; negates = refl }
+
+-- the first argument of `host` alone is its port
+only_host_port : (j : ℕ) (d : Rule) → j < 7
+    → bytes_eq (slice_index_or host_app.top.rules j d).id (codes "PORT") ≡ true → j ≡ 0
+only_host_port zero d lt same = refl
+only_host_port (suc zero) d lt same = cc
+only_host_port (suc (suc zero)) d lt same = cc
+only_host_port (suc (suc (suc zero))) d lt same = cc
+only_host_port (suc (suc (suc (suc zero)))) d lt same = cc
+only_host_port (suc (suc (suc (suc (suc zero))))) d lt same = cc
+only_host_port (suc (suc (suc (suc (suc (suc zero)))))) d lt same = cc
+only_host_port (suc (suc (suc (suc (suc (suc (suc j))))))) d lt same = absurd (omega arith)
+
+-- the fourth alone is the number of its connections
+only_connections : (j : ℕ) (d : Rule) → j < 7
+    → bytes_eq (slice_index_or host_app.top.rules j d).id (codes "connections") ≡ true → j ≡ 3
+only_connections zero d lt same = cc
+only_connections (suc zero) d lt same = cc
+only_connections (suc (suc zero)) d lt same = cc
+only_connections (suc (suc (suc zero))) d lt same = refl
+only_connections (suc (suc (suc (suc zero)))) d lt same = cc
+only_connections (suc (suc (suc (suc (suc zero))))) d lt same = cc
+only_connections (suc (suc (suc (suc (suc (suc zero)))))) d lt same = cc
+only_connections (suc (suc (suc (suc (suc (suc (suc j))))))) d lt same = absurd (omega arith)
+
+-- the fifth alone is the time of idle ones
+only_idle : (j : ℕ) (d : Rule) → j < 7
+    → bytes_eq (slice_index_or host_app.top.rules j d).id (codes "idle") ≡ true → j ≡ 4
+only_idle zero d lt same = cc
+only_idle (suc zero) d lt same = cc
+only_idle (suc (suc zero)) d lt same = cc
+only_idle (suc (suc (suc zero))) d lt same = cc
+only_idle (suc (suc (suc (suc zero)))) d lt same = refl
+only_idle (suc (suc (suc (suc (suc zero))))) d lt same = cc
+only_idle (suc (suc (suc (suc (suc (suc zero)))))) d lt same = cc
+only_idle (suc (suc (suc (suc (suc (suc (suc j))))))) d lt same = absurd (omega arith)
+
+pub host_wants_port : IsRequiredAt host_app 0 (number_rule (codes "PORT") 1 65535)
+host_wants_port = record {
+  inside = lit< tt;
+  at = λ d. refl;
+  required = refl;
+  action = refl;
+  range = refl;
+  simple = refl;
+  unique = only_host_port;
+  named = refl;
+  own = refl;
+}
+
+pub host_names_connections :
+    IsNamedAt host_app 3 (number_option_rule (codes "connections") 1 1048576)
+host_names_connections = record {
+  inside = lit< tt;
+  at = λ d. refl;
+  unique = only_connections;
+  named = refl;
+  own = refl;
+}
+
+pub host_names_idle : IsNamedAt host_app 4 (number_option_rule (codes "idle") 0 86400)
+host_names_idle = record {
+  inside = lit< tt;
+  at = λ d. refl;
+  unique = only_idle;
   named = refl;
   own = refl;
 }

@@ -19,7 +19,7 @@ pub use Rattle.clap.specs.declared.parser.matches.ArgMatches.{ArgMatches}
 pub use Rattle.clap.specs.declared.parser.matches.Found.{Found}
 pub use Rattle.h2_args.specs.Commands.{follow_app, get_app, loop_app, number_option_rule}
 pub use Rattle.h2_args.specs.Commands.{number_rule, replay_app, required_rule, serve_app, show_app}
-pub use Rattle.h2_args.specs.Commands.{show_names, sides}
+pub use Rattle.h2_args.specs.Commands.{host_app, show_names, sides}
 pub use Rattle.h2_args.specs.Words.{follow_faults, number_given, program_faults, replay_faults}
 pub use Rattle.h2_args.specs.Words.{show_faults}
 pub use Rattle.std.proofs.Common.{[], ap, arith, Bool, codes, false, IfErr, inl, inr, is_some}

@@ -3,5 +3,6 @@
 pub mod ShowWords
 pub mod SocketWords
 pub mod GetWords
+pub mod HostWords
 pub mod ReplayWords
 pub mod ProgramWords

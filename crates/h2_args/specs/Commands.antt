@@ -228,6 +228,24 @@ abbrev pub loop_app : App
 loop_app = with_rule (with_rule (named_app (codes "loop")) (number_rule (codes "N") 0 1048576))
     (flag_rule (codes "each-way"))
 
+-- `host PORT [--root DIR] [--address A]`; the port is from 1 to 65,535
+abbrev pub served_app : App
+served_app = with_rule
+    (with_rule (with_rule (named_app (codes "host")) (number_rule (codes "PORT") 1 65535))
+    (path_rule (codes "root")))
+    (path_rule (codes "address"))
+
+-- `host PORT [--root DIR] [--address A] [--connections N] [--idle SECONDS] [--log]
+-- [--until-closed]`; the number is from 1 to 1,048,576, and the seconds are from 0 to 86,400
+-- rule: hosts (own) The words of host say what is served, where, and for how long
+abbrev pub host_app : App
+host_app = with_rule
+    (with_rule
+    (with_rule (with_rule served_app (number_option_rule (codes "connections") 1 1048576))
+    (number_option_rule (codes "idle") 0 86400))
+    (flag_rule (codes "log")))
+    (flag_rule (codes "until-closed"))
+
 -- `h2` with any words: it has a version
 abbrev pub named_program : App
 named_program = on_top (λ s. record s { no_binary_name = true; has_version = true })
@@ -241,8 +259,8 @@ bare_program = on_top (λ s. record s { subcommand_required = true; arg_required
 -- the program with its commands
 abbrev pub program_app : ShowNames → SideNames → App
 program_app shown replayed = with_subcommand (with_subcommand (with_subcommand (with_subcommand
-    (with_subcommand bare_program (show_app shown).top) (replay_app replayed).top) serve_app.top)
-    get_app.top) loop_app.top
+    (with_subcommand (with_subcommand bare_program (show_app shown).top) (replay_app replayed).top)
+    serve_app.top) get_app.top) loop_app.top) host_app.top
 
 -- the command is the program with its commands
 abbrev pub IsProgram : App → Type 0

@@ -20,6 +20,8 @@ use Rattle.h2_args.specs.Commands.{AreShowNames, ShowNames}
 use Rattle.h2_args.specs.declared.follow.FollowWords.{FollowWords}
 use Rattle.h2_args.specs.declared.show.ShowWords.{ShowWords}
 use Rattle.h2_args.specs.Commands.{follow_app, serve_app, get_app, loop_app}
+use Rattle.h2_args.specs.Commands.{host_app}
+use Rattle.h2_args.specs.declared.host.HostWords.{HostWords}
 use Rattle.h2_args.specs.declared.get.GetOptions.{GetOptions}
 use Rattle.h2_args.specs.declared.sockets.LoopOptions.{LoopOptions}
 use Rattle.h2_args.specs.declared.sockets.ServeOptions.{ServeOptions}
@@ -292,6 +294,52 @@ loop_options_of = given_by loop_app loop_options_in
 -- the kinds of error that the words after `loop` may have
 abbrev pub loop_faults : List Text → Kinds
 loop_faults = fault_of loop_app
+
+-- What the words after `host` ask for: a port; a folder and an address, where they are given; how
+-- many connections, and after how many seconds an idle one ends, where that is given; whether a
+-- line a request is printed; and whether the host ends with standard input.
+-- rule: hosts (own) The words of host say what is served, where, and for how long
+pub record HostAsked : Type 0 where
+  pub port : ℕ
+  pub root : Option Text
+  pub address : Option Text
+  pub connections : Option ℕ
+  pub idle : Option ℕ
+  pub log : Bool
+  pub until_closed : Bool
+
+-- what the matches of `host` say
+abbrev pub host_words_in : List Row → HostAsked
+host_words_in rows = record {
+  port = number_given (codes "PORT") rows;
+  root = first_of (codes "root") rows;
+  address = first_of (codes "address") rows;
+  connections = number_if (one_of (codes "connections") rows);
+  idle = number_if (one_of (codes "idle") rows);
+  log = is_set (one_of (codes "log") rows);
+  until_closed = is_set (one_of (codes "until-closed") rows);
+}
+
+-- What the words after `host` ask for, if they have no fault.
+-- rule: hosts (own) The words of host say what is served, where, and for how long
+abbrev pub host_words_of : List Text → Option HostAsked
+host_words_of = given_by host_app host_words_in
+
+-- what options of the code ask for
+abbrev pub host_asked_by : HostWords → HostAsked
+host_asked_by options = record {
+  port = options.port;
+  root = option_map (λ root. root.now) options.root;
+  address = option_map (λ address. address.now) options.address;
+  connections = options.connections;
+  idle = options.idle;
+  log = options.log;
+  until_closed = options.until_closed;
+}
+
+-- the kinds of error that the words after `host` may have
+abbrev pub host_faults : List Text → Kinds
+host_faults = fault_of host_app
 
 -- the kinds of error that the words of the program may have
 abbrev pub program_faults : ShowNames → SideNames → List Text → Kinds

@@ -1,13 +1,14 @@
 //! The command line of `h2`: the options that its words give.
 //!
 //! Each command has a function that reads the words after its name: [`show_args`], [`replay_args`],
-//! [`serve_args`], [`get_args`] and [`loop_args`], and [`follow_args`] where [`asks_follow`] says
+//! [`serve_args`], [`get_args`], [`loop_args`] and [`host_args`], and [`follow_args`] where [`asks_follow`] says
 //! so. [`asks_messages`] says of the words after `replay` which end they ask for. [`no_command`]
 //! reads words that begin with no command's name. An error is clap's, and its text is for the user.
 #![tactic(auto)]
 
 mod follow;
 mod get;
+mod host;
 mod options;
 mod program;
 mod replay;
@@ -16,6 +17,7 @@ mod sockets;
 
 pub use follow::{FollowWords, asks_follow, follow_args};
 pub use get::{GetOptions, get_args};
+pub use host::{HostWords, host_args};
 pub use program::no_command;
 pub use replay::{asks_messages, replay_args};
 pub use show::{ShowWords, show_args};

@@ -6,6 +6,7 @@ ghost use Rattle.h2_args.specs.Commands.{IsProgram, bare_program, named_program}
 ghost use Rattle.h2_args.specs.Words.{ProgramWordsFail, ProgramWordsPass};
 
 use crate::get::get_command;
+use crate::host::host_command;
 use crate::replay::replay_command;
 use crate::show::show_command;
 use crate::sockets::{loop_command, serve_command};
@@ -37,7 +38,8 @@ fn program_command<'a>(alloc: Global) -> Result<Command<'a>, AllocError>
         .subcommand(replay_command(alloc)?)?
         .subcommand(serve_command(alloc)?)?
         .subcommand(get_command(alloc)?)?
-        .subcommand(loop_command(alloc)?)
+        .subcommand(loop_command(alloc)?)?
+        .subcommand(host_command(alloc)?)
 }
 
 // The program with no command yet.

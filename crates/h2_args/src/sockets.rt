@@ -167,7 +167,12 @@ pub(super) fn required_arg<'a>(alloc: Global, name: &'a str, help: &'a str) -> A
 }
 
 // A required number.
-fn number_arg<'a>(alloc: Global, name: &'a str, numbers: ValueParser<'a>, help: &'a str) -> Arg<'a>
+pub(super) fn number_arg<'a>(
+    alloc: Global,
+    name: &'a str,
+    numbers: ValueParser<'a>,
+    help: &'a str,
+) -> Arg<'a>
     ensures rule { rule_of result ≡ with_numbers (required_rule name.entry.now) numbers.entry }
     ensures local { result.global ≡ false }
 {
@@ -175,7 +180,7 @@ fn number_arg<'a>(alloc: Global, name: &'a str, numbers: ValueParser<'a>, help: 
 }
 
 // The numbers of ports, and of connections.
-fn counts<'a>() -> ValueParser<'a>
+pub(super) fn counts<'a>() -> ValueParser<'a>
     ensures { result ≡ ValueParser.Signed (pos 1) (pos 65535) }
 {
     value_parser!(u16).range(1..=65_535)

@@ -11,6 +11,7 @@
 //! changes nothing.
 #![tactic(auto)]
 
+mod both;
 mod driver;
 mod moved;
 mod opens;

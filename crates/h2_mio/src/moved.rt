@@ -1,9 +1,10 @@
 //! What a read or a write of a socket came to.
 
-ghost use Rattle.std.specs.Prelude.{◌≡◌, length};
+ghost use Rattle.std.specs.Prelude.{◌≡◌, ◌+◌, length};
 ghost use Rattle.h2_mio.specs.Moving.{MovesWithin, moved_at};
 
-use std::io::{ErrorKind, Read, Write};
+use crate::both::WritesBoth;
+use std::io::{ErrorKind, Read};
 
 /// What a read or a write came to.
 #[derive(Clone, Copy, Debug, PartialEq, Eq)]
@@ -30,11 +31,11 @@ pub(crate) fn read_once<S: Read>(stream: &mut S, room: &mut [u8]) -> Moved
     }
 }
 
-/// Writes once.
-pub(crate) fn write_once<S: Write>(stream: &mut S, octets: &[u8]) -> Moved
-    ensures within { MovesWithin (length octets.now) result }
+/// Writes two parts once.
+pub(crate) fn write_once<S: WritesBoth>(stream: &mut S, first: &[u8], second: &[u8]) -> Moved
+    ensures within { MovesWithin (length first.now + length second.now) result }
 {
-    match stream.write(octets) {
+    match stream.write_both(first, second) {
         Ok(0) => Moved::Nothing,
         Ok(count) => Moved::Octets(count),
         Err(error) => moved_at(error.kind()),

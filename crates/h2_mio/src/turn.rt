@@ -3,10 +3,15 @@
 ghost use Rattle.std.specs.Prelude.{◌≡◌, length};
 ghost use Rattle.h2_mio.specs.DriverRuns.{MakesOwnSteps};
 
+use crate::both::WritesBoth;
 use crate::moved::{Moved, read_once, write_once};
 use crate::sockets::Socket;
 use h2_host::{Answer, Host, MOST_TAKEN, Own, Party, Reply, Step, Token};
-use std::io::{Read, Write};
+use std::io::Read;
+
+/// So many writes are made in a turn, at most: what a turn may give goes in parts of 4,096 octets
+/// and more.
+const MOST_WRITES: usize = 16;
 
 /// Whether a connection goes on.
 #[derive(Clone, Copy, Debug, PartialEq, Eq)]
@@ -21,7 +26,7 @@ pub(crate) enum Fate {
 // rule: hosts (own) In a turn a driver makes steps of one connection alone
 /// Gives a connection the turn that is its own: octets are read once where it takes some, it does
 /// what it has to, and its output is written until the socket takes no more or the turn is over.
-pub(crate) fn give_turn<P: Party, S: Read + Write>(
+pub(crate) fn give_turn<P: Party, S: Read + WritesBoth>(
     host: &mut Host<P>,
     token: Token,
     socket: &mut Socket<S>,
@@ -41,7 +46,7 @@ pub(crate) fn give_turn<P: Party, S: Read + Write>(
 
 /// Reads once what the connection takes in a turn, if it takes anything. Where fewer octets come
 /// than there is room for, no more wait, unless the peer has ended its side.
-fn take_input<P: Party, S: Read + Write>(
+fn take_input<P: Party, S: Read>(
     host: &mut Host<P>,
     token: Token,
     socket: &mut Socket<S>,
@@ -73,18 +78,18 @@ fn take_input<P: Party, S: Read + Write>(
     }
 }
 
-/// Writes the output of a connection from where it lies, in two writes at most.
-fn write_output<P: Party, S: Write>(host: &mut Host<P>, token: Token, stream: &mut S) -> Fate
+/// Writes the output of a connection from where it lies, its first two parts at once, until nothing
+/// waits, the socket takes no more, or the turn is over.
+fn write_output<P: Party, S: WritesBoth>(host: &mut Host<P>, token: Token, stream: &mut S) -> Fate
     ensures run { MakesOwnSteps P.steps P.held_of token host.new host.old }
 {
-    for _ in 0..2 {
+    for _ in 0..MOST_WRITES {
         let (first, second) = host.output(token);
-        let octets = if first.is_empty() { second } else { first };
-        if octets.is_empty() {
+        let length = first.len().saturating_add(second.len());
+        if length == 0 {
             return Fate::Goes;
         }
-        let length = octets.len();
-        match write_once(stream, octets) {
+        match write_once(stream, first, second) {
             Moved::Octets(count) => {
                 if own_step(host, token, Own::Went { count }) == Fate::Over {
                     return Fate::Over;
@@ -101,7 +106,7 @@ fn write_output<P: Party, S: Write>(host: &mut Host<P>, token: Token, stream: &m
 }
 
 /// Writes what a connection that is over has to say, as a GOAWAY, as far as it goes at once.
-fn last_words<P: Party, S: Write>(host: &mut Host<P>, token: Token, stream: &mut S) -> Fate
+fn last_words<P: Party, S: WritesBoth>(host: &mut Host<P>, token: Token, stream: &mut S) -> Fate
     ensures run { MakesOwnSteps P.steps P.held_of token host.new host.old }
 {
     let _ = write_output(host, token, stream);

@@ -102,13 +102,22 @@ abbrev pub NotesFlood : Option Flood → (time : ℕ) → (new : Phase) → Type
 NotesFlood (Some flood) time new = new ≡ Ending (whys.Flood flood) time
 NotesFlood None time new = (new ≡ Up) ⊎ (new ≡ Over whys.Ended)
 
+-- where one that ends is once nothing but this may have changed: its time to end is counted anew,
+-- where enough octets of bodies were sent since it was counted
+-- rule: hosts (own) A connection that ends goes on as long as its answers go
+abbrev pub phase_sent : {H W : Type 0} → Seat H W → Why → (since : ℕ) → Phase
+phase_sent seat why since =
+    if nat_lt (seat.handled.sent - seat.gone) seat.limits.least_closing then Ending why since
+    else Ending why seat.time
+
 -- Where what follows from a step leaves it.
 -- rule: hosts (own) A connection ends for what is above its budget
+-- rule: hosts (own) A connection that ends goes on as long as its answers go
 abbrev pub NotesPhase : {H W : Type 0} → Phase → (old : Seat H W) → (new : Phase) → Type 0
 NotesPhase Up old new =
     (counts : Counts) × AreCounts old.handled.server.end.conn counts
     × NotesFlood (flood_of old.budget.before counts old.limits.floods) old.time new
-NotesPhase (Ending why since) old new = (new ≡ Ending why since) ⊎ (new ≡ Over why)
+NotesPhase (Ending why since) old new = (new ≡ phase_sent old why since) ⊎ (new ≡ Over why)
 NotesPhase (Over why) old new = new ≡ Over why
 
 -- A step was made, and then what follows from it.

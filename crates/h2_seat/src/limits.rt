@@ -9,17 +9,21 @@ pub struct SeatLimits {
     pub times: TimeLimits,
     /// What it may send in a stretch of time.
     pub floods: FloodLimits,
-    /// For the output to go once the connection is to end, in milliseconds.
+    /// For the output to go once the connection is to end, in milliseconds: counted anew each time
+    /// that [`SeatLimits::least_closing`] octets of bodies were sent.
     pub closing: u64,
+    /// How many octets of bodies must be sent in [`SeatLimits::closing`], as long as any are left.
+    pub least_closing: u64,
 }
 
 impl Default for SeatLimits {
-    /// The defaults of both, and 5 s to close.
+    /// The defaults of both, and 5 s to close or for 65,536 octets of answers.
     fn default() -> SeatLimits {
         SeatLimits {
             times: TimeLimits::default(),
             floods: FloodLimits::default(),
             closing: 5_000,
+            least_closing: 65_536,
         }
     }
 }

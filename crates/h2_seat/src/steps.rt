@@ -6,7 +6,8 @@ ghost use Rattle.h2_times.specs.Times.{overdue_of};
 ghost use Rattle.h2_handlers.specs.Exchanges.{relations};
 ghost use Rattle.h2_seat.specs.Seats.{SeatHandles, AreCounts, Acts, IsUpOrStopped, MakesPhase};
 ghost use Rattle.h2_seat.specs.Seats.{NotesPhase, answer_in, is_phase_over, phase_late};
-ghost use Rattle.h2_seat.specs.Seats.{phase_passed};
+ghost use Rattle.h2_seat.specs.Seats.{phase_passed, phase_sent};
+ghost use Rattle.h2_seat.specs.declared.seat.Phase.TheVariants as phases;
 
 use crate::seat::{Phase, Seat};
 use crate::why::Why;
@@ -24,6 +25,7 @@ const MOST_TOLD: usize = 16;
 impl<W: Drop, H: Handler<Work = W>> Seat<H, W> {
     // contract: hosts (own) A connection ends for what has taken too long
     // contract: hosts (own) A connection ends for what is above its budget
+    // contract: hosts (own) A connection that ends goes on as long as its answers go
     // contract: hosts (own) A connection that is refused is over and holds none
     /// Makes a step, and what follows from it; one that is over makes none any more.
     pub(crate) fn act(&mut self, own: Own, octets: &[u8], room: &mut [u8])
@@ -274,9 +276,11 @@ impl<W: Drop, H: Handler<Work = W>> Seat<H, W> {
         ensures stays { is_phase_over self.old.phase ≡ true → is_phase_over self.new.phase ≡ true }
         ensures phase { NotesPhase self.old.phase self.old self.new.phase }
     {
-        if let Phase::Ending { why, .. } = self.phase {
+        if let Phase::Ending { why, since } = self.phase {
             if self.handled.is_drained() {
                 self.end(why);
+            } else {
+                self.end_later(why, since);
             }
             return;
         }
@@ -293,6 +297,24 @@ impl<W: Drop, H: Handler<Work = W>> Seat<H, W> {
         if self.ended && self.is_sent() {
             self.end(Why::Ended);
         }
+    }
+
+    // rule: hosts (own) A connection that ends goes on as long as its answers go
+    /// Counts its time to end anew, where enough octets of bodies were sent since it was counted.
+    fn end_later(&mut self, why: Why, since: u64)
+        ensures same { self.new.handled ≡ self.old.handled }
+        ensures phase { self.old.phase ≡ phases.Ending why since
+            → self.new.phase ≡ phase_sent self.old why since }
+    {
+        let sent = self.handled.sent();
+        if sent.saturating_sub(self.gone) < self.limits.least_closing {
+            return;
+        }
+        self.gone = sent;
+        self.phase = Phase::Ending {
+            why,
+            since: self.time,
+        };
     }
 
     /// Whether nothing waits, and nothing more can be sent.

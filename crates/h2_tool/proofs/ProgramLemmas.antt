@@ -66,26 +66,28 @@ short_there false true rest next none = some_kind none
 short_there false false rest next none = some_kind none
 
 -- the command that a word names, by its tests
-abbrev one_met : (show replay serve get loop help : Bool) → Option Text
-one_met show replay serve get loop help = option_map (λ (one : Text × List Text). one.0)
+abbrev one_met : (show replay serve get loop host help : Bool) → Option Text
+one_met show replay serve get loop host help = option_map (λ (one : Text × List Text). one.0)
     (if show || false then Some (codes "show", [])
     else (if replay || false then Some (codes "replay", [])
     else (if serve || false then Some (codes "serve", [])
     else (if get || false then Some (codes "get", [])
     else (if loop || false then Some (codes "loop", [])
-    else (if help || false then Some (codes "help", []) else None))))))
+    else (if host || false then Some (codes "host", [])
+    else (if help || false then Some (codes "help", []) else None)))))))
 
 abbrev met_by : (is_help : Bool) → Option Text
 met_by is_help = if is_help then Some (codes "help") else None
 
-met_last : (is_help : Bool) → one_met false false false false false is_help ≡ met_by is_help
+met_last : (is_help : Bool) → one_met false false false false false false is_help ≡ met_by is_help
 met_last true = refl
 met_last false = refl
 
-met_none : (show replay serve get loop is_help : Bool) → show ≡ false → replay ≡ false
-    → serve ≡ false → get ≡ false → loop ≡ false
-    → one_met show replay serve get loop is_help ≡ met_by is_help
-met_none show replay serve get loop is_help a b c d e = rw (a, b, c, d, e) (met_last is_help)
+met_none : (show replay serve get loop host is_help : Bool) → show ≡ false → replay ≡ false
+    → serve ≡ false → get ≡ false → loop ≡ false → host ≡ false
+    → one_met show replay serve get loop host is_help ≡ met_by is_help
+met_none show replay serve get loop host is_help a b c d e f =
+    rw (a, b, c, d, e, f) (met_last is_help)
 
 no_name : (name word : Text) → word ≢ name → bytes_eq name word ≡ false
 no_name name word other = false_from_ne_true (bytes_eq name word)
@@ -142,12 +144,12 @@ module _ (shown : ShowNames) (replayed : SideNames) where
       (subst (λ (dashes : Bool). fault_by_dashes dashes word ≡ []) other none)
 
   met_so : (word : Text) → word ≢ codes "show" → word ≢ codes "replay" → word ≢ codes "serve"
-      → word ≢ codes "get" → word ≢ codes "loop"
+      → word ≢ codes "get" → word ≢ codes "loop" → word ≢ codes "host"
       → subcommand_met (names shown replayed) idle word
       ≡ met_by (bytes_eq (codes "help") word)
-  met_so word a b c d e =
-      met_none _ _ _ _ _ (bytes_eq (codes "help") word) (no_name _ word a) (no_name _ word b)
-      (no_name _ word c) (no_name _ word d) (no_name _ word e)
+  met_so word a b c d e f =
+      met_none _ _ _ _ _ _ (bytes_eq (codes "help") word) (no_name _ word a) (no_name _ word b)
+      (no_name _ word c) (no_name _ word d) (no_name _ word e) (no_name _ word f)
 
   -- behind which a word has a fault, and without which a command lacks.
   dashes_there : (rest : List Text)
@@ -183,13 +185,13 @@ module _ (shown : ShowNames) (replayed : SideNames) where
 
   words_fail : (word : Text) (rest : List Text) → word ≢ codes "show"
       → word ≢ codes "replay" → word ≢ codes "serve" → word ≢ codes "get" → word ≢ codes "loop"
-      → fault_of (program_app shown replayed) (word ∷ rest) ≢ []
-  words_fail word rest a b c d e none =
-      words_there (bytes_eq word (45 ∷ 45 ∷ [])) word rest refl (met_so word a b c d e) none
+      → word ≢ codes "host" → fault_of (program_app shown replayed) (word ∷ rest) ≢ []
+  words_fail word rest a b c d e f none =
+      words_there (bytes_eq word (45 ∷ 45 ∷ [])) word rest refl (met_so word a b c d e f) none
 
 -- So words that name no command never pass.
 pub never_pass : (words : List Text) → NamesNoCommand words → ProgramWordsPass words → ⊥
 never_pass [] none passes = none_there passes.0 passes.1 passes.4
 never_pass (word ∷ rest) none passes =
-    words_fail passes.0 passes.1 word rest none.0 none.1.0 none.1.1.0 none.1.1.1.0 none.1.1.1.1
-    passes.4
+    words_fail passes.0 passes.1 word rest none.0 none.1.0 none.1.1.0 none.1.1.1.0 none.1.1.1.1.0
+    none.1.1.1.1.1 passes.4

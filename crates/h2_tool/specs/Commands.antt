@@ -26,8 +26,9 @@ use Rattle.h2_args.specs.Words.{serve_options_of, serve_faults, GetWords, get_wo
 use Rattle.h2_args.specs.Words.{loop_options_of, asks_messages}
 use Rattle.h2_args.specs.declared.sockets.LoopOptions.{LoopOptions}
 use Rattle.h2_args.specs.Words.{FollowAsked, asks_follow, follow_asked_of, follow_faults}
-use Rattle.h2_args.specs.Words.{loop_faults, program_faults}
+use Rattle.h2_args.specs.Words.{HostAsked, host_faults, host_words_of, loop_faults, program_faults}
 use Rattle.h2_args.specs.declared.sockets.ServeOptions.{ServeOptions}
+use Rattle.h2_hosting.specs.Ending.{EndsHosting}
 use Rattle.h2_link.specs.declared.error.LinkError.{LinkError}
 use Rattle.h2_engines.specs.declared.fetcher.Fetched.{Fetched}
 use Rattle.h2_net.specs.Endings.{IsServingStatus, status_with}
@@ -392,12 +393,25 @@ EndsLoop words before after status =
     × PostsSo options.count before after status)
     ⊎ EndsByWords (loop_faults words) before after status
 
+-- The status with words that have no fault: that of a host, or its address is none.
+-- rule: hosts (own) A host ends with one of three statuses
+abbrev pub EndsHostAsked : Status → Type 0
+EndsHostAsked status = EndsHosting status ⊎ (status ≡ Usage)
+
+-- How `h2 host` ends: by its words; or, with words that have no fault, as a host does, or since its
+-- address is none.
+-- rule: hosts (own) The words of host say what is served, where, and for how long
+abbrev pub EndsHost : (words : List (List ℕ)) → (before after : Option (List ℕ)) → Status → Type 0
+EndsHost words before after status =
+    ((asked : HostAsked) × (host_words_of words ≡ Some asked) × EndsHostAsked status)
+    ⊎ EndsByWords (host_faults words) before after status
+
 -- The first of the words, if there is one, is no command's name.
 abbrev pub NamesNoCommand : (words : List (List ℕ)) → Type 0
 NamesNoCommand [] = Unit {0}
 NamesNoCommand (name ∷ others) =
     (name ≢ codes "show") × ((name ≢ codes "replay") × ((name ≢ codes "serve")
-    × ((name ≢ codes "get") × (name ≢ codes "loop"))))
+    × ((name ≢ codes "get") × ((name ≢ codes "loop") × (name ≢ codes "host")))))
 
 -- The words after `get` don't ask for a body that standard input gives.
 -- rule: engines (own) The words of get make its request and say what is printed

@@ -7,6 +7,7 @@
 
 mod follow;
 mod get;
+mod host;
 mod messages;
 mod program;
 mod rates;
@@ -16,6 +17,7 @@ mod sides;
 mod sockets;
 
 pub use get::cmd_get;
+pub use host::cmd_host;
 pub use program::{no_words, run};
 pub use replay::cmd_replay;
 pub use show::cmd_show;

@@ -3,11 +3,12 @@
 ghost use Rattle.std.specs.Prelude.{◌≡◌, ◌≢◌, List, ℕ, ◌∷◌, MatchResult, codes, map, string_bytes};
 ghost use Rattle.clap.specs.Words.{kind_of};
 ghost use Rattle.h2_cli.specs.Status.{failure_status};
-ghost use Rattle.h2_tool.specs.Commands.{AnswersWords, EndsShow, EndsReplay, EndsServe};
-ghost use Rattle.h2_tool.specs.Commands.{EndsLoop, EndsProgram, NamesNoCommand, NamesNoReader};
+ghost use Rattle.h2_tool.specs.Commands.{AnswersWords, EndsShow, EndsReplay, EndsServe, EndsLoop};
+ghost use Rattle.h2_tool.specs.Commands.{EndsHost, EndsProgram, NamesNoCommand, NamesNoReader};
 ghost use Rattle.h2_tool.specs.Gets.{EndsGet};
 
 use crate::get::cmd_get;
+use crate::host::cmd_host;
 use crate::replay::cmd_replay;
 use crate::show::cmd_show;
 use crate::sockets::{cmd_loop, cmd_serve};
@@ -54,6 +55,8 @@ where
         → EndsGet others (R.remaining input.old) (W.contents out.old) (W.contents out.new) result }
     ensures post { (others : List (List ℕ)) → map string_bytes words.now ≡ codes "loop" ∷ others
         → EndsLoop others (W.contents out.old) (W.contents out.new) result }
+    ensures host { (others : List (List ℕ)) → map string_bytes words.now ≡ codes "host" ∷ others
+        → EndsHost others (W.contents out.old) (W.contents out.new) result }
     ensures none { NamesNoCommand (map string_bytes words.now)
         → EndsProgram (map string_bytes words.now) (W.contents out.old) (W.contents out.new)
         result }
@@ -67,6 +70,7 @@ where
             "serve" => return cmd_serve(net, alloc, others, out, err),
             "get" => return cmd_get(net, alloc, others, input, out, err),
             "loop" => return cmd_loop(net, alloc, others, out, err),
+            "host" => return cmd_host(net, alloc, others, out, err),
             _ => {}
         }
     }

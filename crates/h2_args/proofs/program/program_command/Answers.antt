@@ -1,10 +1,10 @@
 use Rattle.h2_args.proofs.Names.{◌≡◌, ◌∙◌, ap, App, app_of, Command, get_app, loop_app, replay_app}
-use Rattle.h2_args.proofs.Names.{serve_app, show_app}
+use Rattle.h2_args.proofs.Names.{host_app, serve_app, show_app}
 use Rattle.std.proofs.Common.{ap₂}
 use Rattle.std.proofs.lemmas.Result.{IfOk-weaker}
 use Rattle.clap.specs.Words.{AddsSubcommand, with_subcommand}
 use Rattle.h2_args.specs.Commands.{bare_program}
-use Rattle.h2_args.proofs.CommandLemmas.{get_is_alone, loop_is_alone, replay_is_alone}
+use Rattle.h2_args.proofs.CommandLemmas.{get_is_alone, host_is_alone, loop_is_alone, replay_is_alone}
 use Rattle.h2_args.proofs.CommandLemmas.{serve_is_alone, show_is_alone}
 use Rattle.h2_args.proofs.RequiredLemmas.{IsAlone, simple}
 use Rattle.h2_args.proofs.program.program_command.Goals as goal
@@ -27,10 +27,12 @@ returns c =
     c.in_ok-serve_command.ensures in
     let four = added _ _ _ _ get_app c.in_ok-subcommand-4.ensures get_is_alone three
     c.in_ok-get_command.ensures in
-    IfOk-weaker c.subcommand-5.result _ _ (λ r adds. (
+    let five = added _ _ _ _ loop_app c.in_ok-subcommand-5.ensures loop_is_alone four
+    c.in_ok-loop_command.ensures in
+    IfOk-weaker c.subcommand-6.result _ _ (λ r adds. (
       shown.0,
       replayed.0,
       shown.1,
       replayed.1,
-      added _ _ r _ loop_app adds loop_is_alone four c.in_ok-loop_command.ensures,
-    )) c.subcommand-5.ensures
+      added _ _ r _ host_app adds host_is_alone five c.in_ok-host_command.ensures,
+    )) c.subcommand-6.ensures

@@ -1,7 +1,7 @@
--- Words that begin with `show`, `replay`, `get` or `loop` are that command's; words without a command
--- have a fault.
+-- Words that begin with `show`, `replay`, `get`, `loop` or `host` are that command's; words without a
+-- command have a fault.
 use Rattle.std.proofs.Common.{◌≡◌, ◌∷◌, ℕ, List, codes, map, refl, string_bytes, subst, rules}
-use Rattle.h2_tool.specs.Commands.{EndsLoop, EndsReplay, EndsShow}
+use Rattle.h2_tool.specs.Commands.{EndsHost, EndsLoop, EndsReplay, EndsShow}
 use Rattle.h2_tool.specs.Gets.{EndsGet}
 use Rattle.h2_tool.proofs.ProgramLemmas.{never_pass}
 use Rattle.h2_tool.proofs.WordLemmas.{program_fails}
@@ -41,6 +41,12 @@ returns-in-loop-clause-post g c = λ others same.
     let following : map string_bytes c.in-Some.others.now ≡ others = search rules in
     subst (λ (words : List (List ℕ)). EndsLoop words (g.W.Write.contents c.args.out.now)
     (g.W.Write.contents c.cmd_loop.new.out) c.cmd_loop.result) following c.cmd_loop.ensures
+
+pub returns-in-host-clause-host : goal.returns-in-host-clause-host
+returns-in-host-clause-host g c = λ others same.
+    let following : map string_bytes c.in-Some.others.now ≡ others = search rules in
+    subst (λ (words : List (List ℕ)). EndsHost words (g.W.Write.contents c.args.out.now)
+    (g.W.Write.contents c.cmd_host.new.out) c.cmd_host.result) following c.cmd_host.ensures
 
 pub returns-in-Err-clause-none : goal.returns-in-Err-clause-none
 returns-in-Err-clause-none g c = λ none.

@@ -3,7 +3,7 @@ use Rattle.h2_seat.proofs.SeatSteps.{noted_over, noted_up, seat_same, seat_then}
 use Rattle.h2_seat.proofs.seat.Seat.note.Goals as goal
 
 pub returns-else-is_drained-clause-handles : goal.returns-else-is_drained-clause-handles
-returns-else-is_drained-clause-handles g c = seat_same _ _ refl
+returns-else-is_drained-clause-handles g c = seat_same _ _ c.end_later.ensures.same
 
 pub returns-then-is_over : goal.returns-then-is_over
 returns-then-is_over g c = record {

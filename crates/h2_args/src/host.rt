@@ -1,0 +1,217 @@
+//! The options of `host`.
+
+ghost use Rattle.std.specs.Prelude.{◌≡◌, ◌≤◌, IfErr, IfOk, IfSome, Some, codes, false, map, pos};
+ghost use Rattle.std.specs.Prelude.{string_bytes};
+ghost use Rattle.clap.specs.Words.{HasKind, app_of, rule_of};
+ghost use Rattle.h2_args.specs.Commands.{host_app, number_option_rule, path_rule, served_app};
+ghost use Rattle.h2_args.specs.Words.{host_asked_by, host_faults, host_words_of};
+
+use crate::options::{CommandText, flag_arg, is_set, named_command};
+use crate::sockets::{counts, number_arg};
+use clap::builder::ValueParser;
+use clap::{Arg, Command, Error, value_parser};
+use std::alloc::{AllocError, Global};
+
+/// The options of `host`.
+#[derive(Clone, Copy, Debug)]
+pub struct HostWords<'a> {
+    /// The port, from 1 to 65,535.
+    pub port: u16,
+    /// The folder whose files are served, where one is named.
+    pub root: Option<&'a str>,
+    /// The address, where one is given, which isn't read yet.
+    pub address: Option<&'a str>,
+    /// How many connections there are at most, from 1 to 1,048,576, where that is given.
+    pub connections: Option<u32>,
+    /// After how many seconds without a request a connection ends, from 0 to 86,400, where that is
+    /// given.
+    pub idle: Option<u32>,
+    /// Whether a line a request is printed.
+    pub log: bool,
+    /// Whether the host ends once standard input is closed.
+    pub until_closed: bool,
+}
+
+// contract: hosts (own) The words of host say what is served, where, and for how long
+// rule: hosts (own) The words of host say what is served, where, and for how long
+/// Reads the words after `host`.
+///
+/// # Errors
+///
+/// Those of [`crate::show_args`].
+pub fn host_args<'a>(alloc: Global, words: &'a [String]) -> Result<HostWords<'a>, Error>
+    ensures ok { IfOk result (λ options.
+        host_words_of (map string_bytes words.entry.now) ≡ Some (host_asked_by options)) }
+    ensures port { IfOk result (λ options. (1 ≤ options.port) × (options.port ≤ 65535)) }
+    ensures connections { IfOk result (λ options.
+        IfSome options.connections (λ count. (1 ≤ count) × (count ≤ 1048576))) }
+    ensures idle { IfOk result (λ options. IfSome options.idle (λ seconds. seconds ≤ 86400)) }
+    ensures err { IfErr result (HasKind (host_faults (map string_bytes words.entry.now))) }
+{
+    let command = host_command(alloc)?;
+    let matches = command.try_get_matches_from(words)?;
+    // It is required.
+    let Some(port) = matches.get_one::<u16>(HOST_PORT) else {
+        unreachable!();
+    };
+    Ok(HostWords {
+        port,
+        root: matches.get_str(ROOT),
+        address: matches.get_str(ADDRESS),
+        connections: matches.get_one::<u32>(CONNECTIONS),
+        idle: matches.get_one::<u32>(IDLE),
+        log: is_set(&matches, LOG),
+        until_closed: is_set(&matches, UNTIL_CLOSED),
+    })
+}
+
+const HOST_PORT: &str = "PORT";
+
+const HOST_PORT_HELP: &str = "The port, 1 to 65535";
+
+const ROOT: &str = "root";
+
+const ROOT_HELP: &str = r"Answer with the files below this folder, and not with
+what was asked";
+
+const ADDRESS: &str = "address";
+
+const ADDRESS_HELP: &str = "The address [default: 127.0.0.1]";
+
+const CONNECTIONS: &str = "connections";
+
+const CONNECTIONS_HELP: &str = r"How many connections at once, 1 to 1048576
+[default: 10000]";
+
+const IDLE: &str = "idle";
+
+const IDLE_HELP: &str = r"End a connection after so many seconds without a
+request, 0 to 86400, where 0 is never [default: 75]";
+
+const LOG: &str = "log";
+
+const LOG_HELP: &str = r"Print a line for each request, in the common log
+format";
+
+const UNTIL_CLOSED: &str = "until-closed";
+
+const UNTIL_CLOSED_HELP: &str = r"End in order once standard input, a pipe, is
+closed";
+
+/// What `host` serves, how it ends, and an example.
+const HOSTED_AND_STATUSES: &str =
+    r"Many connections at once, in one thread. Without --root each request is answered
+as `h2 serve` does: with its method, a space, its path, a line end, and its own
+body.
+
+With --root the answer is a file below that folder, of any size, with its type,
+length, `etag`, `last-modified` and `date`. GET and HEAD are served; conditions
+and one range are followed (RFC 9110, sections 13 and 14). A path that ends with
+a slash is the folder's `index.html`. Other answers are a short text: 404 for
+what is not there, for names that begin with a dot, and for folders without a
+slash; 403 for links and for what is below one, for what is no regular file, and
+for what may not be read; 405 for other methods. Links are not followed: the
+file and the folders on its way are looked at before and after it is opened. Who
+may write below the folder can still swap a link in and out again between two
+looks. A file that gets shorter while it is sent is a reset with code 2.
+
+A connection is ended with a GOAWAY that sends no frame in 10 seconds, that
+takes 30 for a frame or for 1024 octets of a body, or 60 for the next octet of
+an answer; one without a request after --idle seconds, in order. One that sends
+above 500 resets, 500 empty frames, 50 malformed requests or 32768 octets of
+replies' worth of PING and SETTINGS in 10 seconds is ended with code 11. One
+connection holds at most 16 MiB, all of them 256 MiB.
+
+With --until-closed GOAWAY goes to all once standard input is closed, what was
+asked is answered, as long as 65536 octets of answers go in each 5 seconds, and
+the status is 0. A line of --log is
+  127.0.0.1 - - [28/Nov/2026:04:20:00 +0000] `GET / HTTP/2.0` 200 6
+with double quotes, in which other octets than printable ASCII, quotes and
+backslashes are as `\x00`.
+
+Exit status, with the line on standard error:
+  0  standard input was closed, with --until-closed, and all have ended
+  2  wrong arguments, or `error: no address: A`
+  3  `N1 Device`: the port or the folder can't be had, standard input is no
+     pipe, or a wait or a write of the log failed
+  4  `N3 Memory`: out of memory
+
+A hint may follow that line. It is for people, and no status depends on it.
+
+Example:
+  $ h2 host 9001 --root examples &
+  $ curl --http2-prior-knowledge http://127.0.0.1:9001/client-reset.hex";
+
+// An option whose value is any text, without a letter.
+fn valued_arg<'a>(alloc: Global, name: &'a str, value: &'a str, help: &'a str) -> Arg<'a>
+    ensures rule { rule_of result ≡ path_rule name.entry.now }
+    ensures local { result.global ≡ false }
+{
+    Arg::new(alloc, name)
+        .long(name)
+        .value_name(value)
+        .help(help)
+}
+
+// The option of a number.
+fn count_arg<'a>(
+    alloc: Global,
+    name: &'a str,
+    value: &'a str,
+    numbers: ValueParser<'a>,
+    help: &'a str,
+) -> Arg<'a>
+    ensures rule { rule_of result ≡ record (path_rule name.entry.now) {
+      parser = Some numbers.entry;
+    } }
+    ensures local { result.global ≡ false }
+{
+    valued_arg(alloc, name, value, help).value_parser(numbers)
+}
+
+// The numbers of connections.
+fn numbers_of_connections<'a>() -> ValueParser<'a>
+    ensures { result ≡ ValueParser.Signed (pos 1) (pos 1048576) }
+{
+    value_parser!(u32).range(1..=1_048_576)
+}
+
+// The seconds without a request.
+fn idle_seconds<'a>() -> ValueParser<'a>
+    ensures { result ≡ ValueParser.Signed (pos 0) (pos 86400) }
+{
+    value_parser!(u32).range(0..=86_400)
+}
+
+// The command with its first arguments.
+fn served_command<'a>(alloc: Global) -> Result<Command<'a>, AllocError>
+    ensures { IfOk result (λ command. app_of command ≡ served_app) }
+{
+    let text = CommandText {
+        called: "h2 host",
+        about: "Answers requests at a port, of many connections at once",
+        usage: "h2 host [OPTIONS] PORT",
+        more: HOSTED_AND_STATUSES,
+    };
+    named_command(alloc, "host", text)?
+        .arg(number_arg(alloc, HOST_PORT, counts(), HOST_PORT_HELP))?
+        .arg(valued_arg(alloc, ROOT, "DIR", ROOT_HELP))?
+        .arg(valued_arg(alloc, ADDRESS, "A", ADDRESS_HELP))
+}
+
+/// The command as clap has it.
+pub(super) fn host_command<'a>(alloc: Global) -> Result<Command<'a>, AllocError>
+    ensures { IfOk result (λ command. app_of command ≡ host_app) }
+{
+    served_command(alloc)?
+        .arg(count_arg(
+            alloc,
+            CONNECTIONS,
+            "N",
+            numbers_of_connections(),
+            CONNECTIONS_HELP,
+        ))?
+        .arg(count_arg(alloc, IDLE, "SECONDS", idle_seconds(), IDLE_HELP))?
+        .arg(flag_arg(alloc, LOG, LOG_HELP))?
+        .arg(flag_arg(alloc, UNTIL_CLOSED, UNTIL_CLOSED_HELP))
+}

@@ -1,0 +1,12 @@
+//! Tests of what a host serves, without sockets.
+//!
+//! - `asking`: a request to a handler, and all that it answers. `sites`: a folder's answers, and
+//!   the lines of the log. `leaving`: connections that are asked to leave.
+#![tactic(auto)]
+
+#[cfg(test)]
+mod asking;
+#[cfg(test)]
+mod leaving;
+#[cfg(test)]
+mod sites;
