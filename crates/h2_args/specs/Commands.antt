@@ -218,9 +218,14 @@ asking_app = with_rule
 
 -- the same with `[-o FILE] [--stream]`
 -- rule: engines (own) serve, get and loop have their words
-abbrev pub get_app : App
-get_app = with_rule (with_rule asking_app (text_option_rule (codes "output") 111))
+abbrev pub streaming_app : App
+streaming_app = with_rule (with_rule asking_app (text_option_rule (codes "output") 111))
     (flag_rule (codes "stream"))
+
+-- the same with `[--timeout SECONDS]`, from 1 to 65,535
+-- rule: engines (own) serve, get and loop have their words
+abbrev pub get_app : App
+get_app = with_rule streaming_app (number_option_rule (codes "timeout") 1 65535)
 
 -- `loop N [--each-way]`; the number is from 0 to 1,048,576
 -- rule: engines (own) serve, get and loop have their words

@@ -224,7 +224,8 @@ serve_faults = fault_of serve_app
 -- What the words after `get` ask for: a URL; whether the response's fields are printed; the fields
 -- of the request, each as it was written; its method and its body, where they are given; whether a
 -- status of 400 or above is a failure; the port where the URL names none; the file that the body
--- goes into, if one is named; and whether the body is printed as it comes.
+-- goes into, if one is named; whether the body is printed as it comes; and in how many seconds all
+-- is to be done, where that is given.
 -- rule: engines (own) serve, get and loop have their words
 pub record GetWords : Type 0 where
   pub url : Text
@@ -236,6 +237,7 @@ pub record GetWords : Type 0 where
   pub port : Option ℕ
   pub output : Option Text
   pub stream : Bool
+  pub timeout : Option ℕ
 
 -- the number that an option's value writes in decimal digits, where it is given
 abbrev pub number_if : Option Text → Option ℕ
@@ -253,6 +255,7 @@ get_words_in rows = record {
   port = number_if (one_of (codes "port") rows);
   output = first_of (codes "output") rows;
   stream = is_set (one_of (codes "stream") rows);
+  timeout = number_if (one_of (codes "timeout") rows);
 }
 
 -- What the words after `get` ask for, if they have no fault.
@@ -272,6 +275,7 @@ asked_by options = record {
   port = options.port;
   output = option_map (λ output. output.now) options.output;
   stream = options.stream;
+  timeout = options.timeout;
 }
 
 -- the kinds of error that the words after `get` may have

@@ -4,7 +4,8 @@ ghost use Rattle.std.specs.Prelude.{◌≡◌, ◌≤◌, IfErr, IfOk, IfSome, c
 ghost use Rattle.std.specs.Prelude.{[], string_bytes, unwrap_or};
 ghost use Rattle.clap.specs.Words.{HasKind, all_of, app_of, found_of, rows_of, rule_of};
 ghost use Rattle.h2_args.specs.Commands.{asking_app, flag_rule, get_app, header_rule, include_rule};
-ghost use Rattle.h2_args.specs.Commands.{number_option_rule, text_option_rule, url_and_print_app};
+ghost use Rattle.h2_args.specs.Commands.{number_option_rule, streaming_app, text_option_rule};
+ghost use Rattle.h2_args.specs.Commands.{url_and_print_app};
 ghost use Rattle.h2_args.specs.Words.{asked_by, get_faults, get_words_of};
 
 use crate::options::{CommandText, flag_arg, is_set, named_command};
@@ -34,6 +35,8 @@ pub struct GetOptions<'a> {
     pub output: Option<&'a str>,
     /// Whether the body is printed as it comes.
     pub stream: bool,
+    /// In how many seconds all is to be done, from 1 to 65,535, where it is given.
+    pub timeout: Option<u16>,
 }
 
 // contract: engines (own) serve, get and loop have their words
@@ -48,6 +51,8 @@ pub fn get_args<'a>(alloc: Global, words: &'a [String]) -> Result<GetOptions<'a>
         get_words_of (map string_bytes words.entry.now) ≡ Some (asked_by options)) }
     ensures port { IfOk result (λ options.
         IfSome options.port (λ port. (1 ≤ port) × (port ≤ 65535))) }
+    ensures timeout { IfOk result (λ options.
+        IfSome options.timeout (λ seconds. (1 ≤ seconds) × (seconds ≤ 65535))) }
     ensures err { IfErr result (HasKind (get_faults (map string_bytes words.entry.now))) }
 {
     let command = get_command(alloc)?;
@@ -67,6 +72,7 @@ pub fn get_args<'a>(alloc: Global, words: &'a [String]) -> Result<GetOptions<'a>
         port: matches.get_one::<u16>(AT_PORT),
         output: matches.get_str(OUTPUT),
         stream: is_set(&matches, STREAM),
+        timeout: matches.get_one::<u16>(TIMEOUT),
     })
 }
 
@@ -129,14 +135,19 @@ const STREAM: &str = "stream";
 
 const STREAM_HELP: &str = r"Print the body as it comes, and keep none of it";
 
+const TIMEOUT: &str = "timeout";
+
+const TIMEOUT_HELP: &str = r"Give up after so many seconds, 1 to 65535";
+
 /// What `get` prints, how it ends, and an example.
 const FETCHED_AND_STATUSES: &str =
     r"It asks for the URL over a new connection, which begins with the preface: the
 server has to speak HTTP/2 without being asked (RFC 9113, section 3.3). It
 prints the status with its phrase, `200 OK`, or the status alone where it has no
 phrase, and then the octets of the body as they are. Interim responses (1xx)
-aren't printed, nor are trailers without --include. It follows no redirection
-and has no clocks: it waits for a server that stays idle.
+aren't printed, nor are trailers without --include. It follows no redirection.
+Without --timeout it waits for a server that stays idle; with it, it gives up so
+many seconds after it began to connect, but while a name is looked up.
 
 Without --output and --stream the body is kept until the response is complete,
 and nothing is printed of one that isn't. With either the body goes out as it
@@ -168,7 +179,8 @@ Exit status (the lines in backquotes are on standard error):
   2  wrong arguments, or a URL that can't be fetched
      `N7 Refused`: the request breaks a rule, or its fields are too many
   3  `N1 Device`: no connection can be made, or a read or a write failed, of
-     the files of --data and --output too, which a hint names
+     the files of --data and --output too, which a hint names, or the time is
+     over, with `hint: timed out`
      `N5 NoProgress`: a write took nothing
   4  `N3 Memory`: out of memory
 
@@ -217,23 +229,23 @@ fn header_arg<'a>(alloc: Global) -> Arg<'a>
     text_arg(alloc, HEADER, 'H', "NAME:VALUE", HEADER_HELP).action(ArgAction::Append)
 }
 
-// The ports.
-fn ports<'a>() -> ValueParser<'a>
+// The numbers from 1 to 65,535.
+fn numbers<'a>() -> ValueParser<'a>
     ensures { result ≡ ValueParser.Signed (pos 1) (pos 65535) }
 {
     value_parser!(u16).range(1..=65_535)
 }
 
-// The option of the port.
-fn port_arg<'a>(alloc: Global) -> Arg<'a>
-    ensures rule { rule_of result ≡ number_option_rule (codes "port") 1 65535 }
+// An option whose value is a number from 1 to 65,535.
+fn number_option<'a>(alloc: Global, name: &'a str, value: &'a str, help: &'a str) -> Arg<'a>
+    ensures rule { rule_of result ≡ number_option_rule name.entry.now 1 65535 }
     ensures local { result.global ≡ false }
 {
-    Arg::new(alloc, AT_PORT)
-        .long(AT_PORT)
-        .value_name("N")
-        .value_parser(ports())
-        .help(AT_PORT_HELP)
+    Arg::new(alloc, name)
+        .long(name)
+        .value_name(value)
+        .value_parser(numbers())
+        .help(help)
 }
 
 // The command with its first arguments.
@@ -260,14 +272,21 @@ fn asking_command<'a>(alloc: Global) -> Result<Command<'a>, AllocError>
         .arg(text_arg(alloc, REQUEST, 'X', "METHOD", REQUEST_HELP))?
         .arg(text_arg(alloc, DATA, 'd', "DATA", DATA_HELP))?
         .arg(flag_arg(alloc, FAIL, FAIL_HELP))?
-        .arg(port_arg(alloc))
+        .arg(number_option(alloc, AT_PORT, "N", AT_PORT_HELP))
+}
+
+// The command with how the body is printed.
+fn streaming_command<'a>(alloc: Global) -> Result<Command<'a>, AllocError>
+    ensures { IfOk result (λ command. app_of command ≡ streaming_app) }
+{
+    asking_command(alloc)?
+        .arg(text_arg(alloc, OUTPUT, 'o', "FILE", OUTPUT_HELP))?
+        .arg(flag_arg(alloc, STREAM, STREAM_HELP))
 }
 
 /// The command as clap has it.
 pub(super) fn get_command<'a>(alloc: Global) -> Result<Command<'a>, AllocError>
     ensures { IfOk result (λ command. app_of command ≡ get_app) }
 {
-    asking_command(alloc)?
-        .arg(text_arg(alloc, OUTPUT, 'o', "FILE", OUTPUT_HELP))?
-        .arg(flag_arg(alloc, STREAM, STREAM_HELP))
+    streaming_command(alloc)?.arg(number_option(alloc, TIMEOUT, "SECONDS", TIMEOUT_HELP))
 }

@@ -94,7 +94,7 @@ impl Group {
 }
 
 /// The answers to a case's commands, up to the first that has none.
-pub(crate) fn run_case<R: Net + Files + Clock>(
+pub(crate) fn run_case<R: Net + Files + Clock + Copy>(
     rt: &R,
     alloc: Global,
     group: Group,

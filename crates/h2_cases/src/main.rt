@@ -21,7 +21,7 @@ use std::process::ExitCode;
 use std::{env, fs, io};
 
 /// Checks the cases of one file, and counts them.
-fn check_file<R: std::net::Net + fs::Files + std::time::Clock, W: Write>(
+fn check_file<R: std::net::Net + fs::Files + std::time::Clock + Copy, W: Write>(
     rt: &R,
     alloc: Global,
     group: Group,

@@ -39,7 +39,7 @@ const MOST_EQUAL: usize = 1_000;
 
 /// The state of a case.
 #[derive(Drop)]
-struct Session<'a, N: Net + Files + Clock> {
+struct Session<'a, N: Net + Files + Clock + Copy> {
     net: &'a N,
     alloc: Global,
     input: Option<Input>,
@@ -127,7 +127,7 @@ fn add_errors(text: &mut Text, errors: &str) {
 
 // Runs the program, whose output is a terminal, and returns its status. It has no contract, since no
 // case needs one.
-fn run<N: Net + Files + Clock, R: Read>(
+fn run<N: Net + Files + Clock + Copy, R: Read>(
     net: &N,
     alloc: Global,
     line: &[String],
@@ -154,7 +154,7 @@ fn add_printed(text: &mut Text, out: &[u8], err: &[u8], status: u8) {
 }
 
 // What the program prints with these words of an input, and its status.
-fn answer_of<N: Net + Files + Clock, R: Read>(
+fn answer_of<N: Net + Files + Clock + Copy, R: Read>(
     net: &N,
     alloc: Global,
     line: &[String],
@@ -171,7 +171,12 @@ where
 }
 
 // Adds the answer where no input was given.
-fn add_unread<N: Net + Files + Clock>(net: &N, alloc: Global, line: &[String], text: &mut Text)
+fn add_unread<N: Net + Files + Clock + Copy>(
+    net: &N,
+    alloc: Global,
+    line: &[String],
+    text: &mut Text,
+)
 where
     N::Stream: WriteParts,
 {
@@ -183,7 +188,7 @@ where
 }
 
 // Adds the answer to an input that is read in pieces, if it is another one than the first.
-fn add_other<N: Net + Files + Clock>(
+fn add_other<N: Net + Files + Clock + Copy>(
     net: &N,
     alloc: Global,
     line: &[String],
@@ -202,7 +207,7 @@ where
 }
 
 // Adds the answers that differ where octets are read in two pieces, cut at each place.
-fn add_cut<N: Net + Files + Clock>(
+fn add_cut<N: Net + Files + Clock + Copy>(
     net: &N,
     alloc: Global,
     line: &[String],
@@ -221,7 +226,7 @@ where
 }
 
 // Adds the answer that differs where octets are read as hexadecimal text.
-fn add_hexadecimal<N: Net + Files + Clock>(
+fn add_hexadecimal<N: Net + Files + Clock + Copy>(
     net: &N,
     alloc: Global,
     line: &[String],
@@ -244,7 +249,7 @@ where
 }
 
 // Adds the answer to words, and those that differ where the input is read otherwise.
-fn add_answers<N: Net + Files + Clock>(
+fn add_answers<N: Net + Files + Clock + Copy>(
     net: &N,
     alloc: Global,
     input: &Input,
@@ -304,7 +309,7 @@ where
     }
 }
 
-impl<N: Net + Files + Clock> Session<'_, N>
+impl<N: Net + Files + Clock + Copy> Session<'_, N>
 where
     N::Stream: WriteParts,
 {
@@ -329,7 +334,7 @@ where
     }
 }
 
-impl<N: Net + Files + Clock> Driver for Session<'_, N>
+impl<N: Net + Files + Clock + Copy> Driver for Session<'_, N>
 where
     N::Stream: WriteParts,
 {
@@ -346,7 +351,11 @@ where
 }
 
 /// The answers to a case's commands, up to the first that has none.
-pub(crate) fn run_case<N: Net + Files + Clock>(net: &N, alloc: Global, case: &Case) -> Vec<Answer>
+pub(crate) fn run_case<N: Net + Files + Clock + Copy>(
+    net: &N,
+    alloc: Global,
+    case: &Case,
+) -> Vec<Answer>
 where
     N::Stream: WriteParts,
 {

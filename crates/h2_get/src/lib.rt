@@ -5,6 +5,7 @@
 //! give. [`print_asked`] prints
 //! the response, with its fields where the words ask for them, and [`is_failure`] says whether the
 //! words make it a failure. [`stream_location`] fetches a response and prints it as it comes.
+//! [`TimedNet`] is a network whose connections end at a deadline.
 #![tactic(auto)]
 
 mod body;
@@ -16,6 +17,7 @@ mod request;
 mod response;
 mod stream;
 mod streaming;
+mod timed;
 
 pub use body::{BodyFault, body_of};
 pub use pass_error::{PassError, ResponseHead, StreamEnding, StreamError};
@@ -25,3 +27,4 @@ pub use request::{RequestFault, request_of};
 pub use response::{is_failure, print_asked, write_failure};
 pub use stream::stream_response;
 pub use streaming::stream_location;
+pub use timed::{Deadline, TimedListener, TimedNet, TimedStream};

@@ -30,8 +30,9 @@ use std::net::{Net, OpenStream};
 /// [`StreamError::Link`] also where no connection can be made (N1), and where the request's fields
 /// are too many (N7); else as [`stream_response`]. The hint says what is likely the cause of
 /// [`h2_net::LinkError::Device`] (N1) and [`h2_net::LinkError::Stream`] (N2).
-pub fn stream_location<N: Net + Files, W: Write>(
+pub fn stream_location<N: Net, F: Files, W: Write>(
     net: &N,
+    files: &F,
     alloc: Global,
     options: &GetOptions<'_>,
     location: &Location,
@@ -51,7 +52,7 @@ where
         Ok(fetch) => fetch,
         Err(error) => return Err(StreamEnding::of_error(StreamError::Link(error))),
     };
-    stream_with_hint(net, alloc, options, &mut fetch, &mut link, out)
+    stream_with_hint(files, alloc, options, &mut fetch, &mut link, out)
 }
 
 /// A fetch with a client of the default values.

@@ -17,8 +17,8 @@ use h2_args::{GetOptions, get_args};
 use h2_cli::{Failure, Status, hint_at_client, write_hint};
 use h2_engines::Message;
 use h2_get::{
-    BodyFault, RequestFault, StreamEnding, StreamError, body_of, is_failure, location_at,
-    print_asked, request_of, stream_location, write_failure,
+    BodyFault, Deadline, RequestFault, StreamEnding, StreamError, TimedNet, body_of, is_failure,
+    location_at, print_asked, request_of, stream_location, write_failure,
 };
 use h2_net::{
     Ending, Fetched, LinkError, Location, TargetFault, WriteParts, fetch_location, report,
@@ -27,19 +27,21 @@ use std::alloc::Global;
 use std::fs::Files;
 use std::io::{self, Read, Write};
 use std::net::Net;
+use std::time::Clock;
 
 // contract: engines (own) The words of get make its request and say what is printed
 // rule: engines (own) The words of get make its request and say what is printed
 /// Runs `h2 get` with the words after `get`: fetches a URL with the request that the words ask for,
 /// whose body a file or `input` gives where they say so, and prints the status with its phrase, the
-/// fields where the words ask for them, and the body; as it comes, or into a file, where they ask
-/// for that. A fetch that fails has a line on standard error, and a hint where the cause is known.
+/// fields where the words ask for them, and the body; as it comes, or into a file, where they ask for
+/// that. A fetch that fails, or isn't done in the time that they give, has a line on standard error,
+/// and a hint where the cause is known.
 ///
 /// The status is [`Status::Good`] for a response that has come, whatever its own status is, and for
 /// help; [`Status::Fault`] for a response that the words make a failure; [`Status::Usage`] for
 /// wrong words, a URL that can't be fetched and a request that breaks a rule; and else that of
 /// [`h2_net::status_of`].
-pub fn cmd_get<N: Net + Files, R: Read, W: Write, E: Write>(
+pub fn cmd_get<N: Net + Files + Clock + Copy, R: Read, W: Write, E: Write>(
     net: &N,
     alloc: Global,
     words: &[String],
@@ -70,18 +72,33 @@ where
         Ok(message) => message,
         Err(fault) => return refuse_request(fault, err),
     };
-    ask(net, alloc, &options, &location, message, out, err)
+    match options.timeout {
+        None => ask(
+            net, net, alloc, &options, &location, message, None, out, err,
+        ),
+        Some(seconds) => {
+            let deadline = Deadline::in_seconds(net, seconds);
+            let timed = TimedNet::new(*net, deadline);
+            let limit = Some(deadline);
+            ask(
+                &timed, net, alloc, &options, &location, message, limit, out, err,
+            )
+        }
+    }
 }
 
 // rule: engines (own) The words of get make its request and say what is printed
 // rule: engines (own) get -o and --stream write the body as it comes, in order
-// Makes the request and prints the response, as the options ask.
-fn ask<N: Net + Files, W: Write, E: Write>(
+// Makes the request over a network and prints the response, as the options ask. Where the deadline
+// is over, an error of a device is due to that.
+fn ask<N: Net, F: Files + Clock, W: Write, E: Write>(
     net: &N,
+    files: &F,
     alloc: Global,
     options: &GetOptions<'_>,
     location: &Location,
     message: Message,
+    limit: Option<Deadline>,
     out: &mut W,
     err: &mut E,
 ) -> Status
@@ -91,11 +108,20 @@ where
         (W.contents out.new) result }
 {
     if is_in_parts(options) {
-        let got = stream_location(net, alloc, options, location, message, out);
-        return end_stream(options, got, err);
+        let got = stream_location(net, files, alloc, options, location, message, out);
+        return end_stream(options, got, is_over(files, limit), err);
     }
     let got = fetch_location(net, alloc, location, message);
-    end_get(options, got, out, err)
+    let is_late = is_over(files, limit);
+    end_get(options, got, is_late, out, err)
+}
+
+// Whether there is a deadline, and it is over.
+fn is_over<C: Clock>(clock: &C, limit: Option<Deadline>) -> bool {
+    match limit {
+        Some(deadline) => deadline.is_over(clock),
+        None => false,
+    }
 }
 
 // rule: engines (own) get -o and --stream write the body as it comes, in order
@@ -111,6 +137,7 @@ fn is_in_parts(options: &GetOptions<'_>) -> bool
 fn end_get<W: Write, E: Write>(
     options: &GetOptions<'_>,
     got: Result<Fetched, Ending>,
+    is_late: bool,
     out: &mut W,
     err: &mut E,
 ) -> Status
@@ -119,20 +146,27 @@ fn end_get<W: Write, E: Write>(
 {
     match got {
         Ok(fetched) => end_fetched(options, &fetched, out, err),
-        Err(ending) => report_fetch(ending, err),
+        Err(ending) => report_fetch(ending, is_late, err),
     }
 }
 
 // rule: engines (own) N1 to N7 end a command with their statuses
 // rule (tested): engines (own) A hint names --port, and says that fields are too many
 // Prints on standard error how a fetch has ended early, with the hint that is known: for N6 the name
-// of its code. A request that breaks no rule is refused only since its fields are too many.
-fn report_fetch<E: Write>(ending: Ending, err: &mut E) -> Status
+// of its code, and for N1 that the time is over, where it is. A request that breaks no rule is refused
+// only since its fields are too many.
+fn report_fetch<E: Write>(ending: Ending, is_late: bool, err: &mut E) -> Status
     ensures { result ≡ status_with ending.error }
 {
-    let status = report(ending, err);
+    let Ending { error, hint } = ending;
+    let hint = match error {
+        LinkError::Device if is_late => None,
+        _ => hint,
+    };
+    let status = report(Ending { error, hint }, err);
     // The status is that of the error, whether or not these writes fail.
-    let _ = match ending.error {
+    let _ = match error {
+        LinkError::Device if is_late => writeln!(err, "hint: timed out"),
         LinkError::Refused => writeln!(err, "hint: the fields of the request are too many"),
         LinkError::Reset(code) => write_hint(hint_at_client(code, &[]), err),
         _ => Ok(()),
@@ -164,24 +198,30 @@ fn end_fetched<W: Write, E: Write>(
 fn end_stream<E: Write>(
     options: &GetOptions<'_>,
     got: Result<Fetched, StreamEnding>,
+    is_late: bool,
     err: &mut E,
 ) -> Status
     ensures { EndsWithStream (asked_by options.now) (without_stream_hint got) result }
 {
     match got {
         Ok(fetched) => end_response(options, &fetched, err),
-        Err(ending) => end_unstreamed(options, ending, err),
+        Err(ending) => end_unstreamed(options, ending, is_late, err),
     }
 }
 
 // rule: engines (own) N1 to N7 end a command with their statuses
 // Prints on standard error why a response was not printed whole.
-fn end_unstreamed<E: Write>(options: &GetOptions<'_>, ending: StreamEnding, err: &mut E) -> Status
+fn end_unstreamed<E: Write>(
+    options: &GetOptions<'_>,
+    ending: StreamEnding,
+    is_late: bool,
+    err: &mut E,
+) -> Status
     ensures { EndsWithStream (asked_by options.now) (Err ending.error) result }
 {
     let hint = ending.hint;
     match ending.error {
-        StreamError::Link(error) => report_fetch(Ending { error, hint }, err),
+        StreamError::Link(error) => report_fetch(Ending { error, hint }, is_late, err),
         StreamError::Output => give_up(Failure::Device, err),
         StreamError::File => refuse_file(options.output.unwrap_or(""), err),
     }

@@ -32,7 +32,7 @@ use std::time::Clock;
 /// [`Status::Usage`] where they are wrong. Sockets and files are opened by `net` alone, and the
 /// clock is its. `colored` says whether `--color auto` has colors: whether the output is a terminal
 /// that is to have them.
-pub fn run<N: Net + Files + Clock, R: Read, W: Write, E: Write>(
+pub fn run<N: Net + Files + Clock + Copy, R: Read, W: Write, E: Write>(
     net: &N,
     alloc: Global,
     words: &[String],

@@ -16,6 +16,7 @@ url_alone : get_words_of (codes "http://h:1/a" ∷ []) ≡ Some (record {
   port = None;
   output = None;
   stream = false;
+  timeout = None;
 })
 unfolding clap_on_literals
 url_alone = refl
@@ -32,6 +33,7 @@ short_words : get_words_of (codes "-i" ∷ codes "-H" ∷ codes "A: b" ∷ codes
       port = None;
       output = None;
       stream = false;
+      timeout = None;
     })
 unfolding clap_on_literals
 short_words = refl
@@ -48,11 +50,13 @@ long_words : get_words_of (codes "--include" ∷ codes "--header=a:b" ∷ codes 
       port = Some 9001;
       output = None;
       stream = false;
+      timeout = None;
     })
 unfolding clap_on_literals
 long_words = refl
 
-parts_words : get_words_of (codes "-o" ∷ codes "a" ∷ codes "--stream" ∷ codes "http://h/" ∷ [])
+parts_words : get_words_of (codes "-o" ∷ codes "a" ∷ codes "--stream" ∷ codes "--timeout=20"
+    ∷ codes "http://h/" ∷ [])
     ≡ Some (record {
       url = codes "http://h/";
       include = false;
@@ -63,6 +67,7 @@ parts_words : get_words_of (codes "-o" ∷ codes "a" ∷ codes "--stream" ∷ co
       port = None;
       output = Some (codes "a");
       stream = true;
+      timeout = Some 20;
     })
 unfolding clap_on_literals
 parts_words = refl

@@ -19,7 +19,7 @@ const IN_USE: &str = "N1 Device\nhint: the port is in use\n";
 
 /// Whether a line prints nothing and ends with N1, and with these lines on standard error. Nothing
 /// is read.
-fn fails<R: Net + Files + Clock>(
+fn fails<R: Net + Files + Clock + Copy>(
     rt: &R,
     alloc: Global,
     line: &str,
@@ -33,7 +33,7 @@ where
 
 /// Whether a line prints nothing and ends with this status, and with these lines on standard error.
 /// Nothing is read.
-fn ends_with<R: Net + Files + Clock>(
+fn ends_with<R: Net + Files + Clock + Copy>(
     rt: &R,
     alloc: Global,
     line: &str,
@@ -79,6 +79,19 @@ fn get_where_nothing_listens(rt: HostRuntime) -> Result<(), Fail> {
     let port = closed_port(&rt)?;
     let line = format!(in rt.alloc(); "get http://127.0.0.1:{port}/")?;
     assert!(rt; fails(&rt, rt.alloc(), &line, REFUSED)?);
+    Ok(())
+}
+
+// rule: engines (own) get gives up after the seconds of --timeout
+// The port is listened at, and nothing is answered.
+#[test]
+fn get_that_is_not_answered(rt: HostRuntime) -> Result<(), Fail> {
+    let listener = TcpListener::bind(&rt, SocketAddr::from((Ipv4Addr::LOCALHOST, 0)))?;
+    let port = listener.local_addr()?.port();
+    for word in ["", "--stream "] {
+        let line = format!(in rt.alloc(); "get {word}--timeout 1 http://127.0.0.1:{port}/")?;
+        assert!(rt; fails(&rt, rt.alloc(), &line, "N1 Device\nhint: timed out\n")?);
+    }
     Ok(())
 }
 

@@ -23,7 +23,7 @@ pub(super) fn words_of(alloc: Global, line: &str) -> Result<Vec<String>, Fail> {
 }
 
 /// How the program ends that can neither read nor write.
-fn end_of<R: Net + Files + Clock>(rt: &R, alloc: Global, line: &str) -> Result<Status, Fail>
+fn end_of<R: Net + Files + Clock + Copy>(rt: &R, alloc: Global, line: &str) -> Result<Status, Fail>
 where
     R::Stream: WriteParts,
 {

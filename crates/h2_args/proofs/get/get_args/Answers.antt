@@ -8,11 +8,12 @@ use Rattle.h2_args.proofs.Names.{is_simple_and_free, map, string_bytes, subst}
 use Rattle.std.proofs.lemmas.Result.{err_from_is_err_and}
 use Rattle.std.specs.Prelude.{Bool, IfSome}
 use Rattle.h2_args.specs.Words.{GetWords, get_faults, get_words_in}
-use Rattle.h2_args.proofs.CommandLemmas.{get_is_alone, get_names_port, get_wants_url}
+use Rattle.h2_args.proofs.CommandLemmas.{get_is_alone, get_names_port, get_names_timeout}
+use Rattle.h2_args.proofs.CommandLemmas.{get_wants_url}
 use Rattle.h2_args.proofs.GivenLemmas.{given_by-Ok}
 use Rattle.h2_args.proofs.NumberOptionLemmas.{GivesNumberIf, option_number_if}
 use Rattle.h2_args.proofs.RequiredLemmas.{required_value}
-use Rattle.h2_args.proofs.get.get_args.Goals.{After-get_one}
+use Rattle.h2_args.proofs.get.get_args.Goals.{After-get_one, After-get_one-2}
 use Rattle.h2_args.proofs.get.get_args.Goals as goal
 
 pub unreachable-requires : goal.unreachable-requires
@@ -29,10 +30,10 @@ unreachable-requires c =
 -- words that ask for equal things are equal
 same_words : {url url_now : Text} {include include_now : Bool} {fields fields_now : List Text}
     {method method_now body body_now : Option Text} {fail fail_now : Bool}
-    {port port_now : Option ℕ} {output output_now : Option Text} {stream stream_now : Bool} →
-    url ≡ url_now → include ≡ include_now → fields ≡ fields_now
+    {port port_now : Option ℕ} {output output_now : Option Text} {stream stream_now : Bool}
+    {timeout timeout_now : Option ℕ} → url ≡ url_now → include ≡ include_now → fields ≡ fields_now
     → method ≡ method_now → body ≡ body_now → fail ≡ fail_now → port ≡ port_now
-    → output ≡ output_now → stream ≡ stream_now
+    → output ≡ output_now → stream ≡ stream_now → timeout ≡ timeout_now
     → ◌≡◌ {A = GetWords} (record {
       url = url;
       include = include;
@@ -43,6 +44,7 @@ same_words : {url url_now : Text} {include include_now : Bool} {fields fields_no
       port = port;
       output = output;
       stream = stream;
+      timeout = timeout;
     }) (record {
       url = url_now;
       include = include_now;
@@ -53,8 +55,9 @@ same_words : {url url_now : Text} {include include_now : Bool} {fields fields_no
       port = port_now;
       output = output_now;
       stream = stream_now;
+      timeout = timeout_now;
     })
-same_words a b c d e f g h k = λ i. record {
+same_words a b c d e f g h k l = λ i. record {
   url = a i;
   include = b i;
   fields = c i;
@@ -64,6 +67,7 @@ same_words a b c d e f g h k = λ i. record {
   port = g i;
   output = h i;
   stream = k i;
+  timeout = l i;
 }
 
 -- the port is the number that is given, if one is
@@ -76,20 +80,39 @@ port_of c = option_number_if get_app c.in_ok-command.command c.in_ok-command.ens
     16 c.get_one.result c.get_one.ensures.none c.get_one.ensures.value (λ u x gives. gives.0)
     (omega arith) (omega arith)
 
+-- and so are the seconds
+timeout_of : (c : After-get_one-2)
+    → GivesNumberIf c.get_one-2.result 1 65535 (codes "timeout")
+    (rows_of (found_of c.in_ok-matches.matches))
+timeout_of c =
+    option_number_if get_app c.in_ok-command.command c.in_ok-command.ensures get_is_alone
+    c.in_ok-matches.matches c.in_ok-matches.ensures.parsed 9 (codes "timeout") 1 65535
+    get_names_timeout _
+    (λ bs r. ParsesUnsigned 16 10 bs r × ExplainsUnsignedError 10 bs r × HasUnsignedDigitsIfOk bs r)
+    16 c.get_one-2.result c.get_one-2.ensures.none c.get_one-2.ensures.value (λ u x gives. gives.0)
+    (omega arith) (omega arith)
+
+-- a number that is given lies between these
+within : (r : Option ℕ) → IfSome r (λ number. 1 ≤ number) → IfSome r (λ number. number ≤ 65535)
+    → IfSome r (λ number. (1 ≤ number) × (number ≤ 65535))
+within None low high = tt
+within (Some number) low high = (low, high)
+
 pub returns-clause-port : goal.returns-clause-port
 returns-clause-port c =
     let given = port_of (goal.at.returns-clause-port c).After-get_one in
     within c.get_one.result given.low given.high
-  where
-    within : (r : Option ℕ) → IfSome r (λ number. 1 ≤ number) → IfSome r (λ number. number ≤ 65535)
-        → IfSome r (λ number. (1 ≤ number) × (number ≤ 65535))
-    within None low high = tt
-    within (Some number) low high = (low, high)
+
+pub returns-clause-timeout : goal.returns-clause-timeout
+returns-clause-timeout c =
+    let given = timeout_of (goal.at.returns-clause-timeout c).After-get_one-2 in
+    within c.get_one-2.result given.low given.high
 
 pub returns-clause-ok : goal.returns-clause-ok
 returns-clause-ok c =
     let found = found_of c.in_ok-matches.matches in
     let given = port_of (goal.at.returns-clause-ok c).After-get_one in
+    let time = timeout_of (goal.at.returns-clause-ok c).After-get_one-2 in
     let url : unwrap_or (first_of (codes "URL") (rows_of found)) [] ≡ c.in-Some.url.now =
     ap (λ (o : Option Text). unwrap_or o [])
     (sym (first_value-rows found (codes "URL")) ∙ sym c.in-Some.ensures) in
@@ -100,7 +123,7 @@ returns-clause-ok c =
     c.in_ok-command.ensures refl refl c.in_ok-matches.ensures.matches
     c.in_ok-matches.ensures.kinds ∙ ap Some (same_words url (sym c.is_set.ensures)
     (sym c.in_ok-fields.ensures) method body (sym c.is_set-2.ensures) (sym given.read) output
-    (sym c.is_set-3.ensures))
+    (sym c.is_set-3.ensures) (sym time.read))
 
 pub returns-in_err-matches-clause-err : goal.returns-in_err-matches-clause-err
 returns-in_err-matches-clause-err c =
