@@ -20,4 +20,5 @@ pub use follow::{FollowOptions, Followed, Unfollowed, follow_input};
 pub use h2_cli::{Failure, Status};
 pub use h2_show::Side;
 pub use hint::FollowHint;
+pub use marks::{mark_lines, mark_of};
 pub use sides::show_sides;

@@ -13,7 +13,7 @@ use std::alloc::AllocError;
 /// # Errors
 ///
 /// [`AllocError`] when out of memory.
-pub(crate) fn mark_lines(text: &[u8], mark: &[u8], lines: &mut Vec<u8>) -> Result<(), AllocError>
+pub fn mark_lines(text: &[u8], mark: &[u8], lines: &mut Vec<u8>) -> Result<(), AllocError>
     ensures { OnOk result (lines.new.items ≡ lines.old.items ++ marked mark.now true text.now) }
 {
     let mut starts = true;
@@ -29,7 +29,7 @@ pub(crate) fn mark_lines(text: &[u8], mark: &[u8], lines: &mut Vec<u8>) -> Resul
 
 // rule: follow (own) Each side has the lines that show prints of it, after its mark
 /// The mark of a side's lines.
-pub(crate) fn mark_of<'a>(side: Side) -> &'a [u8]
+pub fn mark_of<'a>(side: Side) -> &'a [u8]
     ensures { result.now ≡ mark_of side }
 {
     match side {
