@@ -1,7 +1,7 @@
 -- How a client ends its fetch, over a link and without one, by how it was driven.
 use Rattle.h2_engines.proofs.Names
 use Names.{◌≡◌, ℕ, Bool, true, false, List, [], Option, Some, None, Result, Ok, Err, refl, sym}
-use Names.{ap, ◌∙◌, subst, inl, inr, Appends-nil, Field, Code, InternalError, Client}
+use Names.{ConnRepresents, ap, ◌∙◌, subst, inl, inr, Appends-nil, Field, Code, InternalError, Client}
 use Names.{Values, AreInRange, Log, Keeps-call, SentMessage, Part, call_given, is_head_alone}
 use Names.{EndLog, new_end_log, LinkError, Open, Number, Coming, Fetched, Fetcher, CutsOffAtEnd}
 use Names.{HasRequested, Traffic, IsLinked, HasTakenAll, AreHeadsSoFar, HasCome, IsWhole}
@@ -11,7 +11,9 @@ use Names.{IsDriven, EndsFor, lacks_memory, link_fails, has_stalled, stops_itsel
 use Names.{MachineTakesPiece, Drives, HasSentFor, Keeps, TakenSo, DrivenSo, has_failed, IsFetchedOf}
 use Rattle.h2_engines.specs.WithoutLink.{FetchesInSo, StopsFetchAlone, IsFetchingAlone}
 use Rattle.h2_engines.specs.WithoutLink.{ClientTakesIn}
-use Rattle.h2_engines.specs.Fetches.{EndsFetchSo, Fetches}
+use Rattle.h2_conn.specs.declared.why.Why.{Why}
+use Rattle.h2_conn.specs.Why.{IsWhy}
+use Rattle.h2_engines.specs.Fetches.{EndsFetchSo, FetchesWhy}
 use Rattle.std.proofs.Common.{IfOk, ◌⊎◌, map as each}
 use Rattle.h2_engines.specs.ClientHistories.{IsFetched, begins, requests}
 use Rattle.h2_engines.proofs.MachineLaws.{holds_again}
@@ -39,14 +41,16 @@ new_log values = (refl, refl, refl)
 -- The message was not accepted.
 pub ends_at_once : {values : Values} (message : SentMessage) (start : Traffic) (error : LinkError)
     → AreInRange values → IsNotAccepted values message (Err error)
-    → Fetches values message start start (Err error)
-ends_at_once {values} message start error range refused =
-    record {
-      end = new_end_log Client values;
-      fetching = begins range;
-      linked = all_in_part (nothing_linked _ _ (new_log values).0 (new_log values).1);
-      so = inr (record { refused = refused; new = refl; same = refl });
-    }
+    → FetchesWhy values message start start (Err error) None
+ends_at_once {values} message start error range refused = (
+  record {
+    end = new_end_log Client values;
+    fetching = begins range;
+    linked = all_in_part (nothing_linked _ _ (new_log values).0 (new_log values).1);
+    so = inr (record { refused = refused; new = refl; same = refl });
+  },
+  (new_log values).2,
+)
 
 open_failed : (log : Log) (list : List Field) (end : Bool) (id : ℕ)
     → (with_call log (Open list end) (Number id)).failed ≡ log.failed
@@ -139,23 +143,32 @@ ends_so {start} {now} fetcher {end} (has_failed code failed is taken) =
 ends_so fetcher (has_stalled is stalled) = rw is stalled
 ends_so fetcher (stops_itself (number, is, dropped)) = rw is dropped
 
+-- Why the connection of a client has failed, whatever has happened there.
+abbrev pub SaysWhy : Fetcher → Option Why → Type 0
+SaysWhy fetcher why =
+    (values : Values) (log : Log) → ConnRepresents values fetcher.client.end.conn log
+    → IsWhy values log why
+
 -- A fetch ends so.
 ended_fetches : {course : Course} {now : Traffic} (fetcher : Fetcher) {end : EndLog}
-    {error : LinkError} → HasEnded true course now (client_held fetcher) end error
-    → Fetches course.values course.message course.start now (Err error)
-ended_fetches fetcher {end} ended =
-    record {
-      end = end;
-      fetching = ended.happened;
-      linked = record { unused = ended.unused; given = ended.given; taken = ended.taken };
-      so = inl (record {
-        id = fetcher.id;
-        accepted = ended.holds.0;
-        sends = ended.represents.streams.sent;
-        unfinished = ended.holds.1;
-        so = ends_so fetcher ended.why;
-      });
-    }
+    {error : LinkError} {why : Option Why}
+    → HasEnded true course now (client_held fetcher) end error → SaysWhy fetcher why
+    → FetchesWhy course.values course.message course.start now (Err error) why
+ended_fetches {course} fetcher {end} ended said = (
+  record {
+    end = end;
+    fetching = ended.happened;
+    linked = record { unused = ended.unused; given = ended.given; taken = ended.taken };
+    so = inl (record {
+      id = fetcher.id;
+      accepted = ended.holds.0;
+      sends = ended.represents.streams.sent;
+      unfinished = ended.holds.1;
+      so = ends_so fetcher ended.why;
+    });
+  },
+  said course.values end.log ended.represents.streams.conn,
+)
 
 -- What is read of a whole response is what was fetched.
 abbrev content_of : {A : Type 0} → A → Option A → A
@@ -186,13 +199,13 @@ module _ {values : Values} {message : SentMessage} (before now : Traffic) {old :
     (new : Fetcher) (range : AreInRange values) (not : old.whole ≡ false)
     (has : HasRequested values message old) where
   -- So a fetch ends early,
-  pub drive_fetches : (error : LinkError)
+  pub drive_fetches : (error : LinkError) (why : Option Why) → SaysWhy new why
       → Drives before now (client_held old) (client_held new) (Err error)
-      → Fetches values message before now (Err error)
+      → FetchesWhy values message before now (Err error) why
   unfolding DrivenSo
-  drive_fetches error drives =
+  drive_fetches error why said drives =
       let so = drives _ has.end (new_driven before range not has) (first_sent has) in
-      ended_fetches new so.1
+      ended_fetches new so.1 said
 
   -- never where its input has ended then;
   pub drive_not_cut : (error : LinkError) (ended : Bool)
@@ -204,52 +217,57 @@ module _ {values : Values} {message : SentMessage} (before now : Traffic) {old :
       not_cut Fetched error ended (goes_for (client_held new).kept so.1.why)
 
   -- or where that has ended before the response was whole;
-  pub drive_cut_off : (whole : Bool) → whole ≡ false
+  pub drive_cut_off : (whole : Bool) (why : Option Why) → SaysWhy new why → whole ≡ false
       → Drives before now (client_held old) (client_held new) (Ok whole)
-      → Fetches values message before now (Err errors.CutOff)
+      → FetchesWhy values message before now (Err errors.CutOff) why
   unfolding DrivenSo Keeps
-  drive_cut_off true ends drives = absurd (cc)
-  drive_cut_off false ends drives =
+  drive_cut_off true why said ends drives = absurd (cc)
+  drive_cut_off false why said ends drives =
       let so = drives _ has.end (new_driven before range not has) (first_sent has) in
       let driven = so.1.0 in
-      let holds = holds_again message (client_held new).kept so.0 errors.CutOff driven.keeps in
-      record {
-        end = so.0;
-        fetching = driven.happened;
-        linked = all_in_part driven.linked;
-        so = inl (record {
-          id = new.id;
-          accepted = holds.0;
-          sends = driven.represents.streams.sent;
-          unfinished = holds.1;
-          so = (driven.up, driven.linked.given, so.1.1, so.1.2, so.1.3);
-        });
-      }
+      let holds = holds_again message (client_held new).kept so.0 errors.CutOff driven.keeps in (
+        record {
+          end = so.0;
+          fetching = driven.happened;
+          linked = all_in_part driven.linked;
+          so = inl (record {
+            id = new.id;
+            accepted = holds.0;
+            sends = driven.represents.streams.sent;
+            unfinished = holds.1;
+            so = (driven.up, driven.linked.given, so.1.1, so.1.2, so.1.3);
+          });
+        },
+        said values so.0.log driven.represents.streams.conn,
+      )
 
   -- or the response is whole.
-  pub drive_whole : (whole : Bool) (result : Result Fetched LinkError) → whole ≡ true
+  pub drive_whole : (whole : Bool) (result : Result Fetched LinkError) (why : Option Why)
+      → SaysWhy new why → whole ≡ true
       → Drives before now (client_held old) (client_held new) (Ok whole)
       → IfOk result (λ fetched. IsFetchedOf new.coming fetched)
       → OnErr result ((new.whole ≡ false) ⊎ (new.coming.head ≡ None))
-      → Fetches values message before now result
+      → FetchesWhy values message before now result why
   unfolding DrivenSo Keeps
-  drive_whole false result said drives of none = absurd (cc)
-  drive_whole true (Ok fetched) said drives of none =
+  drive_whole false result why said ends drives of none = absurd (cc)
+  drive_whole true (Ok fetched) why said ends drives of none =
       let so = drives _ has.end (new_driven before range not has) (first_sent has) in
-      let driven = so.1.1 in
-      record {
-        end = so.0;
-        fetching = driven.happened;
-        linked = all_in_part driven.linked;
-        so = inl (record {
-          id = new.id;
-          accepted = driven.keeps.0;
-          sends = driven.represents.streams.sent;
-          unfinished = tt;
-          so = fetched_as (parts_on new.id so.0.handed) driven.keeps.1 of;
-        });
-      }
-  drive_whole true (Err error) said drives of none =
+      let driven = so.1.1 in (
+        record {
+          end = so.0;
+          fetching = driven.happened;
+          linked = all_in_part driven.linked;
+          so = inl (record {
+            id = new.id;
+            accepted = driven.keeps.0;
+            sends = driven.represents.streams.sent;
+            unfinished = tt;
+            so = fetched_as (parts_on new.id so.0.handed) driven.keeps.1 of;
+          });
+        },
+        said values so.0.log driven.represents.streams.conn,
+      )
+  drive_whole true (Err error) why said ends drives of none =
       let so = drives _ has.end (new_driven before range not has) (first_sent has) in
       let keeps = so.1.1.keeps in
       absurd (not_missing new (parts_on new.id so.0.handed) keeps.1 keeps.2 none)

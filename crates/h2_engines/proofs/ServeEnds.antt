@@ -4,7 +4,11 @@ use Names.{◌≡◌, ℕ, Bool, true, false, List, [], ◌++◌, Some, None, Re
 use Names.{◌∙◌, inl, inr, Appends-nil, Code, InternalError, Server, Values, AreInRange, EndLog}
 use Names.{new_end_log, LinkError, both_ways, Token, tokens_sent, Responder, CutsOffAtEnd, Traffic}
 use Names.{IsLinked, HasTakenAll, HasReturnedAll, HasSentAll, error_with, opened, with_sent}
-use Names.{tokens_given, KeepsNext, FinishedSo, IfErr, OnOk, EndsServing, begins, Serves, SendsAll}
+use Names.{tokens_given, KeepsNext, FinishedSo, IfErr, OnOk, EndsServing, begins, SendsAll, Option}
+use Names.{ConnRepresents, Log}
+use Rattle.h2_conn.specs.declared.why.Why.{Why}
+use Rattle.h2_conn.specs.Why.{IsWhy}
+use Rattle.h2_engines.specs.Serves.{ServesWhy}
 use Names.{EndsServingSo, owed_inactive, Course, IsDriven, EndsFor, lacks_memory, link_fails}
 use Names.{has_stalled, stops_itself, reset_refused, MachineTakesPiece, Drives, Keeps, TakenSo}
 use Names.{DrivenSo, has_failed, ServerFinishes, MayEnd, IsServingAlone}
@@ -91,15 +95,17 @@ new_sent_all values =
     }
 
 pub none_serves : {values : Values} (start : Traffic) {error : LinkError} → AreInRange values
-    → error ≡ errors.Memory → Serves values start start (Err error)
-none_serves {values} start range memory =
-    record {
-      end = new_end_log Server values;
-      responding = begins range;
-      sends = new_sends values;
-      linked = all_in_part (new_links values start);
-      so = rw memory (inl (inl (new_up values)));
-    }
+    → error ≡ errors.Memory → ServesWhy values start start (Err error) None
+none_serves {values} start range memory = (
+  record {
+    end = new_end_log Server values;
+    responding = begins range;
+    sends = new_sends values;
+    linked = all_in_part (new_links values start);
+    so = rw memory (inl (inl (new_up values)));
+  },
+  new_up values,
+)
 
 -- It has failed with a code, and all is written.
 ends_with : (start now : Traffic) (end : EndLog) (code : Code) → end.log.failed ≡ Some code
@@ -166,6 +172,12 @@ finished_so {responder} (Err error) is linked taken returned all so =
       all,
     )
 
+-- Why the connection of a server has failed, whatever has happened there.
+abbrev pub SaysWhy : Responder → Option Why → Type 0
+SaysWhy responder why =
+    (values : Values) (log : Log) → ConnRepresents values responder.server.end.conn log
+    → IsWhy values log why
+
 module _ {values : Values} (before now : Traffic) {old : Responder} (new : Responder)
     (is : IsServingAlone values old (new_end_log Server values)) where
   -- So a connection is served: it is driven,
@@ -177,19 +189,21 @@ module _ {values : Values} (before now : Traffic) {old : Responder} (new : Respo
       (serving_driven is (new_links values before)) (new_sent_all values)
 
   -- and ends early,
-  pub drive_serves : (error : LinkError)
+  pub drive_serves : (error : LinkError) (why : Option Why) → SaysWhy new why
       → Drives before now (server_held old) (server_held new) (Err error)
-      → Serves values before now (Err error)
+      → ServesWhy values before now (Err error) why
   unfolding DrivenSo
-  drive_serves error drives =
-      let so = drives_new (Err error) drives in
-      record {
-        end = so.0;
-        responding = so.1.happened;
-        sends = so.1.represents.streams.sent;
-        linked = record { unused = so.1.unused; given = so.1.given; taken = so.1.taken };
-        so = ends_so new so.1.why;
-      }
+  drive_serves error why said drives =
+      let so = drives_new (Err error) drives in (
+        record {
+          end = so.0;
+          responding = so.1.happened;
+          sends = so.1.represents.streams.sent;
+          linked = record { unused = so.1.unused; given = so.1.given; taken = so.1.taken };
+          so = ends_so new so.1.why;
+        },
+        said values so.0.log so.1.represents.streams.conn,
+      )
 
   -- never where its input has ended then,
   pub drive_not_cut : (error : LinkError) (ended : Bool)
@@ -201,24 +215,27 @@ module _ {values : Values} (before now : Traffic) {old : Responder} (new : Respo
       not_cut ℕ error ended (goes_for (server_held new).kept so.1.why)
 
   -- and one whose input has ended.
-  pub finish_serves : (whole : Bool) (result : Result ℕ LinkError)
-      → Drives before now (server_held old) (server_held new) (Ok whole)
-      → ServerFinishes new.server.end new.answered result → Serves values before now result
+  pub finish_serves : (whole : Bool) (result : Result ℕ LinkError) (why : Option Why)
+      → SaysWhy new why → Drives before now (server_held old) (server_held new) (Ok whole)
+      → ServerFinishes new.server.end new.answered result
+      → ServesWhy values before now result why
   unfolding DrivenSo
-  finish_serves true result drives finishes =
+  finish_serves true result why said drives finishes =
       let so = drives_new (Ok true) drives in
       absurd (never_whole new so.1.1)
-  finish_serves false result drives finishes =
+  finish_serves false result why said drives finishes =
       let so = drives_new (Ok false) drives in
-      let driven = so.1.0 in
-      record {
-        end = so.0;
-        responding = driven.happened;
-        sends = driven.represents.streams.sent;
-        linked = all_in_part driven.linked;
-        so = finished_so result (driven_serving new driven) driven.linked so.1.1 so.1.2
-            so.1.3 (finishes values so.0 driven.represents);
-      }
+      let driven = so.1.0 in (
+        record {
+          end = so.0;
+          responding = driven.happened;
+          sends = driven.represents.streams.sent;
+          linked = all_in_part driven.linked;
+          so = finished_so result (driven_serving new driven) driven.linked so.1.1 so.1.2
+              so.1.3 (finishes values so.0 driven.represents);
+        },
+        said values so.0.log driven.represents.streams.conn,
+      )
 
   -- The input has ended then, and no call of the link has failed.
   pub finish_ended : (whole : Bool)

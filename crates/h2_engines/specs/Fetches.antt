@@ -11,6 +11,8 @@ use Rattle.h2_spec_log.specs.LogCalls.{opened}
 use Rattle.h2_message.specs.Messages.{SentMessage, broken_by_request}
 use Rattle.h2_message.specs.Phases.{ends_message}
 use Rattle.h2_laws_pair.specs.Tokens.{at_once, is_head_alone}
+use Rattle.h2_conn.specs.declared.why.Why.{Why}
+use Rattle.h2_conn.specs.Why.{IsWhy}
 use Rattle.h2_ends.specs.Ends.{EndLog, Passed, said_for, parts_on}
 use Rattle.h2_ends.specs.EndCalls.{refusal_of_message}
 use Rattle.h2_ends.specs.Represents.{new_end_log}
@@ -115,3 +117,10 @@ pub record Fetches (values : Values) (message : SentMessage) (start now : Traffi
   pub fetching : IsFetching values message end
   pub linked : IsLinkedInPart start now end.log
   pub so : EndsFetch start now message end result ⊎ EndsAtOnce values message start now end result
+
+-- The same, and why the connection has failed, if it has, by what has happened at the client.
+-- rule: engines (own) Over a link it is said why the connection has failed
+abbrev pub FetchesWhy : Values → SentMessage → (start now : Traffic) → Result Fetched LinkError
+    → Option Why → Type 0
+FetchesWhy values message start now result why =
+    (fetches : Fetches values message start now result) × IsWhy values fetches.end.log why

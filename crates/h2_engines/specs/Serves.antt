@@ -1,6 +1,8 @@
 -- How a connection that is served over a link ends.
 -- contract: h2_engines::fetch_link
 -- contract: h2_engines::serve_link
+-- contract: h2_engines::fetch_link_why
+-- contract: h2_engines::serve_link_why
 use Rattle.std.specs.Prelude.{◌≡◌, ◌≢◌, ◌⊎◌, ◌≤◌, ◌-◌, ◌^◌, ℕ, true, false, [], length}
 use Rattle.std.specs.Prelude.{Some, None}
 use Rattle.std.specs.Prelude.{Result, Ok, Err}
@@ -15,6 +17,8 @@ use Rattle.h2_spec_log.specs.Limits.{max_resets}
 use Rattle.h2_spec_log.specs.Log.{Log, active, owed, resets_written}
 use Rattle.h2_message.specs.Messages.{SentMessage}
 use Rattle.h2_message.specs.Phases.{ends_message}
+use Rattle.h2_conn.specs.declared.why.Why.{Why}
+use Rattle.h2_conn.specs.Why.{IsWhy}
 use Rattle.h2_ends.specs.declared.refusal.EndRefusal.{EndRefusal}
 use Rattle.h2_ends.specs.declared.refusal.EndRefusal.TheVariants.{Conn}
 use Rattle.h2_ends.specs.Ends.{EndLog, parts_on, tokens_waiting}
@@ -135,3 +139,9 @@ pub record Serves (values : Values) (start now : Traffic) (result : Result ℕ L
     pub sends : SendsAll end
     pub linked : IsLinkedInPart start now end.log
     pub so : EndsServingSo start now end result
+
+-- The same, and why the connection has failed, if it has, by what has happened at the server.
+-- rule: engines (own) Over a link it is said why the connection has failed
+abbrev pub ServesWhy : Values → (start now : Traffic) → Result ℕ LinkError → Option Why → Type 0
+ServesWhy values start now result why =
+    (serves : Serves values start now result) × IsWhy values serves.end.log why

@@ -4,12 +4,12 @@ ghost use Rattle.std.specs.Prelude.{◌≡◌, ◌<◌, ◌-◌, ◌^◌};
 ghost use Rattle.h2_flow.specs.ConfigValues.{values_of};
 ghost use Rattle.h2_message.specs.Values.{message_value};
 ghost use Rattle.h2_engines.specs.Failures.{CutsOffAtEnd, failures_at_end};
-ghost use Rattle.h2_engines.specs.Fetches.{Fetches};
+ghost use Rattle.h2_engines.specs.Fetches.{Fetches, FetchesWhy};
 ghost use Rattle.h2_engines.specs.Linked.{traffic};
 
 use crate::fetcher::{Fetched, Fetcher};
-use crate::machine::drive;
-use h2_ends::{Config, Message};
+use crate::machine::{Machine, drive};
+use h2_ends::{Config, Message, Why};
 use h2_link::{Link, LinkError};
 use std::alloc::Global;
 
@@ -46,8 +46,37 @@ pub fn fetch_link<L: Link>(
     ensures cut_off { CutsOffAtEnd result (L.ended link.new) }
     ensures failures { L.faults link.new ≡ failures_at_end (L.faults link.old) result }
 {
+    let mut why = None;
+    fetch_link_why(alloc, link, config, message, &mut why)
+}
+
+// contract: engines (own) Over a link it is said why the connection has failed
+// rule: engines (own) Over a link it is said why the connection has failed
+/// As [`fetch_link`], and says in `why` why its connection has failed, if it has: the rule that the
+/// server has broken, or what else has ended it.
+///
+/// # Errors
+///
+/// Those of [`fetch_link`].
+pub fn fetch_link_why<L: Link>(
+    alloc: Global,
+    link: &mut L,
+    config: Config,
+    message: Message,
+    why: &mut Option<Why>,
+) -> Result<Fetched, LinkError>
+    requires { L.faults link.old < 2 ^ 64 - 1 }
+    ensures fetches { FetchesWhy (values_of config) (message_value message)
+        (traffic (L.given link.old) (L.taken link.old) (L.stalled link.old))
+        (traffic (L.given link.new) (L.taken link.new) (L.stalled link.new)) result why.new }
+    ensures cut_off { CutsOffAtEnd result (L.ended link.new) }
+    ensures failures { L.faults link.new ≡ failures_at_end (L.faults link.old) result }
+{
+    *why = None;
     let mut fetcher = Fetcher::new(alloc, config, message)?;
-    let is_whole = drive(&mut fetcher, link)?;
+    let driven = drive(&mut fetcher, link);
+    *why = fetcher.conn().why();
+    let is_whole = driven?;
     if is_whole {
         return fetcher.into_fetched();
     }

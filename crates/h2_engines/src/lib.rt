@@ -15,10 +15,10 @@ mod responder;
 mod room;
 mod serve;
 
-pub use fetch::fetch_link;
+pub use fetch::{fetch_link, fetch_link_why};
 pub use fetcher::{Fetched, Fetcher};
-pub use h2_ends::{Config, Field, Message};
+pub use h2_ends::{Config, Field, Message, Why};
 pub use h2_link::{Link, LinkError, LinkFault, MemoryLink};
 pub use machine::write_waiting;
 pub use responder::Responder;
-pub use serve::serve_link;
+pub use serve::{serve_link, serve_link_why};

@@ -4,11 +4,11 @@ ghost use Rattle.std.specs.Prelude.{◌≡◌, ◌<◌, ◌-◌, ◌^◌, IfErr,
 ghost use Rattle.h2_flow.specs.ConfigValues.{values_of};
 ghost use Rattle.h2_engines.specs.Failures.{CutsOffAtEnd, EndsServing, failures_at_end};
 ghost use Rattle.h2_engines.specs.Linked.{traffic};
-ghost use Rattle.h2_engines.specs.Serves.{Serves};
+ghost use Rattle.h2_engines.specs.Serves.{Serves, ServesWhy};
 
-use crate::machine::drive;
+use crate::machine::{Machine, drive};
 use crate::responder::Responder;
-use h2_ends::Config;
+use h2_ends::{Config, Why};
 use h2_link::{Link, LinkError};
 use std::alloc::Global;
 
@@ -44,7 +44,37 @@ pub fn serve_link<L: Link>(alloc: Global, link: &mut L, config: Config) -> Resul
     ensures failures { L.faults link.new ≡ failures_at_end (L.faults link.old) result }
     ensures err { IfErr result EndsServing }
 {
+    let mut why = None;
+    serve_link_why(alloc, link, config, &mut why)
+}
+
+// contract: engines (own) Over a link it is said why the connection has failed
+// rule: engines (own) Over a link it is said why the connection has failed
+/// As [`serve_link`], and says in `why` why its connection has failed, if it has: the rule that the
+/// client has broken, or what else has ended it.
+///
+/// # Errors
+///
+/// Those of [`serve_link`].
+pub fn serve_link_why<L: Link>(
+    alloc: Global,
+    link: &mut L,
+    config: Config,
+    why: &mut Option<Why>,
+) -> Result<u32, LinkError>
+    requires { L.faults link.old < 2 ^ 64 - 1 }
+    ensures serves { ServesWhy (values_of config)
+        (traffic (L.given link.old) (L.taken link.old) (L.stalled link.old))
+        (traffic (L.given link.new) (L.taken link.new) (L.stalled link.new)) result why.new }
+    ensures ended { OnOk result (L.ended link.new ≡ true) }
+    ensures cut_off { CutsOffAtEnd result (L.ended link.new) }
+    ensures failures { L.faults link.new ≡ failures_at_end (L.faults link.old) result }
+    ensures err { IfErr result EndsServing }
+{
+    *why = None;
     let mut responder = Responder::new(alloc, config)?;
-    drive(&mut responder, link)?;
+    let driven = drive(&mut responder, link);
+    *why = responder.conn().why();
+    driven?;
     responder.finish()
 }

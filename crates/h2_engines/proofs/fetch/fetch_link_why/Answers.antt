@@ -5,7 +5,7 @@ use Rattle.h2_engines.proofs.FetchEnds.{drive_whole, fetched_not_cut}
 use Rattle.h2_engines.proofs.MachineDrives.{failures_same}
 use Rattle.h2_engines.proofs.MachineViews.{met, fails_none}
 use Rattle.h2_link.specs.declared.error.LinkError.TheVariants as errors
-use Rattle.h2_engines.proofs.fetch.fetch_link.Goals as goal
+use Rattle.h2_engines.proofs.fetch.fetch_link_why.Goals as goal
 
 pub returns-in_err-fetcher-clause-fetches : goal.returns-in_err-fetcher-clause-fetches
 returns-in_err-fetcher-clause-fetches g c =
@@ -20,7 +20,7 @@ returns-in_err-is_whole g c =
     rw (answer.1, answer.2) (record {
       fetches = drive_fetches _ _ c.drive.new.machine c.args.config.in_range
           c.in_ok-fetcher.ensures.unfinished c.in_ok-fetcher.ensures.ok c.in_err-is_whole.field-0.0
-          c.in_err-is_whole.ensures.drives;
+          _ c.why-2.ensures.why c.in_err-is_whole.ensures.drives;
       cut_off = drive_not_cut _ _ c.drive.new.machine c.args.config.in_range
           c.in_ok-fetcher.ensures.unfinished c.in_ok-fetcher.ensures.ok c.in_err-is_whole.field-0.0
           _ c.in_err-is_whole.ensures.drives;
@@ -33,7 +33,7 @@ returns-then-is_whole g c =
     record {
       fetches = drive_whole _ _ c.drive.new.machine c.args.config.in_range
           c.in_ok-fetcher.ensures.unfinished c.in_ok-fetcher.ensures.ok c.in_ok-is_whole.is_whole
-          c.into_fetched.result c.if-is_whole.true c.in_ok-is_whole.ensures.drives
+          c.into_fetched.result _ c.why-2.ensures.why c.if-is_whole.true c.in_ok-is_whole.ensures.drives
           c.into_fetched.ensures.ok c.into_fetched.ensures.none;
       cut_off = fetched_not_cut c.into_fetched.result _ c.into_fetched.ensures.err;
       failures = c.in_ok-is_whole.ensures.failures ∙ fails_none Fetched _ errors.NoProgress
@@ -43,7 +43,7 @@ returns-then-is_whole g c =
 pub returns-clause-fetches : goal.returns-clause-fetches
 returns-clause-fetches g c =
     drive_cut_off _ _ c.drive.new.machine c.args.config.in_range c.in_ok-fetcher.ensures.unfinished
-    c.in_ok-fetcher.ensures.ok c.in_ok-is_whole.is_whole c.if-is_whole.false
+    c.in_ok-fetcher.ensures.ok c.in_ok-is_whole.is_whole _ c.why-2.ensures.why c.if-is_whole.false
     c.in_ok-is_whole.ensures.drives
 
 pub returns-clause-cut_off : goal.returns-clause-cut_off
