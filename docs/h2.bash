@@ -17,7 +17,7 @@ _h2() {
             'replay '*) words='--hex --as --messages --help' ;;
             'serve '*) words='--help' ;;
             'get -o'|'get --output') words= ;;
-            'get '*) words='--include --header --request --data --fail --port --output --stream --timeout --help' ;;
+            'get '*) words='--include --header --request --data --fail --port --output --stream --timeout --verbose --help' ;;
             'loop '*) words='--each-way --help' ;;
             'host '*) words='--root --address --connections --idle --log --until-closed --help' ;;
         esac

@@ -222,10 +222,15 @@ abbrev pub streaming_app : App
 streaming_app = with_rule (with_rule asking_app (text_option_rule (codes "output") 111))
     (flag_rule (codes "stream"))
 
--- the same with `[--timeout SECONDS]`, from 1 to 65,535
+-- the flag `--verbose`, or `-v`
+abbrev pub verbose_rule : Rule
+verbose_rule = record (flag_rule (codes "verbose")) { short = Some 118 }
+
+-- the same with `[--timeout SECONDS] [-v]`; the seconds are from 1 to 65,535
 -- rule: engines (own) serve, get and loop have their words
 abbrev pub get_app : App
-get_app = with_rule streaming_app (number_option_rule (codes "timeout") 1 65535)
+get_app = with_rule (with_rule streaming_app (number_option_rule (codes "timeout") 1 65535))
+    verbose_rule
 
 -- `loop N [--each-way]`; the number is from 0 to 1,048,576
 -- rule: engines (own) serve, get and loop have their words

@@ -238,6 +238,7 @@ pub record GetWords : Type 0 where
   pub output : Option Text
   pub stream : Bool
   pub timeout : Option ℕ
+  pub verbose : Bool
 
 -- the number that an option's value writes in decimal digits, where it is given
 abbrev pub number_if : Option Text → Option ℕ
@@ -256,6 +257,7 @@ get_words_in rows = record {
   output = first_of (codes "output") rows;
   stream = is_set (one_of (codes "stream") rows);
   timeout = number_if (one_of (codes "timeout") rows);
+  verbose = is_set (one_of (codes "verbose") rows);
 }
 
 -- What the words after `get` ask for, if they have no fault.
@@ -276,6 +278,7 @@ asked_by options = record {
   output = option_map (λ output. output.now) options.output;
   stream = options.stream;
   timeout = options.timeout;
+  verbose = options.verbose;
 }
 
 -- the kinds of error that the words after `get` may have

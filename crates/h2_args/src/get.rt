@@ -5,7 +5,7 @@ ghost use Rattle.std.specs.Prelude.{[], string_bytes, unwrap_or};
 ghost use Rattle.clap.specs.Words.{HasKind, all_of, app_of, found_of, rows_of, rule_of};
 ghost use Rattle.h2_args.specs.Commands.{asking_app, flag_rule, get_app, header_rule, include_rule};
 ghost use Rattle.h2_args.specs.Commands.{number_option_rule, streaming_app, text_option_rule};
-ghost use Rattle.h2_args.specs.Commands.{url_and_print_app};
+ghost use Rattle.h2_args.specs.Commands.{url_and_print_app, verbose_rule};
 ghost use Rattle.h2_args.specs.Words.{asked_by, get_faults, get_words_of};
 
 use crate::options::{CommandText, flag_arg, is_set, named_command};
@@ -37,6 +37,8 @@ pub struct GetOptions<'a> {
     pub stream: bool,
     /// In how many seconds all is to be done, from 1 to 65,535, where it is given.
     pub timeout: Option<u16>,
+    /// Whether the frames of both sides are printed on standard error as they come.
+    pub verbose: bool,
 }
 
 // contract: engines (own) serve, get and loop have their words
@@ -73,6 +75,7 @@ pub fn get_args<'a>(alloc: Global, words: &'a [String]) -> Result<GetOptions<'a>
         output: matches.get_str(OUTPUT),
         stream: is_set(&matches, STREAM),
         timeout: matches.get_one::<u16>(TIMEOUT),
+        verbose: is_set(&matches, VERBOSE),
     })
 }
 
@@ -139,6 +142,12 @@ const TIMEOUT: &str = "timeout";
 
 const TIMEOUT_HELP: &str = r"Give up after so many seconds, 1 to 65535";
 
+const VERBOSE: &str = "verbose";
+
+const VERBOSE_HELP: &str = r"Print the frames of both sides on standard error,
+as show --follow does; the body goes out as with
+--stream";
+
 /// What `get` prints, how it ends, and an example.
 const FETCHED_AND_STATUSES: &str =
     r"It asks for the URL over a new connection, which begins with the preface: the
@@ -149,13 +158,18 @@ aren't printed, nor are trailers without --include. It follows no redirection.
 Without --timeout it waits for a server that stays idle; with it, it gives up so
 many seconds after it began to connect, but while a name is looked up.
 
-Without --output and --stream the body is kept until the response is complete,
-and nothing is printed of one that isn't. With either the body goes out as it
-comes, with both into the file, and little of it is kept: where the response is
-reset or cut off, what came before stands in the file or was printed. A file is
-made, or emptied where it is there, once the response's head has come, and not
-where --fail makes it a failure; then no more of the response is fetched either.
-A FILE of - is a file of that name.
+Without --output, --stream and --verbose the body is kept until the response is
+complete, and nothing is printed of one that isn't. With any of them the body
+goes out as it comes, with --output into the file, and little of it is kept:
+where the response is reset or cut off, what came before stands in the file or
+was printed. A file is made, or emptied where it is there, once the response's
+head has come, and not where --fail makes it a failure; then no more of the
+response is fetched either. A FILE of - is a file of that name.
+
+With --verbose a frame has its line on standard error as it is sent, after `> `,
+or as it has come, after `< `, as h2 show --follow prints it. With --output, and
+without --verbose, a line there says how much of the body has come, where
+standard error is a terminal.
 
 The URL has the scheme http, a host, and a port of 1 to 65535, unless --port
 names one; a user's name is refused, and a fragment is dropped.
@@ -211,6 +225,14 @@ fn text_arg<'a>(
         .short(letter)
         .value_name(value)
         .help(help)
+}
+
+// The flag for the frames of both sides.
+fn verbose_arg<'a>(alloc: Global) -> Arg<'a>
+    ensures rule { rule_of result ≡ verbose_rule }
+    ensures local { result.global ≡ false }
+{
+    flag_arg(alloc, VERBOSE, VERBOSE_HELP).short('v')
 }
 
 // The flag for the fields of the response.
@@ -288,5 +310,7 @@ fn streaming_command<'a>(alloc: Global) -> Result<Command<'a>, AllocError>
 pub(super) fn get_command<'a>(alloc: Global) -> Result<Command<'a>, AllocError>
     ensures { IfOk result (λ command. app_of command ≡ get_app) }
 {
-    streaming_command(alloc)?.arg(number_option(alloc, TIMEOUT, "SECONDS", TIMEOUT_HELP))
+    streaming_command(alloc)?
+        .arg(number_option(alloc, TIMEOUT, "SECONDS", TIMEOUT_HELP))?
+        .arg(verbose_arg(alloc))
 }

@@ -17,6 +17,7 @@ url_alone : get_words_of (codes "http://h:1/a" ∷ []) ≡ Some (record {
   output = None;
   stream = false;
   timeout = None;
+  verbose = false;
 })
 unfolding clap_on_literals
 url_alone = refl
@@ -34,6 +35,7 @@ short_words : get_words_of (codes "-i" ∷ codes "-H" ∷ codes "A: b" ∷ codes
       output = None;
       stream = false;
       timeout = None;
+      verbose = false;
     })
 unfolding clap_on_literals
 short_words = refl
@@ -51,12 +53,13 @@ long_words : get_words_of (codes "--include" ∷ codes "--header=a:b" ∷ codes 
       output = None;
       stream = false;
       timeout = None;
+      verbose = false;
     })
 unfolding clap_on_literals
 long_words = refl
 
 parts_words : get_words_of (codes "-o" ∷ codes "a" ∷ codes "--stream" ∷ codes "--timeout=20"
-    ∷ codes "http://h/" ∷ [])
+    ∷ codes "-v" ∷ codes "http://h/" ∷ [])
     ≡ Some (record {
       url = codes "http://h/";
       include = false;
@@ -68,6 +71,7 @@ parts_words : get_words_of (codes "-o" ∷ codes "a" ∷ codes "--stream" ∷ co
       output = Some (codes "a");
       stream = true;
       timeout = Some 20;
+      verbose = true;
     })
 unfolding clap_on_literals
 parts_words = refl

@@ -31,9 +31,10 @@ unreachable-requires c =
 same_words : {url url_now : Text} {include include_now : Bool} {fields fields_now : List Text}
     {method method_now body body_now : Option Text} {fail fail_now : Bool}
     {port port_now : Option ℕ} {output output_now : Option Text} {stream stream_now : Bool}
-    {timeout timeout_now : Option ℕ} → url ≡ url_now → include ≡ include_now → fields ≡ fields_now
+    {timeout timeout_now : Option ℕ} {verbose verbose_now : Bool} → url ≡ url_now → include ≡ include_now → fields ≡ fields_now
     → method ≡ method_now → body ≡ body_now → fail ≡ fail_now → port ≡ port_now
     → output ≡ output_now → stream ≡ stream_now → timeout ≡ timeout_now
+    → verbose ≡ verbose_now
     → ◌≡◌ {A = GetWords} (record {
       url = url;
       include = include;
@@ -45,6 +46,7 @@ same_words : {url url_now : Text} {include include_now : Bool} {fields fields_no
       output = output;
       stream = stream;
       timeout = timeout;
+      verbose = verbose;
     }) (record {
       url = url_now;
       include = include_now;
@@ -56,8 +58,9 @@ same_words : {url url_now : Text} {include include_now : Bool} {fields fields_no
       output = output_now;
       stream = stream_now;
       timeout = timeout_now;
+      verbose = verbose_now;
     })
-same_words a b c d e f g h k l = λ i. record {
+same_words a b c d e f g h k l m = λ i. record {
   url = a i;
   include = b i;
   fields = c i;
@@ -68,6 +71,7 @@ same_words a b c d e f g h k l = λ i. record {
   output = h i;
   stream = k i;
   timeout = l i;
+  verbose = m i;
 }
 
 -- the port is the number that is given, if one is
@@ -123,7 +127,7 @@ returns-clause-ok c =
     c.in_ok-command.ensures refl refl c.in_ok-matches.ensures.matches
     c.in_ok-matches.ensures.kinds ∙ ap Some (same_words url (sym c.is_set.ensures)
     (sym c.in_ok-fields.ensures) method body (sym c.is_set-2.ensures) (sym given.read) output
-    (sym c.is_set-3.ensures) (sym time.read))
+    (sym c.is_set-3.ensures) (sym time.read) (sym c.is_set-4.ensures))
 
 pub returns-in_err-matches-clause-err : goal.returns-in_err-matches-clause-err
 returns-in_err-matches-clause-err c =
