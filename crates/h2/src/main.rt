@@ -1,6 +1,7 @@
 //! The program `h2`: tools for HTTP/2 over cleartext.
 #![tactic(auto)]
 
+use h2_tool::Terminals;
 use std::io::IsTerminal;
 use std::process::ExitCode;
 use std::{env, io};
@@ -11,7 +12,7 @@ fn main(rt: HostRuntime) -> ExitCode {
             &rt,
             rt.alloc(),
             words.as_slice(),
-            has_colors(&rt),
+            terminals(&rt),
             &mut rt.stdin(),
             &mut rt.stdout(),
             &mut rt.stderr(),
@@ -19,6 +20,14 @@ fn main(rt: HostRuntime) -> ExitCode {
         Err(error) => h2_tool::no_words(&error, &mut rt.stderr()),
     };
     ExitCode::from(status.code())
+}
+
+// What is printed for terminals alone.
+fn terminals(rt: &HostRuntime) -> Terminals {
+    Terminals {
+        colored: has_colors(rt),
+        has_progress: rt.stderr().is_terminal(),
+    }
 }
 
 // Whether `--color auto` has colors: standard output is a terminal, and NO_COLOR isn't set, or is

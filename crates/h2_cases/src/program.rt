@@ -138,7 +138,11 @@ fn run<N: Net + Files + Clock + Copy, R: Read>(
 where
     N::Stream: WriteParts,
 {
-    h2_tool::run(net, alloc, line, true, input, out, err).code()
+    let terminals = Terminals {
+        colored: true,
+        has_progress: false,
+    };
+    h2_tool::run(net, alloc, line, terminals, input, out, err).code()
 }
 
 // Adds what was printed, and a status.

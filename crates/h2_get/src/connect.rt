@@ -3,7 +3,7 @@
 ghost use Rattle.std.specs.Prelude.{◌≡◌, ◌⊎◌, ◌<◌, ◌-◌, ◌^◌, IfErr, IfOk};
 
 use h2_cli::{Hint, hint_at_client, hint_of_connecting, hint_of_device};
-use h2_net::{Ending, LinkError, Location, StreamLink, WriteParts};
+use h2_net::{Ending, LinkError, Location, StreamLink, Why, WriteParts};
 use std::alloc::Global;
 use std::io::Read;
 use std::net::{Net, OpenStream, TcpStream};
@@ -30,29 +30,32 @@ where
     match TcpStream::connect(net, (location.host.as_str(), location.port)) {
         Ok(stream) => match StreamLink::new(alloc, stream) {
             Ok(link) => Ok(link),
-            Err(error) => Err(Ending { error, hint: None }),
+            Err(error) => Err(Ending::from(error)),
         },
         Err(fault) => Err(Ending {
             error: LinkError::Device,
             hint: hint_of_connecting(fault.kind()),
+            why: None,
         }),
     }
 }
 
 // rule: engines (own) A hint after the line names the likely cause of N1 and N2
-/// How a fetch over a link has ended early, with the hint that says what is likely the cause. All
-/// that is held is sent, where the link has not failed.
+/// How a fetch over a link has ended early, with the hint that says what is likely the cause, and
+/// why its connection has failed. All that is held is sent, where the link has not failed.
 pub(crate) fn end_fetch<S: Read + WriteParts + OpenStream>(
     link: &mut StreamLink<S>,
     error: LinkError,
+    why: Option<Why>,
 ) -> Ending
-    ensures { result.error ≡ error }
+    ensures error { result.error ≡ error }
+    ensures why { result.why ≡ why }
 {
     let hint = hint_of(link, error);
     if error != LinkError::Device {
         send_held(link);
     }
-    Ending { error, hint }
+    Ending { error, hint, why }
 }
 
 /// Sends all that a link holds that has not failed: a GOAWAY, or credit. That it can't be sent

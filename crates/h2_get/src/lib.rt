@@ -4,12 +4,14 @@
 //! body, and [`request_of`] makes the request with it, of the fields and the method that the words
 //! give. [`print_asked`] prints
 //! the response, with its fields where the words ask for them, and [`is_failure`] says whether the
-//! words make it a failure. [`stream_location`] fetches a response and prints it as it comes.
+//! words make it a failure. [`stream_location`] fetches a response and prints it as it comes, with
+//! the frames of both sides where the words ask for them.
 //! [`TimedNet`] is a network whose connections end at a deadline.
 #![tactic(auto)]
 
 mod body;
 mod connect;
+mod counted;
 mod pass_error;
 mod port;
 mod receive;

@@ -42,6 +42,8 @@ pub struct StreamEnding {
     pub error: StreamError,
     /// What is likely the cause, where it is known.
     pub hint: Option<Hint>,
+    /// Why the connection has failed, if it has.
+    pub why: Option<Why>,
 }
 
 impl StreamEnding {
@@ -49,19 +51,26 @@ impl StreamEnding {
 
     /// A fetch has ended so.
     pub(crate) fn of_link(ending: Ending) -> StreamEnding
-        ensures { result.error ≡ Link ending.error }
+        ensures error { result.error ≡ Link ending.error }
+        ensures why { result.why ≡ ending.why }
     {
         StreamEnding {
             error: StreamError::Link(ending.error),
             hint: ending.hint,
+            why: ending.why,
         }
     }
 
     /// This error, without a hint.
     pub(crate) fn of_error(error: StreamError) -> StreamEnding
-        ensures { result.error ≡ error }
+        ensures error { result.error ≡ error }
+        ensures why { result.why ≡ None }
     {
-        StreamEnding { error, hint: None }
+        StreamEnding {
+            error,
+            hint: None,
+            why: None,
+        }
     }
 }
 

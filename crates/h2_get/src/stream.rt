@@ -8,6 +8,7 @@ ghost use Rattle.h2_get.specs.Receives.{fields_in_trailers};
 ghost use Rattle.h2_get.specs.Responses.{trailers_shown};
 ghost use Rattle.h2_get.specs.Streams.{PrintsHead, ShowsRest, StreamsResponse};
 
+use crate::counted::{Counted, Progress, length_stated};
 use crate::pass_error::{PassError, StreamError};
 use crate::receive::{next_head, pass_body};
 use crate::response::{is_failure, print_asked, print_trailers};
@@ -19,26 +20,29 @@ use h2_net::Fetched;
 use std::alloc::Global;
 use std::fs::{File, Files};
 use std::io::Write;
+use std::time::Clock;
 
 // contract: engines (own) get -o and --stream write the body as it comes, in order
 // rule: engines (own) get -o and --stream write the body as it comes, in order
 /// Prints the response that a fetch answers as it comes: the line of its status, its fields where
 /// the options ask for them, and the body, which goes into a file where the options name one. The
 /// file is made once the head has come. Where the options make the response a failure, nothing
-/// follows its fields, no file is made, and no more of it is fetched. Answers its head, without the
-/// body.
+/// follows its fields, no file is made, and no more of it is fetched. With `has_progress` a line on
+/// `err` says how much of a body that goes into a file has come. Answers its head, without the body.
 ///
 /// # Errors
 ///
 /// [`StreamError`] says why it is not printed whole. All that came before a fetch has ended early
 /// was printed, or stands in the file.
-pub fn stream_response<F: Files, L: Link, W: Write>(
+pub fn stream_response<F: Files + Clock, L: Link, W: Write, E: Write>(
     files: &F,
     alloc: Global,
     options: &GetOptions<'_>,
     fetch: &mut PartFetch,
     link: &mut L,
+    has_progress: bool,
     out: &mut W,
+    err: &mut E,
 ) -> Result<Fetched, StreamError>
     requires { L.faults link.old < 2 ^ 64 - 1 }
     ensures { StreamsResponse (asked_by options.now)
@@ -56,7 +60,17 @@ pub fn stream_response<F: Files, L: Link, W: Write>(
     if is_failure(options, &fetched) {
         return Ok(fetched);
     }
-    let trailers = show_rest(files, options, end, fetch, link, out)?;
+    let total = match has_progress {
+        true => length_stated(&fetched.head),
+        false => None,
+    };
+    let progress = Progress {
+        is_shown: has_progress,
+        total,
+    };
+    let trailers = show_rest(
+        files, options, end, fetch, link, progress, out, err,
+    )?;
     print_last(options.include, &trailers, out)?;
     Ok(fetched)
 }
@@ -112,13 +126,15 @@ fn print_last<W: Write>(
 // rule: engines (own) get -o and --stream write the body as it comes, in order
 /// Passes the body on into the file that the options name, which is made, or emptied where it is
 /// there, or else to what is printed, and answers the trailers.
-fn show_rest<F: Files, L: Link, W: Write>(
+fn show_rest<F: Files + Clock, L: Link, W: Write, E: Write>(
     files: &F,
     options: &GetOptions<'_>,
     is_whole: bool,
     fetch: &mut PartFetch,
     link: &mut L,
+    progress: Progress,
     out: &mut W,
+    err: &mut E,
 ) -> Result<Option<Vec<Field>>, StreamError>
     requires { L.faults link.old < 2 ^ 64 - 1 }
     ensures rest { ShowsRest (is_some (asked_by options.now).output) is_whole
@@ -137,13 +153,16 @@ fn show_rest<F: Files, L: Link, W: Write>(
             Err(PassError::Output) => Err(StreamError::Output),
         };
     };
-    let Ok(mut file) = File::create(files, path) else {
+    let Ok(file) = File::create(files, path) else {
         return Err(StreamError::File);
     };
     if is_whole {
         return Ok(None);
     }
-    match pass_body(fetch, link, &mut file) {
+    let mut counted = Counted::new(file, files, progress, err);
+    let passed = pass_body(fetch, link, &mut counted);
+    counted.end();
+    match passed {
         Ok(trailers) => Ok(trailers),
         Err(PassError::Link(error)) => Err(StreamError::Link(error)),
         Err(PassError::Output) => Err(StreamError::File),

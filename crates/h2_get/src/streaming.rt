@@ -1,6 +1,10 @@
 //! A location that is fetched and printed as it comes.
 
-ghost use Rattle.std.specs.Prelude.{◌≡◌, Err, IfErr, IfOk};
+ghost use Rattle.std.specs.Prelude.{◌≡◌, ◌⊎◌, Err, IfErr, IfOk, None};
+ghost use Rattle.h2_spec_log.specs.Acts.{Values};
+ghost use Rattle.h2_spec_log.specs.Log.{Log};
+ghost use Rattle.h2_conn.specs.Conn.{ConnRepresents};
+ghost use Rattle.h2_conn.specs.Why.{IsWhy};
 ghost use Rattle.h2_message.specs.Values.{message_value};
 ghost use Rattle.h2_engines.specs.Fetches.{IsNotAccepted};
 ghost use Rattle.h2_fetch.specs.Comings.{BeginsFetch};
@@ -15,29 +19,35 @@ use h2_args::GetOptions;
 use h2_engines::{Config, Message};
 use h2_fetch::PartFetch;
 use h2_net::{Fetched, LinkError, Location, StreamLink, WriteParts};
+use h2_watch::WatchedLink;
 use std::alloc::Global;
 use std::fs::Files;
-use std::io::{Read, Write};
+use std::io::{self, Read, Write};
 use std::net::{Net, OpenStream};
+use std::time::Clock;
 
 // contract: engines (own) get -o and --stream write the body as it comes, in order
 // rule: engines (own) get -o and --stream write the body as it comes, in order
+// rule: engines (own) get -v shows the frames of both sides as they come
 /// Makes a request over a new connection to the host and the port of a location, and prints its
-/// response as [`stream_response`] does.
+/// response as [`stream_response`] does; and on `err` the frames of both sides, where the options
+/// ask for them.
 ///
 /// # Errors
 ///
 /// [`StreamError::Link`] also where no connection can be made (N1), and where the request's fields
 /// are too many (N7); else as [`stream_response`]. The hint says what is likely the cause of
 /// [`h2_net::LinkError::Device`] (N1) and [`h2_net::LinkError::Stream`] (N2).
-pub fn stream_location<N: Net, F: Files, W: Write>(
+pub fn stream_location<N: Net, F: Files + Clock, W: Write, E: Write>(
     net: &N,
     files: &F,
     alloc: Global,
     options: &GetOptions<'_>,
     location: &Location,
     message: Message,
+    has_progress: bool,
     out: &mut W,
+    err: &mut E,
 ) -> Result<Fetched, StreamEnding>
 where
     N::Stream: WriteParts,
@@ -52,7 +62,9 @@ where
         Ok(fetch) => fetch,
         Err(error) => return Err(StreamEnding::of_error(StreamError::Link(error))),
     };
-    stream_with_hint(files, alloc, options, &mut fetch, &mut link, out)
+    stream_with_hint(
+        files, alloc, options, &mut fetch, &mut link, has_progress, out, err,
+    )
 }
 
 /// A fetch with a client of the default values.
@@ -65,25 +77,64 @@ fn begin_fetch(alloc: Global, message: Message) -> Result<PartFetch, LinkError>
 }
 
 /// Prints the response that a fetch answers as it comes, and sends all that is held for it. Where
-/// that ends early the hint says what is likely the cause.
-fn stream_with_hint<F: Files, S: Read + WriteParts + OpenStream, W: Write>(
+/// that ends early the hint says what is likely the cause, and then why the connection has failed.
+fn stream_with_hint<F: Files + Clock, S: Read + WriteParts + OpenStream, W: Write, E: Write>(
     files: &F,
     alloc: Global,
     options: &GetOptions<'_>,
     fetch: &mut PartFetch,
     link: &mut StreamLink<S>,
+    has_progress: bool,
     out: &mut W,
+    err: &mut E,
 ) -> Result<Fetched, StreamEnding>
     requires { link.old.failures ≡ 0 }
-    ensures { StreamsOver (asked_by options.now) fetch.old fetch.new (W.contents out.old)
+    ensures streams { StreamsOver (asked_by options.now) fetch.old fetch.new (W.contents out.old)
         (W.contents out.new) (without_stream_hint result) }
+    ensures why { IfErr result (λ ending. (ending.why ≡ None) ⊎ ((values : Values) (log : Log)
+        → ConnRepresents values fetch.new.client.end.conn log → IsWhy values log ending.why)) }
 {
-    match stream_response(files, alloc, options, fetch, link, out) {
+    let got = stream_over(
+        files, alloc, options, fetch, link, has_progress, out, err,
+    );
+    match got {
         Ok(fetched) => {
             send_held(link);
             Ok(fetched)
         }
-        Err(StreamError::Link(error)) => Err(StreamEnding::of_link(end_fetch(link, error))),
+        Err(StreamError::Link(error)) => {
+            let why = fetch.conn().why();
+            Err(StreamEnding::of_link(end_fetch(link, error, why)))
+        }
         Err(error) => Err(StreamEnding::of_error(error)),
     }
+}
+
+// rule: engines (own) get -v shows the frames of both sides as they come
+/// Prints the response that a fetch answers as it comes; and on `err` the frames of both sides,
+/// where the options ask for them, or else how much of the body has come, where that is said.
+fn stream_over<F: Files + Clock, S: Read + WriteParts + OpenStream, W: Write, E: Write>(
+    files: &F,
+    alloc: Global,
+    options: &GetOptions<'_>,
+    fetch: &mut PartFetch,
+    link: &mut StreamLink<S>,
+    has_progress: bool,
+    out: &mut W,
+    err: &mut E,
+) -> Result<Fetched, StreamError>
+    requires { link.old.failures ≡ 0 }
+    ensures { StreamsOver (asked_by options.now) fetch.old fetch.new (W.contents out.old)
+        (W.contents out.new) result }
+{
+    if !options.verbose {
+        return stream_response(
+            files, alloc, options, fetch, link, has_progress, out, err,
+        );
+    }
+    let mut watched = WatchedLink::new(alloc, link, err);
+    let mut unused = io::sink();
+    stream_response(
+        files, alloc, options, fetch, &mut watched, false, out, &mut unused,
+    )
 }

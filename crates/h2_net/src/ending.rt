@@ -4,8 +4,8 @@ ghost use Rattle.std.specs.Prelude.{◌≡◌, None};
 ghost use Rattle.h2_net.specs.Endings.{IsClientHint, IsServerHint, link_hint, status_with};
 
 use h2_cli::{Hint, Status, hint_at_client, hint_at_server, hint_of_device, write_hint};
-use h2_engines::LinkError;
-use std::io::{ErrorKind, Write};
+use h2_engines::{LinkError, Why};
+use std::io::{self, ErrorKind, Write};
 
 /// How a connection has ended early, and what is likely the cause.
 #[derive(Clone, Copy, Debug, PartialEq, Eq)]
@@ -14,14 +14,20 @@ pub struct Ending {
     pub error: LinkError,
     /// What is likely the cause, where it is known.
     pub hint: Option<Hint>,
+    /// Why the connection has failed, if it has.
+    pub why: Option<Why>,
 }
 
 impl From<LinkError> for Ending {
-    ghost from_gives = { λ error ending. ending ≡ record { error = error; hint = None } };
+    ghost from_gives = { λ error ending. ending ≡ record { error = error; hint = None; why = None } };
 
     /// An end without a hint.
     fn from(error: LinkError) -> Ending {
-        Ending { error, hint: None }
+        Ending {
+            error,
+            hint: None,
+            why: None,
+        }
     }
 }
 
@@ -43,14 +49,27 @@ pub fn status_of(error: LinkError) -> Status
 }
 
 // rule: engines (own) N1 to N7 end a command with their statuses
-/// Prints on standard error how a connection has ended, and then the hint, and answers the status.
+// rule (tested): engines (own) A hint says why a connection over a socket has failed
+/// Prints on standard error how a connection has ended, then the hint, and then why it has failed,
+/// where that is known of [`LinkError::Stream`] (N2) and the peer speaks HTTP/2. Answers the status.
 pub fn report<E: Write>(ending: Ending, err: &mut E) -> Status
     ensures { result ≡ status_with ending.error }
 {
     // There is no place left to report that these writes fail.
     let _ = writeln!(err, "{}", ending.error);
     let _ = write_hint(ending.hint, err);
+    let _ = write_why(ending, err);
     status_of(ending.error)
+}
+
+// rule (tested): engines (own) A hint says why a connection over a socket has failed
+// Writes why a connection has failed, where its line is N2 and no other protocol is the cause.
+fn write_why<E: Write>(ending: Ending, err: &mut E) -> io::Result<()> {
+    match (ending.error, ending.hint, ending.why) {
+        (_, Some(Hint::Http1Server | Hint::Http1Client), _) => Ok(()),
+        (LinkError::Stream(_), _, Some(why)) => writeln!(err, "hint: {why}"),
+        _ => Ok(()),
+    }
 }
 
 // rule: engines (own) A hint after the line names the likely cause of N1 and N2

@@ -1,7 +1,7 @@
 //! Fetching the response to a GET.
 
 ghost use Rattle.std.specs.Prelude.{◌≡◌, ◌<◌, ◌-◌, ◌^◌, IfOk, OnOk, option_map, nat_lt};
-ghost use Rattle.std.specs.Prelude.{◌&&◌, ◌⊎◌, None, [], if◌then◌else◌, IfErr, List, Option, ℕ};
+ghost use Rattle.std.specs.Prelude.{◌&&◌, ◌⊎◌, None, [], if◌then◌else◌, Err, IfErr, List, Option, ℕ};
 ghost use Rattle.std.specs.Prelude.{string_bytes};
 ghost use Rattle.std.specs.Io.KnownBytes.{Appends};
 ghost use Rattle.std.specs.declared.io.ErrorKind.{ErrorKind};
@@ -9,10 +9,11 @@ ghost use Rattle.http.specs.StatusCode.{reason_phrase};
 ghost use Rattle.h2_message.specs.Fields.{status_of};
 ghost use Rattle.h2_message.specs.Values.{message_value};
 ghost use Rattle.h2_engines.specs.Failures.{failures_at_end};
-ghost use Rattle.h2_engines.specs.Linked.{traffic};
+ghost use Rattle.h2_engines.specs.Fetches.{FetchesWhy};
+ghost use Rattle.h2_engines.specs.Linked.{Traffic, traffic};
 ghost use Rattle.h2_net.specs.Endings.{HasClientHint, IsClientHint, without_hint};
 ghost use Rattle.h2_net.specs.Fetching.{FetchesLocation, FetchesRequest, GetsLocation, get_request};
-ghost use Rattle.h2_net.specs.Fetching.{pseudo_fields_to};
+ghost use Rattle.h2_net.specs.Fetching.{default_values, pseudo_fields_to};
 ghost use Rattle.h2_net.specs.Printing.{IsPhraseOf, PrintsResponse, status_line};
 
 use crate::ending::{Ending, client_hint};
@@ -20,7 +21,7 @@ use crate::location::Location;
 use crate::parts::WriteParts;
 use crate::stream_link::StreamLink;
 use h2_cli::hint_of_connecting;
-use h2_engines::{Config, Fetched, Field, Link, LinkError, Message, fetch_link};
+use h2_engines::{Config, Fetched, Field, Link, LinkError, Message, fetch_link, fetch_link_why};
 use http::StatusCode;
 use std::alloc::{AllocError, Global};
 use std::io::{self, Read, Write};
@@ -44,6 +45,7 @@ where
         return Err(Ending {
             error: LinkError::Memory,
             hint: None,
+            why: None,
         });
     };
     fetch_location(net, alloc, location, message)
@@ -75,6 +77,7 @@ where
             return Err(Ending {
                 error: LinkError::Device,
                 hint: hint_of_connecting(fault.kind()),
+                why: None,
             });
         }
     };
@@ -103,8 +106,12 @@ fn fetch_with_hint<S: Read + WriteParts + OpenStream>(
     ensures sent { (link.new.held.items ≡ []) ⊎ (link.old.failures < link.new.failures) }
     ensures hint { IfErr result (λ ending. (last_error : Option ErrorKind)
         × IsClientHint ending.error link.new.first.items last_error ending.hint) }
+    ensures why { IfErr result (λ ending. (start now : Traffic)
+        × FetchesWhy default_values (message_value message) start now (Err ending.error)
+        ending.why) }
 {
-    let fetched = fetch_link(alloc, link, Config::default(), message);
+    let mut why = None;
+    let fetched = fetch_link_why(alloc, link, Config::default(), message, &mut why);
     let last_error = link.last_error();
     // A GOAWAY may be held. That it can't be sent changes nothing of what was fetched.
     let _ = link.flush();
@@ -113,6 +120,7 @@ fn fetch_with_hint<S: Read + WriteParts + OpenStream>(
         Err(error) => Err(Ending {
             error,
             hint: client_hint(error, link.first_octets(), last_error),
+            why,
         }),
     }
 }

@@ -24,7 +24,7 @@ pub use get::{
     write_status,
 };
 pub use h2_cli::Hint;
-pub use h2_engines::{Fetched, LinkError};
+pub use h2_engines::{Fetched, LinkError, Why};
 pub use location::{Location, TargetFault, target};
 pub use loopback::{exchange, print_exchange};
 pub use parts::WriteParts;

@@ -1,10 +1,10 @@
 //! Serving connections to a port.
 
-ghost use Rattle.std.specs.Prelude.{◌≡◌, ℕ, Result as Outcome, OnOk, IfErr, None, true};
+ghost use Rattle.std.specs.Prelude.{◌≡◌, ℕ, Option, Result as Outcome, OnOk, IfErr, None, true};
 ghost use Rattle.h2_link.specs.declared.error.LinkError.{LinkError as Reason};
 ghost use Rattle.h2_engines.specs.Failures.{EndsServing};
 ghost use Rattle.h2_engines.specs.Linked.{traffic};
-ghost use Rattle.h2_engines.specs.Serves.{Serves};
+ghost use Rattle.h2_engines.specs.Serves.{ServesWhy};
 ghost use Rattle.h2_net.specs.Endings.{DrainsAfter, EndsStream, FailsByLink, IsServerHint};
 ghost use Rattle.h2_net.specs.Endings.{IsServingStatus, without_hint};
 ghost use Rattle.h2_net.specs.Fetching.{default_values};
@@ -14,13 +14,13 @@ use crate::ending::{Ending, report, server_hint};
 use crate::parts::WriteParts;
 use crate::stream_link::StreamLink;
 use h2_cli::{Status, hint_of_device};
-use h2_engines::{Config, LinkError, serve_link};
+use h2_engines::{Config, LinkError, Why, serve_link_why};
 use std::alloc::Global;
 use std::io::{Read, Write};
 use std::net::{Ipv4Addr, Net, OpenListener, OpenStream, SocketAddr, TcpListener};
 
 // rule: engines (own) h2 serve serves so many connections, one after another
-/// Serves so many connections to a port of 127.0.0.1, one after another, as [`serve_link`] does
+/// Serves so many connections to a port of 127.0.0.1, one after another, as [`h2_engines::serve_link`] does
 /// with the default [`Config`], and answers the status of the first that ended early, or
 /// [`Status::Good`].
 ///
@@ -44,7 +44,8 @@ where
         Err(fault) => {
             let hint = hint_of_device(fault.kind());
             let error = LinkError::Device;
-            report(Ending { error, hint }, err)
+            let why = None;
+            report(Ending { error, hint, why }, err)
         }
     }
 }
@@ -88,6 +89,7 @@ where
             return Err(Ending {
                 error: LinkError::Device,
                 hint: hint_of_device(fault.kind()),
+                why: None,
             });
         }
     };
@@ -103,8 +105,9 @@ fn serve_with_hint<S: Read + WriteParts + OpenStream>(
 ) -> Result<(), Ending>
     requires { link.old.failures ≡ 0 }
     ensures serves { (served : Outcome ℕ Reason) × EndsStream served (without_hint result)
-        × Serves default_values (traffic None None link.old.stalled)
-        (traffic None None link.new.stalled) served }
+        × ((why : Option Why) × ServesWhy default_values (traffic None None link.old.stalled)
+        (traffic None None link.new.stalled) served why
+        × IfErr result (λ ending. ending.why ≡ why)) }
     ensures ended { OnOk result (link.new.ended ≡ true) }
     ensures failures { FailsByLink link.old.failures link.new.failures (without_hint result) }
     ensures drained { DrainsAfter (without_hint result) link.new.drained }
@@ -112,11 +115,13 @@ fn serve_with_hint<S: Read + WriteParts + OpenStream>(
     ensures hint { IfErr result (λ ending. IsServerHint ending.error link.new.first.items
         link.new.last_error ending.hint) }
 {
-    match serve_stream(alloc, link) {
+    let mut why = None;
+    match serve_stream(alloc, link, &mut why) {
         Ok(()) => Ok(()),
         Err(error) => Err(Ending {
             error,
             hint: server_hint(error, link.first_octets(), link.last_error()),
+            why,
         }),
     }
 }
@@ -124,21 +129,23 @@ fn serve_with_hint<S: Read + WriteParts + OpenStream>(
 // contract: engines (own) After N2 and N3 input is dropped up to 16 MiB
 // rule: engines (own) After N2 and N3 input is dropped up to 16 MiB
 /// Serves one connection, and sends all that is held for it. After [`LinkError::Stream`] (N2) and
-/// [`LinkError::Memory`] (N3) the peer has the time to read the GOAWAY.
+/// [`LinkError::Memory`] (N3) the peer has the time to read the GOAWAY. `why` says why the
+/// connection has failed, if it has.
 fn serve_stream<S: Read + WriteParts + OpenStream>(
     alloc: Global,
     link: &mut StreamLink<S>,
+    why: &mut Option<Why>,
 ) -> Result<(), LinkError>
     requires { link.old.failures ≡ 0 }
     ensures serves { (served : Outcome ℕ Reason) × EndsStream served result
-        × Serves default_values (traffic None None link.old.stalled)
-        (traffic None None link.new.stalled) served }
+        × ServesWhy default_values (traffic None None link.old.stalled)
+        (traffic None None link.new.stalled) served why.new }
     ensures ended { OnOk result (link.new.ended ≡ true) }
     ensures failures { FailsByLink link.old.failures link.new.failures result }
     ensures drained { DrainsAfter result link.new.drained }
     ensures err { IfErr result EndsServing }
 {
-    let served = serve_link(alloc, link, Config::default());
+    let served = serve_link_why(alloc, link, Config::default(), why);
     if link.flush().is_err() {
         return Err(LinkError::Device);
     }

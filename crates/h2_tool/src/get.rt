@@ -34,7 +34,8 @@ use std::time::Clock;
 /// Runs `h2 get` with the words after `get`: fetches a URL with the request that the words ask for,
 /// whose body a file or `input` gives where they say so, and prints the status with its phrase, the
 /// fields where the words ask for them, and the body; as it comes, or into a file, where they ask for
-/// that. A fetch that fails, or isn't done in the time that they give, has a line on standard error,
+/// that. With `has_progress` a line on standard error says how much of a file has come; with
+/// `--verbose` the frames of both sides stand there. A fetch that fails, or isn't done in the time that they give, has a line on standard error,
 /// and a hint where the cause is known.
 ///
 /// The status is [`Status::Good`] for a response that has come, whatever its own status is, and for
@@ -45,6 +46,7 @@ pub fn cmd_get<N: Net + Files + Clock + Copy, R: Read, W: Write, E: Write>(
     net: &N,
     alloc: Global,
     words: &[String],
+    has_progress: bool,
     input: &mut R,
     out: &mut W,
     err: &mut E,
@@ -72,19 +74,33 @@ where
         Ok(message) => message,
         Err(fault) => return refuse_request(fault, err),
     };
-    match options.timeout {
-        None => ask(
-            net, net, alloc, &options, &location, message, None, out, err,
-        ),
-        Some(seconds) => {
-            let deadline = Deadline::in_seconds(net, seconds);
-            let timed = TimedNet::new(*net, deadline);
-            let limit = Some(deadline);
-            ask(
-                &timed, net, alloc, &options, &location, message, limit, out, err,
-            )
-        }
-    }
+    let Some(seconds) = options.timeout else {
+        let limits = Limits {
+            deadline: None,
+            has_progress,
+        };
+        return ask(
+            net, net, alloc, &options, &location, message, limits, out, err,
+        );
+    };
+    let deadline = Deadline::in_seconds(net, seconds);
+    let timed = TimedNet::new(*net, deadline);
+    let limits = Limits {
+        deadline: Some(deadline),
+        has_progress,
+    };
+    ask(
+        &timed, net, alloc, &options, &location, message, limits, out, err,
+    )
+}
+
+// What is said of a fetch beside its options.
+#[derive(Clone, Copy, Debug)]
+struct Limits {
+    // When it is to be over, if that is given.
+    deadline: Option<Deadline>,
+    // Whether it is said how much of a file has come.
+    has_progress: bool,
 }
 
 // rule: engines (own) The words of get make its request and say what is printed
@@ -98,7 +114,7 @@ fn ask<N: Net, F: Files + Clock, W: Write, E: Write>(
     options: &GetOptions<'_>,
     location: &Location,
     message: Message,
-    limit: Option<Deadline>,
+    limits: Limits,
     out: &mut W,
     err: &mut E,
 ) -> Status
@@ -108,11 +124,14 @@ where
         (W.contents out.new) result }
 {
     if is_in_parts(options) {
-        let got = stream_location(net, files, alloc, options, location, message, out);
-        return end_stream(options, got, is_over(files, limit), err);
+        let progress = limits.has_progress;
+        let got = stream_location(
+            net, files, alloc, options, location, message, progress, out, err,
+        );
+        return end_stream(options, got, is_over(files, limits.deadline), err);
     }
     let got = fetch_location(net, alloc, location, message);
-    let is_late = is_over(files, limit);
+    let is_late = is_over(files, limits.deadline);
     end_get(options, got, is_late, out, err)
 }
 
@@ -129,7 +148,7 @@ fn is_over<C: Clock>(clock: &C, limit: Option<Deadline>) -> bool {
 fn is_in_parts(options: &GetOptions<'_>) -> bool
     ensures { result ≡ is_in_parts (asked_by options.now) }
 {
-    options.stream || options.output.is_some()
+    options.stream || options.verbose || options.output.is_some()
 }
 
 // rule: engines (own) N1 to N7 end a command with their statuses
@@ -158,12 +177,12 @@ fn end_get<W: Write, E: Write>(
 fn report_fetch<E: Write>(ending: Ending, is_late: bool, err: &mut E) -> Status
     ensures { result ≡ status_with ending.error }
 {
-    let Ending { error, hint } = ending;
+    let Ending { error, hint, why } = ending;
     let hint = match error {
         LinkError::Device if is_late => None,
         _ => hint,
     };
-    let status = report(Ending { error, hint }, err);
+    let status = report(Ending { error, hint, why }, err);
     // The status is that of the error, whether or not these writes fail.
     let _ = match error {
         LinkError::Device if is_late => writeln!(err, "hint: timed out"),
@@ -186,7 +205,7 @@ fn end_fetched<W: Write, E: Write>(
         (W.contents out.new) result }
 {
     if let Err(error) = print_asked(options, fetched, out) {
-        return report(Ending { error, hint: None }, err);
+        return report(Ending::from(error), err);
     }
     end_response(options, fetched, err)
 }
@@ -219,9 +238,9 @@ fn end_unstreamed<E: Write>(
 ) -> Status
     ensures { EndsWithStream (asked_by options.now) (Err ending.error) result }
 {
-    let hint = ending.hint;
-    match ending.error {
-        StreamError::Link(error) => report_fetch(Ending { error, hint }, is_late, err),
+    let StreamEnding { error, hint, why } = ending;
+    match error {
+        StreamError::Link(error) => report_fetch(Ending { error, hint, why }, is_late, err),
         StreamError::Output => give_up(Failure::Device, err),
         StreamError::File => refuse_file(options.output.unwrap_or(""), err),
     }

@@ -18,7 +18,7 @@ mod sockets;
 
 pub use get::cmd_get;
 pub use host::cmd_host;
-pub use program::{no_words, run};
+pub use program::{Terminals, no_words, run};
 pub use replay::cmd_replay;
 pub use show::cmd_show;
 pub use sockets::{cmd_loop, cmd_serve};

@@ -24,19 +24,27 @@ use std::io::{self, Read, Write};
 use std::net::Net;
 use std::time::Clock;
 
+/// What is printed for terminals alone.
+#[derive(Clone, Copy, Debug, PartialEq, Eq)]
+pub struct Terminals {
+    /// Whether `--color auto` has colors: standard output is a terminal that is to have them.
+    pub colored: bool,
+    /// Whether `get -o` says how much has come: standard error is a terminal.
+    pub has_progress: bool,
+}
+
 // rule: show (own) The words choose the end and hexadecimal
 // contract: replay (own) The status is 0 only where an end took the whole input
 // contract: replay (own) The words of replay choose the end and hexadecimal
 /// Runs the program with the words after its name, and returns its exit status: that of the
 /// command, or for words without one [`Status::Good`] where they ask for help or the version and
 /// [`Status::Usage`] where they are wrong. Sockets and files are opened by `net` alone, and the
-/// clock is its. `colored` says whether `--color auto` has colors: whether the output is a terminal
-/// that is to have them.
+/// clock is its. `terminals` says what is printed for terminals alone.
 pub fn run<N: Net + Files + Clock + Copy, R: Read, W: Write, E: Write>(
     net: &N,
     alloc: Global,
     words: &[String],
-    colored: bool,
+    terminals: Terminals,
     input: &mut R,
     out: &mut W,
     err: &mut E,
@@ -44,7 +52,7 @@ pub fn run<N: Net + Files + Clock + Copy, R: Read, W: Write, E: Write>(
 where
     N::Stream: WriteParts,
     ensures show { (others : List (List ℕ)) → map string_bytes words.now ≡ codes "show" ∷ others
-        → EndsShow colored others (R.remaining input.old) (R.remaining input.new) (W.contents out.old)
+        → EndsShow terminals.colored others (R.remaining input.old) (R.remaining input.new) (W.contents out.old)
         (W.contents out.new) result }
     ensures replay { (others : List (List ℕ)) → map string_bytes words.now ≡ codes "replay" ∷ others
         → EndsReplay others (R.remaining input.old) (R.remaining input.new) (W.contents out.old)
@@ -65,10 +73,13 @@ where
 {
     if let Some((name, others)) = words.split_first() {
         match name.as_str() {
-            "show" => return cmd_show(net, alloc, others, colored, input, out, err),
+            "show" => return cmd_show(net, alloc, others, terminals.colored, input, out, err),
             "replay" => return cmd_replay(alloc, others, input, out, err),
             "serve" => return cmd_serve(net, alloc, others, out, err),
-            "get" => return cmd_get(net, alloc, others, input, out, err),
+            "get" => {
+                let has_progress = terminals.has_progress;
+                return cmd_get(net, alloc, others, has_progress, input, out, err);
+            }
             "loop" => return cmd_loop(net, alloc, others, out, err),
             "host" => return cmd_host(net, alloc, others, out, err),
             _ => {}

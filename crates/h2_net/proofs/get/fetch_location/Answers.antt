@@ -15,7 +15,7 @@ no_link_fetches message error (inl device) = inl (ap Err device)
 no_link_fetches message error (inr memory) = inr (inl (ap Err memory))
 
 no_link_hints : (error : LinkError) → (error ≡ errors.Device) ⊎ (error ≡ errors.Memory)
-    → HasClientHint (record { error = error; hint = None })
+    → HasClientHint (record { error = error; hint = None; why = None })
 no_link_hints error (inl device) = rw device (inl ([], None, refl))
 no_link_hints error (inr memory) = rw memory (inl ([], None, refl))
 

@@ -1,0 +1,108 @@
+//! A file that is written, of which a terminal is told how much it has.
+
+use h2_message::Field;
+use std::io::{self, Write};
+use std::time::{Clock, Duration};
+
+/// Whether it is said how much of a body has come, and of how many octets.
+#[derive(Clone, Copy, Debug)]
+pub(crate) struct Progress {
+    /// Whether it is said.
+    pub(crate) is_shown: bool,
+    /// How many octets are to come, where the response's head states that.
+    pub(crate) total: Option<u64>,
+}
+
+/// How many octets a head states (RFC 9110, section 8.6), if it does.
+pub(crate) fn length_stated(head: &[Field]) -> Option<u64> {
+    for field in head {
+        if field.name.as_slice() == b"content-length".as_slice() {
+            return match std::str::from_utf8(&field.value) {
+                Ok(digits) => digits.parse::<u64>().ok(),
+                Err(_) => None,
+            };
+        }
+    }
+    None
+}
+
+/// How long is waited at least before it is told again.
+const PAUSE: Duration = Duration::from_millis(100);
+
+/// A writer whose octets are counted, and told as a line that is written over and over.
+#[derive(Drop)]
+pub(crate) struct Counted<'a, S, C, E> {
+    file: S,
+    clock: &'a C,
+    out: &'a mut E,
+    progress: Progress,
+    /// How many octets were written.
+    count: u64,
+    /// When it is told again.
+    next: Duration,
+}
+
+impl<'a, S: Write, C: Clock, E: Write> Counted<'a, S, C, E> {
+    /// A writer of which nothing was told.
+    pub(crate) fn new(
+        file: S,
+        clock: &'a C,
+        progress: Progress,
+        out: &'a mut E,
+    ) -> Counted<'a, S, C, E> {
+        Counted {
+            file,
+            clock,
+            out,
+            progress,
+            count: 0,
+            next: Duration::ZERO,
+        }
+    }
+
+    // rule (tested): engines (own) On a terminal get -o says how much of the body has come
+    /// Notes octets that were written, and tells how many they are, some ten times a second.
+    fn note(&mut self, count: usize) {
+        self.count = self.count.saturating_add(count as u64);
+        if !self.progress.is_shown {
+            return;
+        }
+        if let Ok(now) = self.clock.monotonic() {
+            if now >= self.next {
+                self.next = now.saturating_add(PAUSE);
+                self.tell();
+            }
+        }
+    }
+
+    /// Writes the line over that of the last time. Whether that works changes nothing else.
+    fn tell(&mut self) {
+        let count = self.count;
+        let _ = match self.progress.total {
+            Some(total) => write!(self.out, "\r{count} of {total} octets"),
+            None => write!(self.out, "\r{count} octets"),
+        };
+    }
+
+    /// Tells it once more, and ends the line.
+    pub(crate) fn end(&mut self) {
+        if self.progress.is_shown {
+            self.tell();
+            let _ = writeln!(self.out);
+        }
+    }
+}
+
+impl<S: Write, C: Clock, E: Write> Write for Counted<'_, S, C, E> {
+    ghost contents = { λ counted. S.contents counted.file };
+
+    fn write(&mut self, octets: &[u8]) -> io::Result<usize> {
+        let count = self.file.write(octets)?;
+        self.note(count);
+        Ok(count)
+    }
+
+    fn flush(&mut self) -> io::Result<()> {
+        self.file.flush()
+    }
+}
