@@ -68,9 +68,7 @@ pub fn stream_response<F: Files + Clock, L: Link, W: Write, E: Write>(
         is_shown: has_progress,
         total,
     };
-    let trailers = show_rest(
-        files, options, end, fetch, link, progress, out, err,
-    )?;
+    let trailers = show_rest(files, options, end, fetch, link, progress, out, err)?;
     print_last(options.include, &trailers, out)?;
     Ok(fetched)
 }

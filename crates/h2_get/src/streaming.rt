@@ -63,7 +63,14 @@ where
         Err(error) => return Err(StreamEnding::of_error(StreamError::Link(error))),
     };
     stream_with_hint(
-        files, alloc, options, &mut fetch, &mut link, has_progress, out, err,
+        files,
+        alloc,
+        options,
+        &mut fetch,
+        &mut link,
+        has_progress,
+        out,
+        err,
     )
 }
 
@@ -94,9 +101,7 @@ fn stream_with_hint<F: Files + Clock, S: Read + WriteParts + OpenStream, W: Writ
     ensures why { IfErr result (λ ending. (ending.why ≡ None) ⊎ ((values : Values) (log : Log)
         → ConnRepresents values fetch.new.client.end.conn log → IsWhy values log ending.why)) }
 {
-    let got = stream_over(
-        files, alloc, options, fetch, link, has_progress, out, err,
-    );
+    let got = stream_over(files, alloc, options, fetch, link, has_progress, out, err);
     match got {
         Ok(fetched) => {
             send_held(link);
@@ -128,13 +133,18 @@ fn stream_over<F: Files + Clock, S: Read + WriteParts + OpenStream, W: Write, E:
         (W.contents out.new) result }
 {
     if !options.verbose {
-        return stream_response(
-            files, alloc, options, fetch, link, has_progress, out, err,
-        );
+        return stream_response(files, alloc, options, fetch, link, has_progress, out, err);
     }
     let mut watched = WatchedLink::new(alloc, link, err);
     let mut unused = io::sink();
     stream_response(
-        files, alloc, options, fetch, &mut watched, false, out, &mut unused,
+        files,
+        alloc,
+        options,
+        fetch,
+        &mut watched,
+        false,
+        out,
+        &mut unused,
     )
 }

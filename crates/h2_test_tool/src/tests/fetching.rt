@@ -1,7 +1,8 @@
 //! Statuses, responses, and a get over a link in memory.
 
 use h2_cli::Status;
-use h2_engines::{Field, Link, MemoryLink};
+use h2_engines::{Field, Link, MemoryLink, Why};
+use h2_frame::Code;
 use h2_net::{
     Ending, Fetched, Hint, LinkError, get_over, phrase, print_response, report, status_of, target,
 };
@@ -29,7 +30,7 @@ fn statuses_of_errors(rt: HostRuntime) {
         (LinkError::Refused, Status::Usage, "N7 Refused\n"),
     ];
     for (error, status, line) in cases {
-        let ending = Ending { error, hint: None };
+        let ending = Ending::from(error);
         assert!(rt; reports(rt.alloc(), ending, status, line), "{error}");
     }
 }
@@ -40,9 +41,29 @@ fn hint_after_the_line(rt: HostRuntime) {
     let ending = Ending {
         error: LinkError::Stream(6),
         hint: Some(Hint::Http1Server),
+        why: Some(Why::FrameTooLong),
     };
     let lines = "N2 Stream 6\nhint: the server answers in HTTP/1.1\n";
     assert!(rt; reports(rt.alloc(), ending, Status::Fault, lines));
+}
+
+// rule: engines (own) A hint says why a connection over a socket has failed
+#[test]
+fn reason_after_the_hint(rt: HostRuntime) {
+    let ending = Ending {
+        error: LinkError::Stream(1),
+        hint: Some(Hint::ErrorCode(Code::ProtocolError)),
+        why: Some(Why::WrongStream),
+    };
+    let lines = "N2 Stream 1\nhint: 1 is PROTOCOL_ERROR\n\
+        hint: A frame on a stream that its type does not allow is PROTOCOL_ERROR\n";
+    assert!(rt; reports(rt.alloc(), ending, Status::Fault, lines));
+    let other = Ending {
+        error: LinkError::Memory,
+        hint: None,
+        why: Some(Why::OutOfMemory),
+    };
+    assert!(rt; reports(rt.alloc(), other, Status::Memory, "N3 Memory\n"));
 }
 
 /// A response with this status.

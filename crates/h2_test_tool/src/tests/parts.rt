@@ -13,6 +13,7 @@ use std::alloc::{AllocError, Global};
 use std::fs;
 use std::fs::Files;
 use std::test::Fail;
+use std::time::Clock;
 
 /// A link that gives these octets, so many a read.
 fn link_of(alloc: Global, octets: &[u8], most: usize) -> Result<MemoryLink, AllocError>
@@ -117,7 +118,7 @@ fn bodies_that_end_early(rt: HostRuntime) {
 }
 
 /// What words stream of the response, and how that ends.
-fn streamed<F: Files>(
+fn streamed<F: Files + Clock>(
     files: &F,
     alloc: Global,
     options: &GetOptions<'_>,
@@ -127,12 +128,20 @@ fn streamed<F: Files>(
         return None;
     }
     let mut out = Vec::new(alloc);
-    let ended = stream_response(files, alloc, options, &mut fetch, &mut link, &mut out);
+    let mut err = Vec::new(alloc);
+    let ended = stream_response(
+        files, alloc, options, &mut fetch, &mut link, false, &mut out, &mut err,
+    );
     Some((out, ended.map(|_| ())))
 }
 
 /// Whether words stream this text of the response.
-fn words_stream<F: Files>(files: &F, alloc: Global, line: &str, text: &str) -> Result<bool, Fail> {
+fn words_stream<F: Files + Clock>(
+    files: &F,
+    alloc: Global,
+    line: &str,
+    text: &str,
+) -> Result<bool, Fail> {
     let mut words = Vec::new(alloc);
     for word in line.split(' ') {
         words.push(String::from_str(alloc, word)?)?;
