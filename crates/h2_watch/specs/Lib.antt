@@ -1,1 +1,2 @@
 pub mod Watches
+pub mod WatchedLinks

@@ -1,5 +1,5 @@
 -- What is shown of a connection while it goes on: the frames of both sides.
-use Rattle.std.specs.Prelude.{◌≡◌, ℕ, true, false, List, [], ◌++◌}
+use Rattle.std.specs.Prelude.{◌≡◌, ℕ, true, false, List, ◌++◌}
 use Rattle.h2_spec_log.specs.Limits.{most_max_frame}
 use Rattle.h2_cli.specs.declared.status.Status.TheVariants.{Fault}
 use Rattle.h2_show.specs.declared.options.ShowOptions.{ShowOptions}

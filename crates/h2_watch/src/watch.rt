@@ -3,6 +3,9 @@
 ghost use Rattle.std.specs.Prelude.{◌≡◌, ◌++◌, ℕ, true, List, [], IfOk, OnOk};
 ghost use Rattle.std.specs.Io.KnownBytes.{Appends};
 ghost use Rattle.h2_follow.specs.Follows.{marked, mark_of};
+ghost use Rattle.h2_show.specs.Printed.{error_lines};
+ghost use Rattle.h2_show.specs.Styles.{text_from};
+ghost use Rattle.h2_show.specs.Viewer.{IsStreamFault};
 ghost use Rattle.h2_watch.specs.Watches.{HasShown, ShowsMore, options_of, side_in};
 
 use h2_follow::{mark_lines, mark_of};
@@ -60,13 +63,22 @@ impl Watch {
             × ShowsMore self.old self.new side octets.now printed) }
     {
         let mut text = Vec::new(self.alloc);
-        match side {
-            Side::Client => self.client.add_lines(octets, &mut text)?,
-            Side::Server => self.server.add_lines(octets, &mut text)?,
-        }
+        self.add_lines(side, octets, &mut text)?;
         let mut lines = Vec::new(self.alloc);
         mark_lines(&text, mark_of(side), &mut lines)?;
         out.write_all(&lines)
+    }
+
+    // rule: engines (own) get -v shows the frames of both sides as they come
+    // Adds the lines of octets of a side to the text.
+    fn add_lines(&mut self, side: Side, octets: &[u8], text: &mut Vec<u8>) -> io::Result<()>
+        ensures { OnOk result ((printed : List ℕ) × (text.new.items ≡ text.old.items ++ printed)
+            × ShowsMore self.old self.new side octets.now printed) }
+    {
+        match side {
+            Side::Client => self.client.add_lines(octets, text),
+            Side::Server => self.server.add_lines(octets, text),
+        }
     }
 }
 
@@ -104,7 +116,13 @@ impl WatchedSide {
     }
 
     // Adds the line of a fault, which ends the side.
-    fn end_with(&mut self, error: ShowError, text: &mut Vec<u8>) -> io::Result<()> {
+    fn end_with(&mut self, error: ShowError, text: &mut Vec<u8>) -> io::Result<()>
+        ensures lines { OnOk result (text.new.items ≡ text.old.items
+            ++ text_from self.old.viewer.printer.style self.old.viewer.printer.next
+            (error_lines error self.old.viewer.cutter.place self.old.viewer.printer.is_due)) }
+        ensures fault { OnOk result (IsStreamFault error) }
+        ensures over { self.new.is_over ≡ true }
+    {
         self.is_over = true;
         self.viewer.show_error(error, text)?;
         Ok(())
