@@ -1,7 +1,8 @@
 -- How a client ends its fetch, over a link and without one, by how it was driven.
 use Rattle.h2_engines.proofs.Names
 use Names.{◌≡◌, ℕ, Bool, true, false, List, [], Option, Some, None, Result, Ok, Err, refl, sym}
-use Names.{ConnRepresents, ap, ◌∙◌, subst, inl, inr, Appends-nil, Field, Code, InternalError, Client}
+use Names.{ConnRepresents, ap, ◌∙◌, subst, inl, inr, Appends-nil, Field, Code, InternalError}
+use Names.{Client}
 use Names.{Values, AreInRange, Log, Keeps-call, SentMessage, Part, call_given, is_head_alone}
 use Names.{EndLog, new_end_log, LinkError, Open, Number, Coming, Fetched, Fetcher, CutsOffAtEnd}
 use Names.{HasRequested, Traffic, IsLinked, HasTakenAll, AreHeadsSoFar, HasCome, IsWhole}
@@ -151,10 +152,10 @@ SaysWhy fetcher why =
 
 -- A fetch ends so.
 ended_fetches : {course : Course} {now : Traffic} (fetcher : Fetcher) {end : EndLog}
-    {error : LinkError} {why : Option Why}
+    {error : LinkError} (why : Option Why)
     → HasEnded true course now (client_held fetcher) end error → SaysWhy fetcher why
     → FetchesWhy course.values course.message course.start now (Err error) why
-ended_fetches {course} fetcher {end} ended said = (
+ended_fetches {course} fetcher {end} why ended said = (
   record {
     end = end;
     fetching = ended.happened;
@@ -205,7 +206,7 @@ module _ {values : Values} {message : SentMessage} (before now : Traffic) {old :
   unfolding DrivenSo
   drive_fetches error why said drives =
       let so = drives _ has.end (new_driven before range not has) (first_sent has) in
-      ended_fetches new so.1 said
+      ended_fetches new why so.1 said
 
   -- never where its input has ended then;
   pub drive_not_cut : (error : LinkError) (ended : Bool)

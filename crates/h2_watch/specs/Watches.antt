@@ -17,9 +17,9 @@ abbrev pub options_of : Side → ShowOptions
 options_of side = record { hex = false; from = side; max_frame = most_max_frame; style = Plain }
 
 -- the other side
-abbrev pub other_side : Side → Side
-other_side Client = Server
-other_side Server = Client
+abbrev pub opposite_side : Side → Side
+opposite_side Client = Server
+opposite_side Server = Client
 
 -- what is kept of a side
 abbrev pub side_in : Watch → Side → WatchedSide
@@ -43,4 +43,4 @@ abbrev pub ShowsMore : (old new : Watch) → Side → (octets printed : List ℕ
 ShowsMore old new side octets printed =
     ((before text : List ℕ) → HasShown side (side_in old side) before text
     → HasShown side (side_in new side) (before ++ octets) (text ++ printed))
-    × (side_in new (other_side side) ≡ side_in old (other_side side))
+    × (side_in new (opposite_side side) ≡ side_in old (opposite_side side))

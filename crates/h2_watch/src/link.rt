@@ -1,6 +1,6 @@
 //! A link whose octets are shown.
 
-ghost use Rattle.std.specs.Prelude.{◌≡◌, ◌<◌, ◌-◌, ◌^◌, ℕ, IfOk, IfSome, [], length, take};
+ghost use Rattle.std.specs.Prelude.{◌≡◌, ◌<◌, ◌-◌, ◌^◌, ℕ, IfSome, [], length, take};
 ghost use Rattle.std.specs.Io.KnownBytes.{Appends};
 ghost use Rattle.std.specs.Io.Slices.{io_slices_bytes};
 ghost use Rattle.h2_link.specs.Links.{failures_after, ended_after, stalled_after, Gives, Takes};
@@ -10,7 +10,7 @@ ghost use Rattle.h2_watch.specs.Watches.{HasShown};
 use crate::watch::Watch;
 use h2_link::{Link, LinkFault};
 use h2_show::Side;
-use std::alloc::{AllocError, Global};
+use std::alloc::Global;
 use std::io::{IoSlice, Write};
 
 /// A link whose frames are shown as they are written and read: those of the client, which writes to
@@ -25,33 +25,19 @@ pub struct WatchedLink<'a, L, E> {
 }
 
 impl<'a, L: Link, E: Write> WatchedLink<'a, L, E> {
-    /// The link, whose frames are shown on `out`.
-    ///
-    /// # Errors
-    ///
-    /// [`AllocError`] when out of memory.
-    pub fn new(
-        alloc: Global,
-        link: &'a mut L,
-        out: &'a mut E,
-    ) -> Result<WatchedLink<'a, L, E>, AllocError>
-        ensures link { IfOk result (λ watched. watched.link.now ≡ link.old) }
-        ensures same_link { IfOk result (λ watched.
-            watched.link.ghost_name ≡ link.entry.ghost_name) }
-        ensures out { IfOk result (λ watched. watched.out.now ≡ out.old) }
-        ensures same_out { IfOk result (λ watched.
-            watched.out.ghost_name ≡ out.entry.ghost_name) }
-        ensures client { IfOk result (λ watched. IfSome watched.watch
-            (λ watch. HasShown Side.Client watch.client [] [])) }
-        ensures server { IfOk result (λ watched. IfSome watched.watch
-            (λ watch. HasShown Side.Server watch.server [] [])) }
+    /// The link, whose frames are shown on `out`. Where there is no memory for that none is shown.
+    pub fn new(alloc: Global, link: &'a mut L, out: &'a mut E) -> WatchedLink<'a, L, E>
+        ensures link { result.link.now ≡ link.old }
+        ensures same_link { result.link.ghost_name ≡ link.entry.ghost_name }
+        ensures out { result.out.now ≡ out.old }
+        ensures same_out { result.out.ghost_name ≡ out.entry.ghost_name }
+        ensures client { IfSome result.watch
+            (λ watch. HasShown Side.Client watch.client [] []) }
+        ensures server { IfSome result.watch
+            (λ watch. HasShown Side.Server watch.server [] []) }
     {
-        let watch = Watch::new(alloc)?;
-        Ok(WatchedLink {
-            link,
-            out,
-            watch: Some(watch),
-        })
+        let watch = Watch::new(alloc).ok();
+        WatchedLink { link, out, watch }
     }
 
     // rule: engines (own) get -v shows the frames of both sides as they come

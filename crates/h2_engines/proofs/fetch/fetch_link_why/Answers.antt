@@ -18,10 +18,10 @@ returns-in_err-is_whole g c =
     let answer = err_from_is_err_and c.from_residual-in_err-is_whole.result
     c.from_residual-in_err-is_whole.ensures.1 in
     rw (answer.1, answer.2) (record {
-      fetches = drive_fetches _ _ c.drive.new.machine c.args.config.in_range
+      fetches = drive_fetches _ _ c.drive-driven.new.machine c.args.config.in_range
           c.in_ok-fetcher.ensures.unfinished c.in_ok-fetcher.ensures.ok c.in_err-is_whole.field-0.0
-          _ c.why-2.ensures.why c.in_err-is_whole.ensures.drives;
-      cut_off = drive_not_cut _ _ c.drive.new.machine c.args.config.in_range
+          _ (rw c.conn.ensures at c.why.ensures.why) c.in_err-is_whole.ensures.drives;
+      cut_off = drive_not_cut _ _ c.drive-driven.new.machine c.args.config.in_range
           c.in_ok-fetcher.ensures.unfinished c.in_ok-fetcher.ensures.ok c.in_err-is_whole.field-0.0
           _ c.in_err-is_whole.ensures.drives;
       failures = c.in_err-is_whole.ensures.failures
@@ -31,9 +31,10 @@ returns-in_err-is_whole g c =
 pub returns-then-is_whole : goal.returns-then-is_whole
 returns-then-is_whole g c =
     record {
-      fetches = drive_whole _ _ c.drive.new.machine c.args.config.in_range
+      fetches = drive_whole _ _ c.drive-driven.new.machine c.args.config.in_range
           c.in_ok-fetcher.ensures.unfinished c.in_ok-fetcher.ensures.ok c.in_ok-is_whole.is_whole
-          c.into_fetched.result _ c.why-2.ensures.why c.if-is_whole.true c.in_ok-is_whole.ensures.drives
+          c.into_fetched.result _ (rw c.conn.ensures at c.why.ensures.why) c.if-is_whole.true
+          c.in_ok-is_whole.ensures.drives
           c.into_fetched.ensures.ok c.into_fetched.ensures.none;
       cut_off = fetched_not_cut c.into_fetched.result _ c.into_fetched.ensures.err;
       failures = c.in_ok-is_whole.ensures.failures ∙ fails_none Fetched _ errors.NoProgress
@@ -42,8 +43,10 @@ returns-then-is_whole g c =
 
 pub returns-clause-fetches : goal.returns-clause-fetches
 returns-clause-fetches g c =
-    drive_cut_off _ _ c.drive.new.machine c.args.config.in_range c.in_ok-fetcher.ensures.unfinished
-    c.in_ok-fetcher.ensures.ok c.in_ok-is_whole.is_whole _ c.why-2.ensures.why c.if-is_whole.false
+    drive_cut_off _ _ c.drive-driven.new.machine c.args.config.in_range
+    c.in_ok-fetcher.ensures.unfinished
+    c.in_ok-fetcher.ensures.ok c.in_ok-is_whole.is_whole _
+    (rw c.conn.ensures at c.why.ensures.why) c.if-is_whole.false
     c.in_ok-is_whole.ensures.drives
 
 pub returns-clause-cut_off : goal.returns-clause-cut_off

@@ -17,23 +17,26 @@ returns-in_err-driven g c =
     let answer = err_from_is_err_and c.from_residual-in_err-driven.result
     c.from_residual-in_err-driven.ensures.1 in
     rw (answer.1, answer.2) (record {
-      serves = drive_serves _ _ c.drive.new.machine c.in_ok-responder.ensures.alone
-          c.in_err-driven.field-0.0 _ c.why-2.ensures.why c.in_err-driven.ensures.drives;
+      serves = drive_serves _ _ c.drive-driven.new.machine c.in_ok-responder.ensures.alone
+          c.in_err-driven.field-0.0 _ (rw c.conn.ensures at c.why.ensures.why)
+          c.in_err-driven.ensures.drives;
       ended = tt;
-      cut_off = drive_not_cut _ _ c.drive.new.machine c.in_ok-responder.ensures.alone
+      cut_off = drive_not_cut _ _ c.drive-driven.new.machine c.in_ok-responder.ensures.alone
           c.in_err-driven.field-0.0 _ c.in_err-driven.ensures.drives;
-      failures = c.in_err-driven.ensures.failures ∙ failures_same Bool ℕ _ c.in_err-driven.field-0.0;
+      failures = c.in_err-driven.ensures.failures
+          ∙ failures_same Bool ℕ _ c.in_err-driven.field-0.0;
       err = may_serve c.in_err-driven.field-0.0 c.in_err-driven.ensures.err;
     })
 
 pub returns : goal.returns
 returns g c =
-    let ended = met c.in_ok-driven.field-0 _ (finish_ended _ _ c.drive.new.machine
+    let ended = met c.in_ok-driven.field-0 _ (finish_ended _ _ c.drive-driven.new.machine
     c.in_ok-responder.ensures.alone c.in_ok-driven.field-0 c.in_ok-driven.ensures.drives)
     c.in_ok-driven.ensures.ended in
     record {
-      serves = finish_serves _ _ c.drive.new.machine c.in_ok-responder.ensures.alone
-          c.in_ok-driven.field-0 c.finish.result _ c.why-2.ensures.why c.in_ok-driven.ensures.drives
+      serves = finish_serves _ _ c.drive-driven.new.machine c.in_ok-responder.ensures.alone
+          c.in_ok-driven.field-0 c.finish.result _
+          (rw c.conn.ensures at c.why.ensures.why) c.in_ok-driven.ensures.drives
           c.finish.ensures.finishes;
       ended = ends_at_end c.finish.result ended;
       cut_off = cuts_at_end c.finish.result ended;
