@@ -21,6 +21,7 @@ use Rattle.h2_fetch.specs.Comings.{HandsSince, HasStopped, IsComing}
 use Rattle.h2_fetch.specs.Parts.{handed_on}
 use Rattle.h2_fetch.specs.declared.part.ResponsePart.{ResponsePart}
 use Rattle.h2_fetch.specs.declared.part.ResponsePart.TheVariants as parts
+use Rattle.h2_get.specs.declared.pass_error.LastPart.{LastPart}
 use Rattle.h2_get.specs.declared.pass_error.PassError.{PassError}
 use Rattle.h2_get.specs.declared.pass_error.PassError.TheVariants as passes
 use Rattle.h2_get.specs.declared.pass_error.ResponseHead.{ResponseHead}
@@ -153,6 +154,11 @@ PassedSo values message start now fetch before after came written written_now
     × (handed_on fetch.id after.handed ≡ handed_on fetch.id before.handed ++ came)
     × ((count : ℕ) × (count < length (body_handed came))
     × Appends written written_now (take count (body_handed came)))
+
+-- the trailers with which a body has ended, or why it has not
+abbrev pub trailers_by : Result LastPart PassError → Result (Option (Vec Field Global)) PassError
+trailers_by (Ok last) = Ok last.trailers
+trailers_by (Err error) = Err error
 
 -- Whatever has happened at a client that fetches, the body that comes next is written.
 -- rule: engines (own) get -o and --stream write the body as it comes, in order

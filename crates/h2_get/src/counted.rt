@@ -1,5 +1,7 @@
 //! A file that is written, of which a terminal is told how much it has.
 
+ghost use Rattle.std.specs.Prelude.{◌∷◌, option_map};
+
 use h2_message::Field;
 use std::io::{self, Write};
 use std::time::{Clock, Duration};
@@ -17,7 +19,7 @@ pub(crate) struct Progress {
 pub(crate) fn length_stated(head: &[Field]) -> Option<u64> {
     for field in head {
         if field.name.as_slice() == b"content-length".as_slice() {
-            return match std::str::from_utf8(&field.value) {
+            return match std::str::from_utf8(field.value.as_slice()) {
                 Ok(digits) => digits.parse::<u64>().ok(),
                 Err(_) => None,
             };
@@ -26,13 +28,13 @@ pub(crate) fn length_stated(head: &[Field]) -> Option<u64> {
     None
 }
 
-/// How long is waited at least before it is told again.
-const PAUSE: Duration = Duration::from_millis(100);
+/// How many milliseconds are waited at least before it is told again.
+const PAUSE: u64 = 100;
 
 /// A writer whose octets are counted, and told as a line that is written over and over.
 #[derive(Drop)]
 pub(crate) struct Counted<'a, S, C, E> {
-    file: S,
+    file: &'a mut S,
     clock: &'a C,
     out: &'a mut E,
     progress: Progress,
@@ -45,7 +47,7 @@ pub(crate) struct Counted<'a, S, C, E> {
 impl<'a, S: Write, C: Clock, E: Write> Counted<'a, S, C, E> {
     /// A writer of which nothing was told.
     pub(crate) fn new(
-        file: S,
+        file: &'a mut S,
         clock: &'a C,
         progress: Progress,
         out: &'a mut E,
@@ -69,7 +71,7 @@ impl<'a, S: Write, C: Clock, E: Write> Counted<'a, S, C, E> {
         }
         if let Ok(now) = self.clock.monotonic() {
             if now >= self.next {
-                self.next = now.saturating_add(PAUSE);
+                self.next = now.saturating_add(Duration::from_millis(PAUSE));
                 self.tell();
             }
         }
@@ -94,7 +96,9 @@ impl<'a, S: Write, C: Clock, E: Write> Counted<'a, S, C, E> {
 }
 
 impl<S: Write, C: Clock, E: Write> Write for Counted<'_, S, C, E> {
-    ghost contents = { λ counted. S.contents counted.file };
+    // The name of the reference precedes the octets, so what is appended says that it is the same.
+    ghost contents = { λ counted. option_map (λ known. counted.file.ghost_name ∷ known)
+        (S.contents counted.file.now) };
 
     fn write(&mut self, octets: &[u8]) -> io::Result<usize> {
         let count = self.file.write(octets)?;

@@ -3,7 +3,7 @@
 ghost use Rattle.std.specs.Prelude.{◌≡◌};
 
 use h2_message::Field;
-use h2_net::{Ending, Hint, LinkError};
+use h2_net::{Ending, Hint, LinkError, Why};
 
 /// Why the body of a response was not passed on whole.
 #[derive(Clone, Copy, Debug, PartialEq, Eq)]
@@ -90,4 +90,11 @@ pub(crate) enum Passed {
     GoesOn,
     /// Nothing: it is whole, and these are its trailers, if it has any.
     Whole(Option<Vec<Field>>),
+}
+
+/// What ends a response whose body was passed on.
+#[derive(Debug, Drop)]
+pub(crate) struct LastPart {
+    /// Its trailers, if it has any.
+    pub(crate) trailers: Option<Vec<Field>>,
 }

@@ -5,13 +5,13 @@ ghost use Rattle.std.specs.Io.KnownBytes.{Appends};
 ghost use Rattle.h2_engines.specs.Failures.{CutsOffAtEnd, failures_at_end};
 ghost use Rattle.h2_engines.specs.Linked.{traffic};
 ghost use Rattle.h2_get.specs.Receives.{HeadComes, PassesBody, PassesPart, failures_after_pass};
-ghost use Rattle.h2_get.specs.Receives.{HandsBody, fields_in_trailers, head_in};
+ghost use Rattle.h2_get.specs.Receives.{HandsBody, fields_in_trailers, head_in, trailers_by};
 ghost use Rattle.h2_spec_log.specs.Acts.{Values};
 ghost use Rattle.h2_ends.specs.declared.end.End.{End};
 ghost use Rattle.h2_ends.specs.Ends.{EndLog};
 ghost use Rattle.h2_ends.specs.Represents.{EndRepresents};
 
-use crate::pass_error::{PassError, Passed, ResponseHead};
+use crate::pass_error::{LastPart, PassError, Passed, ResponseHead};
 use h2_engines::Link;
 use h2_fetch::{PartFetch, ResponsePart};
 use h2_link::write_some;
@@ -79,10 +79,31 @@ pub fn pass_body<L: Link, W: Write>(
     ensures failures { L.faults link.new ≡ failures_after_pass (L.faults link.old) result }
     ensures stream { fetch.new.id ≡ fetch.old.id }
 {
+    let last = pass_all(fetch, link, out)?;
+    Ok(last.trailers)
+}
+
+/// As [`pass_body`].
+pub(crate) fn pass_all<L: Link, W: Write>(
+    fetch: &mut PartFetch,
+    link: &mut L,
+    out: &mut W,
+) -> Result<LastPart, PassError>
+    requires { L.faults link.old < 2 ^ 64 - 1 }
+    ensures passes { PassesBody
+        (traffic (L.given link.old) (L.taken link.old) (L.stalled link.old))
+        (traffic (L.given link.new) (L.taken link.new) (L.stalled link.new))
+        fetch.old fetch.new (W.contents out.old) (W.contents out.new) (trailers_by result) }
+    ensures cut_off { IfErr result (λ error. error ≡ PassError.Link LinkError.CutOff
+        → L.ended link.new ≡ true) }
+    ensures failures { L.faults link.new
+        ≡ failures_after_pass (L.faults link.old) (trailers_by result) }
+    ensures stream { fetch.new.id ≡ fetch.old.id }
+{
     for _ in 0..u64::MAX {
         let part = fetch.next(link)?;
         match pass_part(part, out)? {
-            Passed::Whole(trailers) => return Ok(trailers),
+            Passed::Whole(trailers) => return Ok(LastPart { trailers }),
             Passed::GoesOn => {}
         }
     }

@@ -1,16 +1,16 @@
 //! A response that is fetched and printed as it comes.
 
-ghost use Rattle.std.specs.Prelude.{◌≡◌, ◌<◌, ◌-◌, ◌^◌, [], IfErr, None, OnOk, is_some};
+ghost use Rattle.std.specs.Prelude.{◌≡◌, ◌<◌, ◌-◌, ◌^◌, ℕ, List, [], IfErr, None, OnOk, Option, is_some};
 ghost use Rattle.std.specs.Io.KnownBytes.{Appends};
 ghost use Rattle.h2_engines.specs.Linked.{traffic};
 ghost use Rattle.h2_args.specs.Words.{asked_by};
-ghost use Rattle.h2_get.specs.Receives.{fields_in_trailers};
+ghost use Rattle.h2_get.specs.Receives.{PassesBody, fields_in_trailers, trailers_by};
 ghost use Rattle.h2_get.specs.Responses.{trailers_shown};
 ghost use Rattle.h2_get.specs.Streams.{PrintsHead, ShowsRest, StreamsResponse};
 
 use crate::counted::{Counted, Progress, length_stated};
-use crate::pass_error::{PassError, StreamError};
-use crate::receive::{next_head, pass_body};
+use crate::pass_error::{LastPart, PassError, StreamError};
+use crate::receive::{next_head, pass_all, pass_body};
 use crate::response::{is_failure, print_asked, print_trailers};
 use h2_args::GetOptions;
 use h2_engines::Link;
@@ -151,18 +151,39 @@ fn show_rest<F: Files + Clock, L: Link, W: Write, E: Write>(
             Err(PassError::Output) => Err(StreamError::Output),
         };
     };
-    let Ok(file) = File::create(files, path) else {
+    let Ok(mut file) = File::create(files, path) else {
         return Err(StreamError::File);
     };
     if is_whole {
         return Ok(None);
     }
-    let mut counted = Counted::new(file, files, progress, err);
-    let passed = pass_body(fetch, link, &mut counted);
-    counted.end();
-    match passed {
-        Ok(trailers) => Ok(trailers),
+    match pass_counted(fetch, link, &mut file, files, progress, err) {
+        Ok(last) => Ok(last.trailers),
         Err(PassError::Link(error)) => Err(StreamError::Link(error)),
         Err(PassError::Output) => Err(StreamError::File),
     }
+}
+
+// rule: engines (own) get -o and --stream write the body as it comes, in order
+/// Passes the body on into a file, and says how much of it has come, where that is asked for.
+/// Answers the trailers.
+fn pass_counted<L: Link, S: Write, C: Clock, E: Write>(
+    fetch: &mut PartFetch,
+    link: &mut L,
+    file: &mut S,
+    clock: &C,
+    progress: Progress,
+    err: &mut E,
+) -> Result<LastPart, PassError>
+    requires { L.faults link.old < 2 ^ 64 - 1 }
+    ensures passes { (written written_now : Option (List ℕ)) × PassesBody
+        (traffic (L.given link.old) (L.taken link.old) (L.stalled link.old))
+        (traffic (L.given link.new) (L.taken link.new) (L.stalled link.new))
+        fetch.old fetch.new written written_now (trailers_by result) }
+    ensures stream { fetch.new.id ≡ fetch.old.id }
+{
+    let mut counted = Counted::new(file, clock, progress, err);
+    let passed = pass_all(fetch, link, &mut counted);
+    counted.end();
+    passed
 }

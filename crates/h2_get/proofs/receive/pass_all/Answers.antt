@@ -5,7 +5,7 @@ use Rattle.h2_get.proofs.Receiving.{Written, no_round_left, passed_first, passed
 use Rattle.h2_get.proofs.Receiving.{passed_whole, passes_first, passes_one, stops_after}
 use Rattle.h2_get.proofs.Receiving.{writes_none}
 use Rattle.h2_get.proofs.Receiving.{writes_one}
-use Rattle.h2_get.proofs.receive.pass_body.Goals as goal
+use Rattle.h2_get.proofs.receive.pass_all.Goals as goal
 
 pub loop-init : goal.loop-init
 loop-init g c =

@@ -2,7 +2,7 @@
 use Rattle.std.proofs.Common.{◌≡◌}
 use Rattle.h2_engines.specs.Linked.{traffic}
 use Rattle.h2_get.proofs.Receiving.{PassesOn, Written}
-use Rattle.h2_get.proofs.receive.pass_body.Given as goal
+use Rattle.h2_get.proofs.receive.pass_all.Given as goal
 
 abbrev pub invariant-loop : goal.invariant-loop
 invariant-loop g l =
