@@ -15,8 +15,16 @@ pub(crate) struct Progress {
     pub(crate) total: Option<u64>,
 }
 
+impl Progress {
+    /// Of a response with this head.
+    pub(crate) fn new(is_shown: bool, head: &[Field]) -> Progress {
+        let total = if is_shown { length_stated(head) } else { None };
+        Progress { is_shown, total }
+    }
+}
+
 /// How many octets a head states (RFC 9110, section 8.6), if it does.
-pub(crate) fn length_stated(head: &[Field]) -> Option<u64> {
+fn length_stated(head: &[Field]) -> Option<u64> {
     for field in head {
         if field.name.as_slice() == b"content-length".as_slice() {
             return match std::str::from_utf8(field.value.as_slice()) {

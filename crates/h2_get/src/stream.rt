@@ -8,7 +8,7 @@ ghost use Rattle.h2_get.specs.Receives.{PassesBody, fields_in_trailers, trailers
 ghost use Rattle.h2_get.specs.Responses.{trailers_shown};
 ghost use Rattle.h2_get.specs.Streams.{PrintsHead, ShowsRest, StreamsResponse};
 
-use crate::counted::{Counted, Progress, length_stated};
+use crate::counted::{Counted, Progress};
 use crate::pass_error::{LastPart, PassError, StreamError};
 use crate::receive::{next_head, pass_all, pass_body};
 use crate::response::{is_failure, print_asked, print_trailers};
@@ -60,14 +60,7 @@ pub fn stream_response<F: Files + Clock, L: Link, W: Write, E: Write>(
     if is_failure(options, &fetched) {
         return Ok(fetched);
     }
-    let total = match has_progress {
-        true => length_stated(&fetched.head),
-        false => None,
-    };
-    let progress = Progress {
-        is_shown: has_progress,
-        total,
-    };
+    let progress = Progress::new(has_progress, &fetched.head);
     let trailers = show_rest(files, options, end, fetch, link, progress, out, err)?;
     print_last(options.include, &trailers, out)?;
     Ok(fetched)

@@ -5,17 +5,17 @@ use Rattle.h2_get.proofs.streaming.stream_location.Goals as goal
 
 pub returns-in-Err : goal.returns-in-Err
 returns-in-Err g c =
-    rw c.of_link.ensures (not_connected c.in-Err.ending.error c.in-Err.ensures.err refl)
+    rw c.of_link.ensures.error (not_connected c.in-Err.ending.error c.in-Err.ensures.err refl)
 
 pub returns-in-Err-begin_fetch : goal.returns-in-Err-begin_fetch
 returns-in-Err-begin_fetch g c =
-    rw c.of_error.ensures (not_accepted c.in-Err-begin_fetch.error
+    rw c.of_error.ensures.error (not_accepted c.in-Err-begin_fetch.error
     c.in-Err-begin_fetch.ensures.refused refl)
 
 pub returns : goal.returns
 returns g c =
     let fetch = c.in-Ok-begin_fetch.fetch in
     let begins = c.in-Ok-begin_fetch.ensures.ok in
-    let over = c.stream_with_hint.ensures in
+    let over = c.stream_with_hint.ensures.streams in
     let so = over.2 _ _ over.0 begins.end (begins.coming over.0) begins.none in
     is_streamed fetch.id over.0 over.1 _ so.0 _ so.1

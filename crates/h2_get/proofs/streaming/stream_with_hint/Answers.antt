@@ -2,12 +2,12 @@
 use Rattle.h2_get.proofs.streaming.stream_with_hint.Goals as goal
 
 pub returns-in-Ok : goal.returns-in-Ok
-returns-in-Ok g c = (_, _, c.in-Ok.ensures)
+returns-in-Ok g c = record { streams = c.in-Ok.ensures; why = tt }
 
-pub returns-in-Err-Link : goal.returns-in-Err-Link
-returns-in-Err-Link g c =
-    rw (c.of_link.ensures, c.end_fetch.ensures)
-    (_, _, rw c.in-Err-Link.field-0-is at c.in-Err-Link.ensures)
+pub returns-in-Err-Link-clause-streams : goal.returns-in-Err-Link-clause-streams
+returns-in-Err-Link-clause-streams g c =
+    rw (c.of_link.ensures.error, c.end_fetch.ensures.error)
+    (rw c.in-Err-Link.field-0-is at c.in-Err-Link.ensures)
 
-pub returns-in-Err : goal.returns-in-Err
-returns-in-Err g c = rw c.of_error.ensures (_, _, c.in-Err.ensures)
+pub returns-in-Err-clause-streams : goal.returns-in-Err-clause-streams
+returns-in-Err-clause-streams g c = rw c.of_error.ensures.error c.in-Err.ensures
