@@ -13,9 +13,9 @@ use h2_show::Side;
 use std::alloc::{AllocError, Global};
 use std::io::{IoSlice, Write};
 
-/// A link whose frames are shown as they are written and read: those of the client, which writes to
-/// it, and those of the server. What can't be shown, since memory is missing or the writer fails,
-/// ends that, and nothing else.
+/// A link whose frames are shown as they are written and read: those of the client, which writes
+/// to it, and those of the server. What can't be shown, since memory is missing or the writer
+/// fails, ends that, and nothing else.
 #[derive(Drop)]
 pub struct WatchedLink<'a, L, E> {
     link: &'a mut L,
