@@ -1,6 +1,6 @@
 //! A link whose octets are shown.
 
-ghost use Rattle.std.specs.Prelude.{◌≡◌, ◌<◌, ◌-◌, ◌^◌, ℕ, IfSome, [], length, take};
+ghost use Rattle.std.specs.Prelude.{◌≡◌, ◌<◌, ◌-◌, ◌^◌, IfSome, [], length, take};
 ghost use Rattle.std.specs.Io.KnownBytes.{Appends};
 ghost use Rattle.std.specs.Io.Slices.{io_slices_bytes};
 ghost use Rattle.h2_link.specs.Links.{failures_after, ended_after, stalled_after, Gives, Takes};
@@ -13,9 +13,9 @@ use h2_show::Side;
 use std::alloc::Global;
 use std::io::{IoSlice, Write};
 
-/// A link whose frames are shown as they are written and read: those of the client, which writes to
-/// it, and those of the server. What can't be shown, since memory is missing or the writer fails,
-/// ends that, and nothing else.
+/// A link whose frames are shown as they are written and read: those of the client, which writes
+/// to it, and those of the server. What can't be shown, since memory is missing or the writer
+/// fails, ends that, and nothing else.
 #[derive(Drop)]
 pub struct WatchedLink<'a, L, E> {
     link: &'a mut L,

@@ -6,7 +6,7 @@ ghost use Rattle.h2_follow.specs.Follows.{marked, mark_of};
 ghost use Rattle.h2_show.specs.Printed.{error_lines};
 ghost use Rattle.h2_show.specs.Styles.{text_from};
 ghost use Rattle.h2_show.specs.Viewer.{IsStreamFault};
-ghost use Rattle.h2_watch.specs.Watches.{HasShown, ShowsMore, options_of, side_in};
+ghost use Rattle.h2_watch.specs.Watches.{HasShown, ShowsMore};
 
 use h2_follow::{mark_lines, mark_of};
 use h2_frame::limits::MOST_MAX_FRAME;
