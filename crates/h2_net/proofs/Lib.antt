@@ -1,4 +1,5 @@
 pub mod EmptyLists
+mod DefaultValues
 mod HeldLemmas
 pub mod HostBrackets
 pub mod Names

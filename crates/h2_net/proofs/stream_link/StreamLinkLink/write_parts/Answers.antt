@@ -1,5 +1,5 @@
 -- Parts were sent after what is held; or none of them was, and the first is written alone.
-use Rattle.std.proofs.Common.{◌≡◌, ◌<◌, length, ap, ◌∙◌, arith, sym, refl}
+use Rattle.std.proofs.Common.{◌≡◌, ◌<◌, length, ap, ◌∙◌, arith}
 use Rattle.h2_link.proofs.PartsLemmas.{takes_part, stalled_part}
 use Rattle.h2_link.specs.Links.{stalled_after}
 use Rattle.std.specs.Io.Slices.{io_slices_bytes}
