@@ -7,6 +7,8 @@ mod errors;
 mod fetch;
 mod part;
 mod sending;
+mod several;
 
 pub use fetch::PartFetch;
 pub use part::ResponsePart;
+pub use several::{Came, SeveralFetch};
