@@ -1,7 +1,15 @@
 mod Beginning
 mod Comings
 mod Ending
+mod Kept
+mod Reading
 mod Refilling
 mod SendingRounds
+mod SeveralAnswers
+mod SeveralBeginning
+mod SeveralComings
+mod SeveralRounds
+mod SeveralTaking
+mod SeveralWaits
 mod Taking
 mod Writing
