@@ -1,8 +1,8 @@
 mod Beginning
 mod Comings
 mod Ending
-mod Kept
-mod Reading
+mod KeptParts
+mod ReadPieces
 mod Refilling
 mod SendingRounds
 mod SeveralAnswers

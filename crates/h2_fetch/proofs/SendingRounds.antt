@@ -15,28 +15,31 @@ use Rattle.h2_fetch.specs.Several.{pumps, releases}
 use Rattle.h2_link.specs.declared.error.LinkError.TheVariants as errors
 
 -- Requests that were made stay so where credit is given back and what waits is sent.
-releases_at : (values : Values) (asking : Asking) {before after : EndLog}
+releases_at : (values : Values) (asking : Asking) (before after : EndLog)
     (released : Result (Unit {0}) EndRefusal) → HasAsked values asking before
     → MayReleaseAll before released after → HasAsked values asking after
-releases_at values (AsksOne message) released was may = one_releases was released may
-releases_at values (AsksSeveral asked) released was may = releases was released may
+releases_at values (AsksOne message) before after released was may = one_releases was released may
+releases_at values (AsksSeveral asked) before after released was may = releases was released may
 
-pumps_at : (values : Values) (asking : Asking) {before after : EndLog}
+pumps_at : (values : Values) (asking : Asking) (before after : EndLog)
     (sent : Result ℕ EndRefusal) → HasAsked values asking before → MayPump before sent after
     → HasAsked values asking after
-pumps_at values (AsksOne message) sent was may = one_pumps was sent may
-pumps_at values (AsksSeveral asked) sent was may = pumps was sent may
+pumps_at values (AsksOne message) before after sent was may = one_pumps was sent may
+pumps_at values (AsksSeveral asked) before after sent was may = pumps was sent may
 
-pub sent_asks : (values : Values) (asking : Asking) {before after : EndLog}
+pub sent_asks : (values : Values) (asking : Asking) (before after : EndLog)
     {result : Result (Unit {0}) LinkError} → HasAsked values asking before
     → HasSent before after result → HasAsked values asking after
-sent_asks values asking was (has_failed failed same) = rw same was
-sent_asks values asking was (sends middle released sent up may all then) =
-    pumps_at values asking (Ok sent) (releases_at values asking released was may) then
-sent_asks values asking was (releases_no_more released error is up may) =
-    releases_at values asking released was may
-sent_asks values asking was (sends_no_more middle released sent error is up may then) =
-    pumps_at values asking sent (releases_at values asking released was may) then
+sent_asks values asking before after was (has_failed failed same) = rw same was
+sent_asks values asking before after was (sends middle released sent up may all then) =
+    pumps_at values asking middle after (Ok sent)
+    (releases_at values asking before middle released was may) then
+sent_asks values asking before after was (releases_no_more released error is up may) =
+    releases_at values asking before after released was may
+sent_asks values asking before after was
+    (sends_no_more middle released sent error is up may then) =
+    pumps_at values asking middle after sent
+    (releases_at values asking before middle released was may) then
 
 -- What ends writing ends sending so.
 pub stops_by : (now : Traffic) (end : EndLog) (error : LinkError) → EndsWriting error
@@ -89,7 +92,7 @@ module _ {values : Values} {asking : Asking} {start now : Traffic} {before : End
       let stays = sent_stays sent.2 in
       record {
         after = sent.0;
-        asks = sent_asks values asking on.asks sent.2;
+        asks = sent_asks values asking on.after sent.0 on.asks sent.2;
         represents = sent.1;
         same = same_twice on.same (sent_same sent.2);
         linked = goes_links (given_within on.represents) stays.goes on.linked;

@@ -12,7 +12,7 @@ use Rattle.h2_fetch.specs.SeveralComings.{WaitsFor}
 use Rattle.h2_fetch.specs.declared.several.Came.{Came}
 use Rattle.h2_fetch.specs.declared.several.Came.TheVariants.{Dropped}
 use Rattle.h2_fetch.specs.declared.several.SeveralFetch.{SeveralFetch}
-use Rattle.h2_fetch.proofs.Kept.{parts_taken}
+use Rattle.h2_fetch.proofs.KeptParts.{parts_taken}
 use Rattle.h2_fetch.proofs.SeveralWaits.{coming_still}
 
 -- What is left was kept,

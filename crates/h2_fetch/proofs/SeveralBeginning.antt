@@ -3,6 +3,7 @@ use Rattle.h2_engines.proofs.Names
 use Names.{◌≡◌, ◌≢◌, ℕ, Bool, List, [], ◌∷◌, ◌++◌, Some, None, Ok, Err, refl, sym, ap, ◌∙◌, map, subst}
 use Names.{map_push, inl, inr, Contains, Client, Field, Values, AreInRange, Log, Keeps-call}
 use Names.{SentMessage, call_given, is_head_alone, at_once, End, EndLog, EndRepresents, new_end_log}
+use Names.{EndRefusal, EndRequests, Message}
 use Names.{Open, Number, LinkError, Traffic, items_failed, opened, with_call, said_for, MayAsk, Act}
 use Rattle.std.proofs.lemmas.List.Elements.{Contains-push_cases}
 use Rattle.h2_laws_end.proofs.OverNumbers.{opened_is_new}
@@ -11,7 +12,7 @@ use Rattle.h2_ends.proofs.RequestHeads.{untouched}
 use Rattle.h2_ends.proofs.RequestSent.{accepted_elsewhere, accepted_here}
 use Rattle.h2_fetch.specs.Parts.{handed_on}
 use Rattle.h2_fetch.specs.Several.{Asked, BeginsSeveral, IsFetchingSeveral, RefusesOne, begins}
-use Rattle.h2_fetch.specs.Several.{kept_on, octets_unused, refuses, requests}
+use Rattle.h2_fetch.specs.Several.{error_of_request, kept_on, octets_unused, refuses, requests}
 use Rattle.h2_fetch.specs.SeveralTakes.{RequestedSo, RequestsOnce}
 use Rattle.h2_fetch.specs.declared.several.SeveralFetch.{SeveralFetch}
 use Rattle.h2_fetch.proofs.Beginning.{none_gone, unused_yet, up_yet}
@@ -90,8 +91,8 @@ module _ {values : Values} {messages : List SentMessage} {old : End} (new : End)
               ∙ accepted_elsewhere i id (at_once message) so.end.accepted other ∙ said
           | inr same ↦
               let here : id ≡ i = ap (λ (pair : Asked). pair.0) same in
-              let as : message ≡ one = ap (λ (pair : Asked). pair.1) same in
-              rw (sym here, sym as) (ap (λ (end : EndLog). said_for id end.accepted) is
+              let said : message ≡ one = ap (λ (pair : Asked). pair.1) same in
+              rw (sym here, sym said) (ap (λ (end : EndLog). said_for id end.accepted) is
               ∙ accepted_here id (at_once message) so.end.accepted)
         ];
         up = ap (λ (one : Log). one.failed) log
@@ -134,3 +135,17 @@ begins_several fetch so kept unused = (
     dropped = λ id code one. absurd (none_in _ (rw kept at one));
   },
 )
+
+-- What a client has answered to a request.
+pub requested_once : (old new : End) (message : SentMessage) (id : ℕ)
+    → EndRequests old message (Ok id) new → RequestsOnce old new message (Ok id)
+unfolding RequestedSo
+requested_once old new message id asks values end is =
+    let (after, may, now) = asks.1 values end is in (after, now, may)
+
+pub refused_once : (old new : End) (message : SentMessage) (back : Message)
+    (refusal : EndRefusal) {error : LinkError} → error ≡ error_of_request refusal
+    → EndRequests old message (Err (back, refusal)) new → RequestsOnce old new message (Err error)
+unfolding RequestedSo
+refused_once old new message back refusal ends asks values end is =
+    let (after, may, now) = asks.1 values end is in (after, now, (refusal, may, ends))

@@ -23,7 +23,7 @@ use Rattle.h2_fetch.specs.declared.coming.CameTaken.{CameTaken}
 use Rattle.h2_fetch.specs.declared.several.Came.{Came}
 use Rattle.h2_fetch.specs.declared.several.Came.TheVariants.{Dropped}
 use Rattle.h2_fetch.specs.declared.several.SeveralFetch.{SeveralFetch}
-use Rattle.h2_fetch.proofs.Kept.{none_more, parts_answered, parts_kept, parts_lost}
+use Rattle.h2_fetch.proofs.KeptParts.{none_more, parts_answered, parts_kept, parts_lost}
 use Rattle.h2_fetch.proofs.SeveralTaking.{IsNothing, dropped_as, handed_came, nothing_came}
 use Rattle.h2_fetch.proofs.SeveralTaking.{something_came, stay_dropped, stays_handed}
 use Rattle.h2_link.specs.declared.error.LinkError.TheVariants as errors
@@ -136,13 +136,16 @@ module _ {values : Values} {start now : Traffic} {asked : List Asked} {old : Sev
     more_came : (i : ℕ)
         → handed_on i took.after.handed ≡ handed_on i end.handed ++ came_on stream came i
     more_came i =
-        let (one, as, same) = last_came in
-        ap (handed_on i) same ∙ handed_came i stream came end.handed as
+        let (one, is_as, same) = last_came in
+        ap (handed_on i) same ∙ handed_came i stream came one end.handed is_as
 
     pub came_dropped : (code : ℕ) → came ≡ Dropped code → WasDropped took.after stream code
     came_dropped code dropped =
-        let (one, as, same) = last_came in
-        dropped_as took.after stream code (rw dropped at as) (rw same (first_in one end.handed))
+        let (one, is_as, same) = last_came in
+        dropped_as took.after stream code one
+        (subst (λ (what : Came). IsAsCame stream what one) dropped is_as)
+        (subst (λ (handed : List Handed). Contains handed one) (sym same)
+        (first_in one end.handed))
 
     still_dropped : AreDropped took.after old.kept.items
     still_dropped = stay_dropped end took.after old.kept.items
@@ -173,8 +176,8 @@ module _ {values : Values} {start now : Traffic} {asked : List Asked} {old : Sev
       | inl was ↦ still_dropped id code was
       | inr same ↦
           let here : stream ≡ id = ap (λ (pair : ℕ × Came). pair.0) same in
-          let as : came ≡ Dropped code = ap (λ (pair : ℕ × Came). pair.1) same in
-          subst (λ (i : ℕ). WasDropped took.after i code) here (came_dropped code as)
+          let dropped : came ≡ Dropped code = ap (λ (pair : ℕ × Came). pair.1) same in
+          subst (λ (i : ℕ). WasDropped took.after i code) here (came_dropped code dropped)
     ]
 
     pub came_kept : new.kept.items ≡ old.kept.items ++ (stream, came) ∷ []

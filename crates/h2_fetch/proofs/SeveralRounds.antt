@@ -3,13 +3,14 @@ use Rattle.h2_engines.proofs.Names
 use Names.{◌≡◌, ◌≢◌, ◌≤◌, ℕ, ◌+◌, ◌-◌, ◌^◌, List, [], ◌∷◌, ◌++◌, length, Option, Some, None, Ok, Err}
 use Names.{refl, sym, ap, ◌∙◌, subst, arith, append-nil, Contains, Values, EndLog, EndTook, Handed}
 use Names.{EndAnswer, EndFailed, EndMayTake, LinkError, Traffic, append_assoc, if◌then◌else◌}
+use Rattle.h2_engines.specs.Fetches.{WasDropped}
 use Rattle.h2_engines.specs.ServerSteps.{ErrsServing}
 use Rattle.h2_engines.proofs.ResponderEnds.{given_within}
 use Rattle.h2_engines.proofs.ServeLinkTakes.{links_first, takes_first}
 use Rattle.h2_engines.proofs.TakeMessages.{kept_failed, taken_says}
 use Rattle.h2_fetch.specs.Parts.{handed_on, is_on}
 use Rattle.h2_fetch.specs.Several.{AnsweredOn, AreComing, Asked, CameSo, kept_on, octets_unused}
-use Rattle.h2_fetch.specs.Several.{takes}
+use Rattle.h2_fetch.specs.Several.{answered_next, takes}
 use Rattle.h2_fetch.specs.SeveralComings.{HaveTakenLast, TakesNoneMore, TakesUntilCame, TookCame}
 use Rattle.h2_fetch.specs.SeveralComings.{fails, lacks_memory, out_of_rounds}
 use Rattle.h2_fetch.specs.SeveralTakes.{TakesCameOnce, TakesCameSo}
@@ -17,7 +18,7 @@ use Rattle.h2_fetch.specs.declared.coming.CameNext.TheVariants as nexts
 use Rattle.h2_fetch.specs.declared.coming.CameTaken.{CameTaken}
 use Rattle.h2_fetch.specs.declared.several.Came.{Came}
 use Rattle.h2_fetch.specs.declared.several.SeveralFetch.{SeveralFetch}
-use Rattle.h2_fetch.proofs.Kept.{none_more}
+use Rattle.h2_fetch.proofs.KeptParts.{none_more}
 use Rattle.h2_fetch.proofs.SeveralComings.{AreGoing, are_going, came_answered, came_dropped}
 use Rattle.h2_fetch.proofs.SeveralComings.{came_kept, came_lost, piece_of, rest_is, taken_came}
 use Rattle.h2_fetch.proofs.SeveralComings.{took_none}
@@ -78,10 +79,13 @@ module _ (old middle new : SeveralFetch) (id rounds : ℕ) (on : TakesCame old m
         let go = on values start now asked end answered is none in
         let took = taken_came new go.coming taken input used part in
         let first : kept_on stream middle.kept.items ≡ [] = rw same go.none in
-        let coming = came_answered new go.coming took ids stream came next first kept in (
+        (
           took.after,
-          rw same at coming,
-          rw same at came_dropped new go.coming took ids stream came next,
+          subst (λ (i : ℕ). AreComing values start now asked new took.after
+              (answered_next answered i came)) same
+              (came_answered new go.coming took ids stream came next first kept),
+          λ code dropped. subst (λ (i : ℕ). WasDropped took.after i code) same
+              (came_dropped new go.coming took ids stream came next code dropped),
         )
 
     module _ (stream : ℕ) (came : Came) (next : taken.next ≡ nexts.On stream came)
@@ -110,7 +114,7 @@ module _ (old middle new : SeveralFetch) (id rounds : ℕ) (on : TakesCame old m
 
 -- or the client can take no more: the connection has failed, or memory was refused for what was
 -- handed out, which is lost.
-pub lost_of : EndAnswer → ℕ → List Handed
+abbrev pub lost_of : EndAnswer → ℕ → List Handed
 lost_of (EndTook count (Some one)) i = if is_on i one then one ∷ [] else []
 lost_of answer i = []
 

@@ -107,16 +107,16 @@ off_its_own (TrailersHanded id list) stream is off i =
 off_its_own (Passed event) stream is off i = refl
 
 -- What was handed out last adds to its stream what has come there,
-pub handed_came : (i id : ℕ) (came : Came) {handed : Handed} (before : List Handed)
+pub handed_came : (i id : ℕ) (came : Came) (handed : Handed) (before : List Handed)
     → IsAsCame id came handed
     → handed_on i (handed ∷ before) ≡ handed_on i before ++ came_on id came i
 unfolding handed_on
-handed_came i id (Part (parts.Interim list)) before is = rw is refl
-handed_came i id (Part (parts.Head list end)) before is = rw is refl
-handed_came i id (Part (parts.Body octets end)) before is = rw is refl
-handed_came i id (Part (parts.Trailers list)) before is = rw is refl
-handed_came i id (Dropped code) before (inl reset) = rw reset.1 refl
-handed_came i id (Dropped code) before (inr left) = rw left.1 refl
+handed_came i id (Part (parts.Interim list)) handed before is = rw is refl
+handed_came i id (Part (parts.Head list end)) handed before is = rw is refl
+handed_came i id (Part (parts.Body octets end)) handed before is = rw is refl
+handed_came i id (Part (parts.Trailers list)) handed before is = rw is refl
+handed_came i id (Dropped code) handed before (inl reset) = rw reset.1 refl
+handed_came i id (Dropped code) handed before (inr left) = rw left.1 refl
 
 -- and nothing to one where nothing has.
 handed_off : (i : ℕ) (handed : Handed) (before : List Handed) → is_on i handed ≡ false
@@ -168,7 +168,7 @@ stay_dropped before after kept stays dropped id code one =
     stays_dropped before after stays id code (dropped id code one)
 
 -- What has come as dropped was.
-pub dropped_as : (end : EndLog) (id code : ℕ) {handed : Handed} → IsAsCame id (Dropped code) handed
+pub dropped_as : (end : EndLog) (id code : ℕ) (handed : Handed) → IsAsCame id (Dropped code) handed
     → Contains end.handed handed → WasDropped end id code
-dropped_as end id code (inl (ours, is)) one = inl (ours, rw is at one)
-dropped_as end id code (inr (seven, is)) one = inr (seven, rw is at one)
+dropped_as end id code handed (inl (ours, is)) one = inl (ours, rw is at one)
+dropped_as end id code handed (inr (seven, is)) one = inr (seven, rw is at one)

@@ -29,7 +29,7 @@ not_good (Ok value) error same good = absurd (cc)
 not_good (Err other) error same good = absurd (cc)
 
 -- Once output was made ready, taking it away is not refused.
-pub never_lost : {values : Values} {asking : Asking} {start middle : Traffic}
+pub never_lost : {values : Values} (asking : Asking) {start middle : Traffic}
     (now : Traffic) {before : EndLog} {old : End} (ready new : End) {unused : List ℕ} {rounds : ℕ}
     (result : Result ℕ Refusal) (refused : Refusal) (error : LinkError)
     → WritesOn (HasAsked values asking) values start middle before old unused rounds
@@ -39,7 +39,7 @@ pub never_lost : {values : Values} {asking : Asking} {start middle : Traffic}
     → ((values : Values) (log : Log) → ConnRepresents values ready.conn log
     → returns_before_put_out (log_view log) ≡ false → IsOk result) → result ≡ Err refused
     → WritesOut (HasAsked values asking) values start now before new unused (Err error)
-never_lost {values} {asking} now ready new result refused error so made returned free same =
+never_lost {values} asking now ready new result refused error so made returned free same =
     let there = writes_ready (HasAsked values asking) (puts_at values asking) so ready made in
     let conn = there.represents.streams.conn in
     let log = there.after.log in

@@ -1,6 +1,6 @@
 //! Fetching several responses over one link, each part by part.
 
-ghost use Rattle.std.specs.Prelude.{◌≡◌, ◌≢◌, ◌≤◌, ◌<◌, ◌-◌, ◌^◌, [], IfErr, IfOk, length, map};
+ghost use Rattle.std.specs.Prelude.{◌≡◌, ◌≢◌, ◌≤◌, ◌<◌, ◌-◌, ◌^◌, IfErr, IfOk, length, map};
 ghost use Rattle.h2_flow.specs.ConfigValues.{values_of};
 ghost use Rattle.h2_message.specs.Values.{message_value};
 ghost use Rattle.h2_engines.specs.Failures.{CutsOffAtEnd, IsOfClient, failures_at_end};
@@ -8,7 +8,7 @@ ghost use Rattle.h2_engines.specs.Linked.{traffic};
 
 use crate::asking::request_next;
 use crate::coming::{CameNext, take_came};
-use crate::kept::take_kept;
+use crate::kept::{keep, take_kept};
 use crate::part::ResponsePart;
 use crate::reading::read_piece;
 use crate::sending::end_early;
@@ -75,7 +75,9 @@ impl SeveralFetch {
         let mut ids = Vec::new(alloc);
         for message in messages {
             let id = request_next(&mut client, message)?;
-            ids.push(id)?;
+            if ids.push(id).is_err() {
+                return Err(LinkError::Memory);
+            }
         }
         Ok(SeveralFetch {
             alloc,
@@ -168,9 +170,7 @@ impl SeveralFetch {
                     if stream == id {
                         return Ok(Some(came));
                     }
-                    if self.kept.push_back((stream, came)).is_err() {
-                        return Err(LinkError::Memory);
-                    }
+                    keep(&mut self.kept, stream, came)?;
                 }
                 CameNext::Again => {}
                 CameNext::Done => return Ok(None),

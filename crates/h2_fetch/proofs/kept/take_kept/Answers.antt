@@ -1,7 +1,7 @@
 -- By the lemmas on what is kept.
 use Rattle.std.proofs.Common.{refl, sym, ◌∙◌}
 use Rattle.h2_fetch.specs.Kept.{TakesKept}
-use Rattle.h2_fetch.proofs.Kept.{first_kept, none_kept}
+use Rattle.h2_fetch.proofs.KeptParts.{first_kept, none_kept}
 use Rattle.h2_fetch.proofs.kept.take_kept.Goals as goal
 
 pub returns-in_err-at : goal.returns-in_err-at

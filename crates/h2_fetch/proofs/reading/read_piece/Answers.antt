@@ -2,7 +2,7 @@
 use Rattle.h2_engines.proofs.Names.{refl, ◌∙◌, inl, Appends-nil, err_from_is_err_and}
 use Rattle.h2_engines.proofs.MachineDrives.{gives_none, gives_piece}
 use Rattle.h2_link.specs.declared.error.LinkError.TheVariants as errors
-use Rattle.h2_fetch.proofs.Reading.{read_fails, read_none, read_some, read_unsent}
+use Rattle.h2_fetch.proofs.ReadPieces.{read_fails, read_none, read_some, read_unsent}
 use Rattle.h2_fetch.proofs.reading.read_piece.Goals as goal
 
 pub returns-in_err-send_all-clause-reads : goal.returns-in_err-send_all-clause-reads

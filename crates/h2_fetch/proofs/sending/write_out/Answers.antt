@@ -119,7 +119,7 @@ returns-in_err-unless_refused-2-clause-writes g c values asking start end unused
     let (refused, refusal, same, made, ends) = c.in_err-unless_refused-2.ensures.err in
     let answer = err_from_is_err_and c.from_residual-in_err-unless_refused-2.result
     c.from_residual-in_err-unless_refused-2.ensures.1 in
-    rw answer.1 (never_lost _ c.ready.new.self.end c.consume-consumed.new.self.end
+    rw answer.1 (never_lost asking _ c.ready.new.self.end c.consume-consumed.new.self.end
     c.consume-consumed.result refused answer.0
     (c.loop.invariant.writes values asking start end unused is was linked)
     (rw done at c.ready.ensures.answers) (rw done at c.ready.ensures.returned)
