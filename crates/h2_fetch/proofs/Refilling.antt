@@ -17,7 +17,7 @@ use Rattle.h2_fetch.proofs.Comings.{NextOn, going_first}
 use Rattle.h2_link.specs.declared.error.LinkError.TheVariants as errors
 
 -- What ends reading ends a fetch of one request so.
-stops_for : (start now : Traffic) (end : EndLog) (id : ℕ) (error : LinkError)
+pub stops_for : (start now : Traffic) (end : EndLog) (id : ℕ) (error : LinkError)
     → StopsAllFor start now end error → StopsFor start now end id error
 stops_for start now end id (errors.Reset number) so = absurd so
 stops_for start now end id error so = so

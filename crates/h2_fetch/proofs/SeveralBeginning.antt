@@ -5,7 +5,12 @@ use Names.{map_push, inl, inr, Contains, Client, Field, Values, AreInRange, Log,
 use Names.{SentMessage, call_given, is_head_alone, at_once, End, EndLog, EndRepresents, new_end_log}
 use Names.{EndRefusal, EndRequests, Message}
 use Names.{Open, Number, LinkError, Traffic, items_failed, opened, with_call, said_for, MayAsk, Act}
+use Names.{message_value}
+use Rattle.std.proofs.lemmas.List.{map-append}
 use Rattle.std.proofs.lemmas.List.Elements.{Contains-push_cases}
+use Rattle.std.specs.Iterator.{Yields}
+use Rattle.std.specs.Vec.Iter.{into_iter_items, into_iter_steps}
+use Rattle.std.specs.declared.vec.IntoIter.{IntoIter}
 use Rattle.h2_laws_end.proofs.OverNumbers.{opened_is_new}
 use Rattle.h2_laws_pair.proofs.Lists.{none_in}
 use Rattle.h2_ends.proofs.RequestHeads.{untouched}
@@ -57,6 +62,26 @@ opens_still : (log : Log) (list : List Field) (end : Bool) (id : ℕ)
     → (with_call log (Open list end) (Number id)).failed ≡ log.failed
 unfolding with_call
 opens_still log list end id = items_failed log (Open list end) (Number id)
+
+-- What was given of the messages is the beginning of them.
+given_first : {Z : Type 0} (start : IntoIter Message Z) (given : List Message)
+    (now : IntoIter Message Z) → Yields into_iter_steps start given now
+    → into_iter_items start ≡ given ++ into_iter_items now
+given_first start [] now yields = ap into_iter_items yields
+given_first start (message ∷ given) now yields =
+    yields.1.0 ∙ ap (λ (more : List Message). message ∷ more)
+    (given_first yields.0 given now yields.2)
+
+pub given_next : {Z : Type 0} (messages : List Message) (start : IntoIter Message Z)
+    (given : List Message) (now after : IntoIter Message Z) (message : Message)
+    → into_iter_items start ≡ messages → Yields into_iter_steps start given now
+    → into_iter_items now ≡ message ∷ into_iter_items after
+    → map message_value messages
+    ≡ map message_value given ++ message_value message ∷ map message_value (into_iter_items after)
+given_next messages start given now after message all yields next =
+    ap (map message_value) (sym all ∙ given_first start given now yields
+    ∙ ap (λ (more : List Message). given ++ more) next)
+    ∙ map-append message_value given (message ∷ into_iter_items after)
 
 -- One more was accepted, for a stream of its own.
 module _ {values : Values} {messages : List SentMessage} {old : End} (new : End) {ids : List ℕ}

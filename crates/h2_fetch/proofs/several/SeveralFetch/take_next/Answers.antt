@@ -31,7 +31,7 @@ pub returns-then-stream-id-clause-takes : goal.returns-then-stream-id-clause-tak
 returns-then-stream-id-clause-takes c =
     next_came c.args.self.now c.loop.self _ c.args.id c.loop.counter c.loop.invariant.takes refl
     c.in_ok-taken.taken refl refl (rw (c.deref.ensures.value, c.deref-in-loop.ensures.value) at c.in_ok-taken.ensures.takes)
-    c.in-On.stream c.in-On.came c.in-On.is c.if-stream-id.true refl
+    c.in-On.stream _ (rw c.in-On.is refl) c.if-stream-id.true refl
 
 pub loop-preserved : goal.loop-preserved
 loop-preserved c =
@@ -51,7 +51,7 @@ loop-preserved c =
             c.loop.invariant.takes refl c.in_ok-taken.taken refl refl
             (rw (c.deref.ensures.value, c.deref-in-loop.ensures.value)
             at c.in_ok-taken.ensures.takes)
-            w.in-On.stream w.in-On.came w.in-On.is w.if-stream-id.false
+            w.in-On.stream _ (rw w.in-On.is refl) w.if-stream-id.false
             w.in_ok-keep-in-On.ensures.ok;
       })
       | in-Again w ↦ rw w.self-is (record {
