@@ -6,7 +6,7 @@ use Names.{LinkError, StallsWriting, Traffic, error_with, said_for}
 use Rattle.h2_engines.proofs.MachineViews.{all_in_part}
 use Rattle.h2_engines.proofs.MachineWrites.{written_links}
 use Rattle.h2_engines.proofs.ResponderEnds.{same_itself}
-use Rattle.h2_fetch.specs.Comings.{EndsSo, HasTakenLast, StopsFor, TakesNoMore, fails}
+use Rattle.h2_fetch.specs.Comings.{EndsSo, StopsFor, TakesNoMore, fails}
 use Rattle.h2_fetch.specs.Comings.{lacks_memory, out_of_rounds, was_dropped}
 use Rattle.h2_fetch.specs.Parts.{handed_on}
 use Rattle.h2_fetch.specs.Reads.{EndedSo, EndsOver, ends_at_once, ends_failed}

@@ -1,12 +1,12 @@
 -- What is kept of streams, and the first that is kept of one.
-use Rattle.std.proofs.Common.{◌≡◌, ◌≢◌, ℕ, ◌<◌, ◌==◌, ◌+◌, ◌++◌, ◌∷◌, Bool, true, false, cond, not}
-use Rattle.std.proofs.Common.{List, [], length, Option, Some, None, refl, sym, ap, ◌∙◌, arith, take}
+use Rattle.std.proofs.Common.{◌≡◌, ◌≢◌, ℕ, ◌==◌, ◌+◌, ◌++◌, ◌∷◌, Bool, true, false, cond, not}
+use Rattle.std.proofs.Common.{List, [], Some, None, refl, sym, ap, ◌∙◌, arith, take}
 use Rattle.std.proofs.Common.{drop, subst, append-nil, append_assoc, slice_index_or, suc, inl, inr}
 use Rattle.std.proofs.lemmas.Bool.{cases_eq, ne_eqb}
 use Rattle.std.proofs.lemmas.List.{take_all}
 use Rattle.std.proofs.lemmas.List.Sums.{passes_at_first, split_at_first, take_while-cons}
 use Rattle.std.specs.List.{position_or_len, position, take_while, remove}
-use Rattle.std.specs.Prelude.{◌⊎◌, if◌then◌else◌}
+use Rattle.std.specs.Prelude.{◌⊎◌}
 use borrow.Author.Tests.{ltb-true, ltb-false, eqb-true}
 use Rattle.h2_ends.specs.Ends.{Handed}
 use Rattle.h2_fetch.specs.Kept.{TakesFirstKept, came_on, is_of}

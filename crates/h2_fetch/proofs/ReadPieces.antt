@@ -1,7 +1,7 @@
 -- What is sent before a piece is read, and what is read.
 use Rattle.h2_engines.proofs.Names
 use Names.{◌≡◌, ℕ, List, [], ◌++◌, Ok, Err, ◌∙◌, subst, ap, append-nil, Appends, Appends-trans}
-use Names.{Option, End, EndLog, EndsWriting, LinkError, Log, Traffic, HasGiven, None}
+use Names.{End, EndLog, EndsWriting, LinkError, Log, Traffic, HasGiven, None}
 use Rattle.h2_engines.proofs.MachineViews.{all_in_part}
 use Rattle.h2_engines.proofs.MachineWrites.{written_links}
 use Rattle.h2_fetch.specs.Reads.{ReadSo, ReadsOver}

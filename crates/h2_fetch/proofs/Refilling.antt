@@ -6,7 +6,7 @@ use Names.{subst, inr, arith, append-nil, EndLog, Handed, Result, Values, SentMe
 use Names.{LinkError, Traffic, said_for, IsLinked}
 use Rattle.h2_engines.proofs.MachineViews.{all_in_part}
 use Rattle.h2_fetch.specs.Comings.{AnswersNext, ComesSo, EndsSo, IsComing, Refills}
-use Rattle.h2_fetch.specs.Comings.{RefilledSo, StopsFor, TakesUntilPart, TookSo, octets_unused}
+use Rattle.h2_fetch.specs.Comings.{RefilledSo, StopsFor, TakesUntilPart, TookSo}
 use Rattle.h2_fetch.specs.Parts.{handed_of, handed_on}
 use Rattle.h2_fetch.specs.Reads.{ReadOver, ReadSo, ReadsOver}
 use Rattle.h2_fetch.specs.Sends.{AsksOne}

@@ -1,13 +1,11 @@
 -- What is answered next of a stream: the first that is kept of it, or what comes.
 use Rattle.h2_engines.proofs.Names
-use Names.{◌≡◌, ℕ, List, [], ◌∷◌, ◌++◌, Result, Ok, Err, Some, None, refl, sym, ap, ◌∙◌, subst, inl}
-use Names.{inr, Contains, Values, EndLog, LinkError, Traffic, first_in, later_in}
+use Names.{◌≡◌, ℕ, List, ◌∷◌, Result, Ok, Some, None, refl, subst, inl}
+use Names.{inr, Contains, LinkError, Traffic, first_in, later_in}
 use Rattle.std.proofs.lemmas.List.Elements.{Contains-append_cases, Contains-append_left}
 use Rattle.std.proofs.lemmas.List.Elements.{Contains-append_right}
-use Rattle.h2_engines.specs.Fetches.{WasDropped}
 use Rattle.h2_fetch.specs.Kept.{TakesFirstKept, TakesKept}
-use Rattle.h2_fetch.specs.Several.{AnsweredOn, AnswersNextOn, AreComing, AreDropped, Asked, CameSo}
-use Rattle.h2_fetch.specs.Several.{answered_next, kept_on}
+use Rattle.h2_fetch.specs.Several.{AnswersNextOn, CameSo}
 use Rattle.h2_fetch.specs.SeveralComings.{WaitsFor}
 use Rattle.h2_fetch.specs.declared.several.Came.{Came}
 use Rattle.h2_fetch.specs.declared.several.Came.TheVariants.{Dropped}

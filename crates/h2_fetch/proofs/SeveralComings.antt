@@ -1,29 +1,28 @@
 -- How the takes of a client that makes several requests follow one another.
 use Rattle.h2_engines.proofs.Names
-use Names.{◌≡◌, ◌≢◌, ◌≤◌, ◌<◌, ◌⊎◌, ℕ, ◌+◌, ◌-◌, ◌^◌, List, [], ◌∷◌, ◌++◌, length, take, drop, Option}
-use Names.{Some, None, Result, Ok, Err, refl, sym, ap, ◌∙◌, subst, inl, inr, arith, append-nil}
+use Names.{◌≡◌, ◌≤◌, ◌<◌, ℕ, ◌+◌, ◌-◌, List, [], ◌∷◌, ◌++◌, length, take, drop, Option}
+use Names.{None, Ok, refl, sym, ap, ◌∙◌, subst, inl, inr, arith}
 use Names.{drop-drop, drop_all, take_rest, Contains, Values, EndLog, EndRepresents, EndTook, Handed}
-use Names.{EndAnswer, EndFailed, EndMayTake, IsLinked, LinkError, Traffic, first_in, error_with}
+use Names.{EndMayTake, IsLinked, Traffic, first_in}
 use Rattle.std.proofs.lemmas.List.Elements.{Contains-push_cases}
 use Rattle.h2_engines.specs.Fetches.{WasDropped}
-use Rattle.h2_engines.specs.ServerSteps.{ErrsServing}
 use Rattle.h2_engines.proofs.ResponderEnds.{given_within}
-use Rattle.h2_engines.proofs.ServeLinkTakes.{links_first, took_links, takes_first}
-use Rattle.h2_engines.proofs.TakeMessages.{handed_after, kept_failed, taken_says}
-use Rattle.h2_engines.proofs.TurnsPassed.{turns_of_answer, turns_of_take}
+use Rattle.h2_engines.proofs.ServeLinkTakes.{took_links, takes_first}
+use Rattle.h2_engines.proofs.TakeMessages.{handed_after, taken_says}
+use Rattle.h2_engines.proofs.TurnsPassed.{turns_of_take}
 use Rattle.h2_fetch.specs.Kept.{came_on}
-use Rattle.h2_fetch.specs.Parts.{handed_on, is_on}
-use Rattle.h2_fetch.specs.Several.{AnsweredOn, AreComing, AreDropped, Asked, CameSo, answered_next}
+use Rattle.h2_fetch.specs.Parts.{handed_on}
+use Rattle.h2_fetch.specs.Several.{AnsweredOn, AreComing, AreDropped, Asked, answered_next}
 use Rattle.h2_fetch.specs.Several.{IsFetchingSeveral, kept_on, octets_unused, takes}
-use Rattle.h2_fetch.specs.SeveralComings.{HaveTakenLast, TakesNoneMore, TakesUntilCame, TookCame}
-use Rattle.h2_fetch.specs.SeveralComings.{fails, lacks_memory, out_of_rounds}
+use Rattle.h2_fetch.specs.SeveralComings.{HaveTakenLast}
+use Rattle.h2_fetch.specs.SeveralComings.{lacks_memory}
 use Rattle.h2_fetch.specs.SeveralTakes.{HandsCame, IsAsCame, TakesCameOnce, TakesCameSo}
 use Rattle.h2_fetch.specs.declared.coming.CameNext.TheVariants as nexts
 use Rattle.h2_fetch.specs.declared.coming.CameTaken.{CameTaken}
 use Rattle.h2_fetch.specs.declared.several.Came.{Came}
 use Rattle.h2_fetch.specs.declared.several.Came.TheVariants.{Dropped}
 use Rattle.h2_fetch.specs.declared.several.SeveralFetch.{SeveralFetch}
-use Rattle.h2_fetch.proofs.KeptParts.{none_more, parts_answered, parts_kept, parts_lost}
+use Rattle.h2_fetch.proofs.KeptParts.{parts_answered, parts_kept, parts_lost}
 use Rattle.h2_fetch.proofs.SeveralTaking.{IsNothing, dropped_as, handed_came, nothing_came}
 use Rattle.h2_fetch.proofs.SeveralTaking.{something_came, stay_dropped, stays_handed}
 use Rattle.h2_link.specs.declared.error.LinkError.TheVariants as errors

@@ -1,18 +1,17 @@
 -- What a client that makes several requests makes of octets, by what `take` has answered.
 use Rattle.h2_engines.proofs.Names
-use Names.{◌≡◌, ◌≢◌, ◌⊎◌, ℕ, Bool, true, false, List, [], ◌∷◌, ◌++◌, length, Option, Some, None, Ok}
-use Names.{Err, refl, sym, ap, ◌∙◌, append-nil, eq-eqb, ne_eqb, eqb-true, both_ways, inl, inr, subst}
-use Names.{Contains, End, EndLog, EndTook, EndFailed, Passed, InterimHanded, HeadHanded, BodyHanded}
-use Names.{TrailersHanded, Handed, EndTaken, EndTakes, LentPart, LinkError, ConnFault, event_handed}
-use Names.{ResetEvent, error_with, later_in, if◌then◌else◌, ◌==◌, EndAnswer}
-use Rattle.h2_spec_log.specs.Events.{UnprocessedEvent}
-use Rattle.h2_engines.specs.Fetches.{WasDropped, refused_stream}
+use Names.{◌≡◌, ◌≢◌, ℕ, false, List, ◌∷◌, ◌++◌, length, Option, Some, None, Ok}
+use Names.{Err, refl, ap, ◌∙◌, append-nil, inl, inr}
+use Names.{Contains, End, EndLog, EndTook, EndFailed}
+use Names.{Handed, EndTaken, EndTakes, LentPart, LinkError, ConnFault, event_handed}
+use Names.{error_with, later_in, EndAnswer}
+use Rattle.h2_engines.specs.Fetches.{WasDropped}
 use Rattle.h2_engines.specs.ServerSteps.{ErrsServing}
 use Rattle.h2_engines.proofs.TakeMessages.{handed_after}
 use Rattle.h2_fetch.specs.Kept.{came_on}
-use Rattle.h2_fetch.specs.Parts.{handed_of, handed_on, is_on}
+use Rattle.h2_fetch.specs.Parts.{handed_on, is_on}
 use Rattle.h2_fetch.specs.Several.{AreDropped}
-use Rattle.h2_fetch.specs.SeveralTakes.{HandsCame, IsAsCame, TakesCameOnce, TakesCameSo, stream_of}
+use Rattle.h2_fetch.specs.SeveralTakes.{HandsCame, IsAsCame, TakesCameOnce, TakesCameSo}
 use Rattle.h2_fetch.specs.declared.coming.CameNext.{CameNext}
 use Rattle.h2_fetch.specs.declared.coming.CameNext.TheVariants as nexts
 use Rattle.h2_fetch.specs.declared.part.ResponsePart.TheVariants as parts
@@ -67,44 +66,6 @@ unfolding TakesCameSo ErrsServing
 came_fault old new ids piece fault is takes values end represents =
     let (after, may, now) = takes values end represents in
     (after, now, (EndFailed fault.code, may, is))
-
--- What was handed out without a stream is no part of a message, nor is it one of another stream.
-pub off_all : (handed : Handed) → stream_of handed ≡ None → (i : ℕ) → is_on i handed ≡ false
-off_all (InterimHanded id list) none i = absurd (cc)
-off_all (HeadHanded id list end) none i = absurd (cc)
-off_all (BodyHanded id octets end) none i = absurd (cc)
-off_all (TrailersHanded id list) none i = absurd (cc)
-off_all (Passed event) none i = refl
-
-same_stream : {id stream : ℕ} → Some id ≡ Some stream → id ≡ stream
-same_stream is = cc
-
-elsewhere : (id stream i : ℕ) → Some id ≡ Some stream → i ≢ stream → (id == i) ≡ false
-elsewhere id stream i is other = ne_eqb id i (λ same. other (sym same ∙ same_stream is))
-
-pub off_others : (handed : Handed) (stream : ℕ) → stream_of handed ≡ Some stream → (i : ℕ)
-    → i ≢ stream → is_on i handed ≡ false
-off_others (InterimHanded id list) stream is i other = elsewhere id stream i is other
-off_others (HeadHanded id list end) stream is i other = elsewhere id stream i is other
-off_others (BodyHanded id octets end) stream is i other = elsewhere id stream i is other
-off_others (TrailersHanded id list) stream is i other = elsewhere id stream i is other
-off_others (Passed event) stream is i other = refl
-
--- What has a stream and isn't a part on it is no part at all.
-here : (id stream : ℕ) → Some id ≡ Some stream → (id == stream) ≡ true
-here id stream is = eq-eqb id stream (same_stream is)
-
-pub off_its_own : (handed : Handed) (stream : ℕ) → stream_of handed ≡ Some stream
-    → is_on stream handed ≡ false → (i : ℕ) → is_on i handed ≡ false
-off_its_own (InterimHanded id list) stream is off i =
-    absurd (both_ways (id == stream) off (here id stream is))
-off_its_own (HeadHanded id list end) stream is off i =
-    absurd (both_ways (id == stream) off (here id stream is))
-off_its_own (BodyHanded id octets end) stream is off i =
-    absurd (both_ways (id == stream) off (here id stream is))
-off_its_own (TrailersHanded id list) stream is off i =
-    absurd (both_ways (id == stream) off (here id stream is))
-off_its_own (Passed event) stream is off i = refl
 
 -- What was handed out last adds to its stream what has come there,
 pub handed_came : (i id : ℕ) (came : Came) (handed : Handed) (before : List Handed)

@@ -4,7 +4,7 @@ use Rattle.std.specs.Prelude.{Result, Ok, Err}
 use Rattle.std.specs.List.{Contains}
 use Rattle.h2_frame.specs.declared.code.Code.{Code}
 use Rattle.h2_spec_log.specs.Acts.{Values}
-use Rattle.h2_ends.specs.Ends.{EndLog, Handed}
+use Rattle.h2_ends.specs.Ends.{EndLog}
 use Rattle.h2_ends.specs.Represents.{EndRepresents}
 use Rattle.h2_link.specs.declared.error.LinkError.{LinkError}
 use Rattle.h2_link.specs.declared.error.LinkError.TheVariants as errors

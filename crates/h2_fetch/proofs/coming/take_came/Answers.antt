@@ -1,5 +1,5 @@
 -- By the lemmas on what a client takes.
-use Rattle.h2_engines.proofs.Names.{refl, arith, err_from_is_err_and}
+use Rattle.h2_engines.proofs.Names.{arith, err_from_is_err_and}
 use Rattle.h2_fetch.proofs.SeveralTaking.{came_fault, came_nothing, came_some, came_unkept}
 use Rattle.h2_fetch.specs.declared.coming.CameNext.TheVariants as nexts
 use Rattle.h2_fetch.proofs.coming.take_came.Goals as goal

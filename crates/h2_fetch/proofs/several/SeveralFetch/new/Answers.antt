@@ -1,5 +1,5 @@
 -- By the lemmas on requests that are made one after another.
-use Rattle.h2_engines.proofs.Names.{ap, ◌≡◌, ◌∙◌, ◌++◌, ◌∷◌, [], List, ℕ, length, map, sym, subst}
+use Rattle.h2_engines.proofs.Names.{ap, ◌≡◌, ◌∙◌, ◌++◌, ◌∷◌, [], List, length, map, sym, subst}
 use Rattle.h2_engines.proofs.Names.{arith, rules, Message, SentMessage, err_from_is_err_and}
 use Rattle.h2_engines.proofs.Names.{map_push, message_value}
 use Rattle.std.proofs.Common.{map-id}
