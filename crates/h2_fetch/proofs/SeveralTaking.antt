@@ -4,14 +4,15 @@ use Names.{◌≡◌, ◌≢◌, ℕ, false, List, ◌∷◌, ◌++◌, length, 
 use Names.{Err, refl, ap, ◌∙◌, append-nil, inl, inr}
 use Names.{Contains, End, EndLog, EndTook, EndFailed}
 use Names.{Handed, EndTaken, EndTakes, LentPart, LinkError, ConnFault, event_handed}
-use Names.{error_with, later_in, EndAnswer}
+use Names.{error_with, later_in, EndAnswer, InterimHanded, HeadHanded, BodyHanded}
+use Names.{TrailersHanded, Passed, ne_eqb, ◌==◌}
 use Rattle.h2_engines.specs.Fetches.{WasDropped}
 use Rattle.h2_engines.specs.ServerSteps.{ErrsServing}
 use Rattle.h2_engines.proofs.TakeMessages.{handed_after}
 use Rattle.h2_fetch.specs.Kept.{came_on}
 use Rattle.h2_fetch.specs.Parts.{handed_on, is_on}
 use Rattle.h2_fetch.specs.Several.{AreDropped}
-use Rattle.h2_fetch.specs.SeveralTakes.{HandsCame, IsAsCame, TakesCameOnce, TakesCameSo}
+use Rattle.h2_fetch.specs.SeveralTakes.{HandsCame, IsAsCame, TakesCameOnce, TakesCameSo, stream_of}
 use Rattle.h2_fetch.specs.declared.coming.CameNext.{CameNext}
 use Rattle.h2_fetch.specs.declared.coming.CameNext.TheVariants as nexts
 use Rattle.h2_fetch.specs.declared.part.ResponsePart.TheVariants as parts
@@ -80,6 +81,16 @@ handed_came i id (Dropped code) handed before (inl reset) = rw reset.1 refl
 handed_came i id (Dropped code) handed before (inr left) = rw left.1 refl
 
 -- and nothing to one where nothing has.
+off_by : (i id : ℕ) → Some id ≢ Some i → (id == i) ≡ false
+off_by i id other = ne_eqb id i (λ same. other (ap Some same))
+
+off_stream : (i : ℕ) (handed : Handed) → stream_of handed ≢ Some i → is_on i handed ≡ false
+off_stream i (InterimHanded id list) other = off_by i id other
+off_stream i (HeadHanded id list end) other = off_by i id other
+off_stream i (BodyHanded id octets end) other = off_by i id other
+off_stream i (TrailersHanded id list) other = off_by i id other
+off_stream i (Passed event) other = refl
+
 handed_off : (i : ℕ) (handed : Handed) (before : List Handed) → is_on i handed ≡ false
     → handed_on i (handed ∷ before) ≡ handed_on i before
 unfolding handed_on
@@ -93,9 +104,9 @@ nothing_came ids next count None before nothing hands same i one = ap (handed_on
 nothing_came ids (nexts.On id came) count (Some handed) before nothing hands same i one =
     absurd nothing
 nothing_came ids nexts.Again count (Some handed) before nothing hands same i one =
-    ap (handed_on i) same ∙ handed_off i handed before (hands i one)
+    ap (handed_on i) same ∙ handed_off i handed before (off_stream i handed (hands i one))
 nothing_came ids nexts.Done count (Some handed) before nothing hands same i one =
-    ap (handed_on i) same ∙ handed_off i handed before (hands i one)
+    ap (handed_on i) same ∙ handed_off i handed before (off_stream i handed (hands i one))
 
 -- Where something has come on a stream, it was handed out.
 pub something_came : (ids : List ℕ) (id : ℕ) (came : Came) {next : CameNext} (count : ℕ)

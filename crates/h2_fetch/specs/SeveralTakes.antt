@@ -1,5 +1,5 @@
 -- What a call of `take` has made of a client that makes several requests.
-use Rattle.std.specs.Prelude.{◌≡◌, ◌⊎◌, ℕ, Bool, false, List, length, Option, Some, None}
+use Rattle.std.specs.Prelude.{◌≡◌, ◌≢◌, ◌⊎◌, ℕ, Bool, List, length, Option, Some, None}
 use Rattle.std.specs.Prelude.{Result, Ok, Err}
 use Rattle.std.specs.List.{Contains}
 use Rattle.h2_spec_log.specs.Acts.{Values}
@@ -20,7 +20,7 @@ use Rattle.h2_fetch.specs.declared.coming.CameNext.TheVariants as nexts
 use Rattle.h2_fetch.specs.declared.coming.CameTaken.{CameTaken}
 use Rattle.h2_fetch.specs.declared.several.Came.{Came}
 use Rattle.h2_fetch.specs.declared.several.Came.TheVariants.{Part, Dropped}
-use Rattle.h2_fetch.specs.Parts.{handed_of, is_on}
+use Rattle.h2_fetch.specs.Parts.{handed_of}
 use Rattle.h2_fetch.specs.Several.{error_of_request}
 
 -- the stream of what was handed out, where that is a part of a message, or no more comes on it
@@ -45,7 +45,7 @@ abbrev pub HandsCame : (ids : List ℕ) → Option Handed → CameNext → Type 
 HandsCame ids None (nexts.On id came) = ⊥
 HandsCame ids None next = Unit {0}
 HandsCame ids (Some handed) (nexts.On id came) = IsAsCame id came handed
-HandsCame ids (Some handed) next = (i : ℕ) → Contains ids i → is_on i handed ≡ false
+HandsCame ids (Some handed) next = (i : ℕ) → Contains ids i → stream_of handed ≢ Some i
 
 -- what came of the octets that were handed to it: something on one of these streams, nothing with
 -- some octets left, or nothing and all of them used
