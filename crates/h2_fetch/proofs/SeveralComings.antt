@@ -172,12 +172,12 @@ module _ {values : Values} {start now : Traffic} {asked : List Asked} {old : Sev
     more_dropped : AreDropped took.after (old.kept.items ++ (stream, came) ∷ [])
     more_dropped id code one = elim (Contains-push_cases old.kept.items (stream, came)
         (id, Dropped code) one) [
-      | inl was ↦ still_dropped id code was
-      | inr same ↦
-          let here : stream ≡ id = ap (λ (pair : ℕ × Came). pair.0) same in
-          let dropped : came ≡ Dropped code = ap (λ (pair : ℕ × Came). pair.1) same in
-          subst (λ (i : ℕ). WasDropped took.after i code) here (came_dropped code dropped)
-    ]
+          | inl was ↦ still_dropped id code was
+          | inr same ↦
+              let here : stream ≡ id = ap (λ (pair : ℕ × Came). pair.0) same in
+              let dropped : came ≡ Dropped code = ap (λ (pair : ℕ × Came). pair.1) same in
+              subst (λ (i : ℕ). WasDropped took.after i code) here (came_dropped code dropped)
+        ]
 
     pub came_kept : new.kept.items ≡ old.kept.items ++ (stream, came) ∷ []
         → AreComing values start now asked new took.after answered

@@ -78,8 +78,7 @@ module _ (old middle new : SeveralFetch) (id rounds : ℕ) (on : TakesCame old m
     next_came stream came next same kept values start now asked end answered is none =
         let go = on values start now asked end answered is none in
         let took = taken_came new go.coming taken input used part in
-        let first : kept_on stream middle.kept.items ≡ [] = rw same go.none in
-        (
+        let first : kept_on stream middle.kept.items ≡ [] = rw same go.none in (
           took.after,
           subst (λ (i : ℕ). AreComing values start now asked new took.after
               (answered_next answered i came)) same

@@ -26,11 +26,7 @@ fn place_of(kept: &VecDeque<(u32, Came)>, id: u32) -> Option<usize>
 
 // rule: engines (own) Responses of several requests are what is handed out, each in order
 /// Keeps what has come on a stream, after all that is kept.
-pub(crate) fn keep(
-    kept: &mut VecDeque<(u32, Came)>,
-    id: u32,
-    came: Came,
-) -> Result<(), AllocError>
+pub(crate) fn keep(kept: &mut VecDeque<(u32, Came)>, id: u32, came: Came) -> Result<(), AllocError>
     ensures ok { OnOk result (kept.new.items ≡ kept.old.items ++ (id, came) ∷ []) }
     ensures err { OnErr result (kept.new.items ≡ kept.old.items) }
 {
