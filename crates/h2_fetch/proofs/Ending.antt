@@ -1,13 +1,13 @@
 -- How a fetch ends that can't go on.
 use Rattle.h2_engines.proofs.Names
-use Names.{◌≡◌, ◌≢◌, ℕ, List, [], Option, None, Some, Ok, Err, refl, sym, ap, ◌∙◌, inl, inr, Values}
-use Names.{Code, InternalError, End, EndLog, EndRepresents, EndsWriting, Handed, HasTakenAll}
-use Names.{LinkError, StallsWriting, Traffic, error_with, said_for}
+use Names.{◌≡◌, ◌≢◌, ℕ, List, [], Option, None, Some, Ok, Err, refl, sym, ap, ◌∙◌, inl, inr}
+use Names.{Values, Code, InternalError, End, EndLog, EndRepresents, EndsWriting, Handed}
+use Names.{HasTakenAll, LinkError, StallsWriting, Traffic, error_with, said_for}
 use Rattle.h2_engines.proofs.MachineViews.{all_in_part}
 use Rattle.h2_engines.proofs.MachineWrites.{written_links}
 use Rattle.h2_engines.proofs.ResponderEnds.{same_itself}
-use Rattle.h2_fetch.specs.Comings.{EndsSo, StopsFor, TakesNoMore, fails}
-use Rattle.h2_fetch.specs.Comings.{lacks_memory, out_of_rounds, was_dropped}
+use Rattle.h2_fetch.specs.Comings.{EndsSo, StopsFor, TakesNoMore, fails, lacks_memory}
+use Rattle.h2_fetch.specs.Comings.{out_of_rounds, was_dropped}
 use Rattle.h2_fetch.specs.Parts.{handed_on}
 use Rattle.h2_fetch.specs.Reads.{EndedSo, EndsOver, ends_at_once, ends_failed}
 use Rattle.h2_fetch.specs.Sends.{AsksOne, WritesOver}

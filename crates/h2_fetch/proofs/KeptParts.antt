@@ -1,7 +1,7 @@
 -- What is kept of streams, and the first that is kept of one.
 use Rattle.std.proofs.Common.{◌≡◌, ◌≢◌, ℕ, ◌==◌, ◌+◌, ◌++◌, ◌∷◌, Bool, true, false, cond, not}
-use Rattle.std.proofs.Common.{List, [], Some, None, refl, sym, ap, ◌∙◌, arith, take}
-use Rattle.std.proofs.Common.{drop, subst, append-nil, append_assoc, slice_index_or, suc, inl, inr}
+use Rattle.std.proofs.Common.{List, [], Some, None, refl, sym, ap, ◌∙◌, arith, take, drop, subst}
+use Rattle.std.proofs.Common.{append-nil, append_assoc, slice_index_or, suc, inl, inr}
 use Rattle.std.proofs.lemmas.Bool.{cases_eq, ne_eqb}
 use Rattle.std.proofs.lemmas.List.{take_all}
 use Rattle.std.proofs.lemmas.List.Sums.{passes_at_first, split_at_first, take_while-cons}

@@ -1,12 +1,12 @@
 -- What a client whose response comes in parts makes of a piece that is read; and how `next` goes
 -- on then.
 use Rattle.h2_engines.proofs.Names
-use Names.{◌≡◌, ℕ, ◌+◌, ◌-◌, ◌^◌, ◌≤◌, List, [], ◌++◌, ◌∷◌, Some, None, Ok, Err, refl, sym, ap, ◌∙◌}
-use Names.{subst, inr, arith, append-nil, EndLog, Handed, Result, Values, SentMessage}
+use Names.{◌≡◌, ℕ, ◌+◌, ◌-◌, ◌^◌, ◌≤◌, List, [], ◌++◌, ◌∷◌, Some, None, Ok, Err, refl, sym, ap}
+use Names.{◌∙◌, subst, inr, arith, append-nil, EndLog, Handed, Result, Values, SentMessage}
 use Names.{LinkError, Traffic, said_for, IsLinked}
 use Rattle.h2_engines.proofs.MachineViews.{all_in_part}
-use Rattle.h2_fetch.specs.Comings.{AnswersNext, ComesSo, EndsSo, IsComing, Refills}
-use Rattle.h2_fetch.specs.Comings.{RefilledSo, StopsFor, TakesUntilPart, TookSo}
+use Rattle.h2_fetch.specs.Comings.{AnswersNext, ComesSo, EndsSo, IsComing, Refills, RefilledSo}
+use Rattle.h2_fetch.specs.Comings.{StopsFor, TakesUntilPart, TookSo}
 use Rattle.h2_fetch.specs.Parts.{handed_of, handed_on}
 use Rattle.h2_fetch.specs.Reads.{ReadOver, ReadSo, ReadsOver}
 use Rattle.h2_fetch.specs.Sends.{AsksOne}

@@ -1,8 +1,8 @@
 -- What is sent over a link in rounds: credit and what waits of the request, and then all output.
 use Rattle.h2_engines.proofs.Names
-use Names.{◌≡◌, ◌≤◌, ℕ, ◌+◌, ◌-◌, ◌^◌, List, length, None, Result, Ok, Err, ◌∙◌}
-use Names.{inl, inr, arith, Values, End, EndLog, EndRepresents, LinkError}
-use Names.{EndRefusal, MayPump, MayReleaseAll, EndsWriting, IsSameOfMessages, SendsWaiting, StallsWriting, Traffic, IsLinked, sends}
+use Names.{◌≡◌, ◌≤◌, ℕ, ◌+◌, ◌-◌, ◌^◌, List, length, None, Result, Ok, Err, ◌∙◌, inl, inr, arith}
+use Names.{Values, End, EndLog, EndRepresents, LinkError, EndRefusal, MayPump, MayReleaseAll}
+use Names.{EndsWriting, IsSameOfMessages, SendsWaiting, StallsWriting, Traffic, IsLinked, sends}
 use Rattle.h2_engines.specs.ClientHistories.{pumps as one_pumps, releases as one_releases}
 use Rattle.h2_engines.specs.WithoutLink.{HasSent, has_failed, releases_no_more, sends_no_more}
 use Rattle.h2_engines.proofs.MachineWrites.{written_links}

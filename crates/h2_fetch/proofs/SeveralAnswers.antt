@@ -1,7 +1,7 @@
 -- What is answered next of a stream: the first that is kept of it, or what comes.
 use Rattle.h2_engines.proofs.Names
-use Names.{◌≡◌, ℕ, List, ◌∷◌, Result, Ok, Some, None, refl, subst, inl}
-use Names.{inr, Contains, LinkError, Traffic, first_in, later_in}
+use Names.{◌≡◌, ℕ, List, ◌∷◌, Result, Ok, Some, None, refl, subst, inl, inr, Contains, LinkError}
+use Names.{Traffic, first_in, later_in}
 use Rattle.std.proofs.lemmas.List.Elements.{Contains-append_cases, Contains-append_left}
 use Rattle.std.proofs.lemmas.List.Elements.{Contains-append_right}
 use Rattle.h2_fetch.specs.Kept.{TakesFirstKept, TakesKept}

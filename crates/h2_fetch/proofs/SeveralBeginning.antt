@@ -2,10 +2,9 @@
 use Rattle.h2_engines.proofs.Names
 use Names.{◌≡◌, ◌≢◌, ℕ, Bool, List, [], ◌∷◌, ◌++◌, Some, None, Ok, Err, refl, sym, ap, ◌∙◌, map}
 use Names.{map_push, inl, inr, Contains, Client, Field, Values, AreInRange, Log, Keeps-call}
-use Names.{SentMessage, call_given, is_head_alone, at_once, End, EndLog, EndRepresents, new_end_log}
-use Names.{EndRefusal, EndRequests, Message}
-use Names.{Open, Number, LinkError, items_failed, with_call, said_for, MayAsk}
-use Names.{message_value}
+use Names.{SentMessage, call_given, is_head_alone, at_once, End, EndLog, EndRepresents}
+use Names.{new_end_log, EndRefusal, EndRequests, Message, Open, Number, LinkError, items_failed}
+use Names.{with_call, said_for, MayAsk, message_value}
 use Rattle.std.proofs.lemmas.List.{map-append}
 use Rattle.std.proofs.lemmas.List.Elements.{Contains-push_cases}
 use Rattle.std.specs.Iterator.{Yields}

@@ -1,9 +1,9 @@
 -- How the takes of a client that makes several requests follow one another.
 use Rattle.h2_engines.proofs.Names
-use Names.{◌≡◌, ◌≤◌, ◌<◌, ℕ, ◌+◌, ◌-◌, List, [], ◌∷◌, ◌++◌, length, take, drop, Option}
-use Names.{None, Ok, refl, sym, ap, ◌∙◌, subst, inl, inr, arith}
-use Names.{drop-drop, drop_all, take_rest, Contains, Values, EndLog, EndRepresents, EndTook, Handed}
-use Names.{EndMayTake, IsLinked, Traffic, first_in}
+use Names.{◌≡◌, ◌≤◌, ◌<◌, ℕ, ◌+◌, ◌-◌, List, [], ◌∷◌, ◌++◌, length, take, drop, Option, None, Ok}
+use Names.{refl, sym, ap, ◌∙◌, subst, inl, inr, arith, drop-drop, drop_all, take_rest, Contains}
+use Names.{Values, EndLog, EndRepresents, EndTook, Handed, EndMayTake, IsLinked, Traffic}
+use Names.{first_in}
 use Rattle.std.proofs.lemmas.List.Elements.{Contains-push_cases}
 use Rattle.h2_engines.specs.Fetches.{WasDropped}
 use Rattle.h2_engines.proofs.ResponderEnds.{given_within}
@@ -14,8 +14,7 @@ use Rattle.h2_fetch.specs.Kept.{came_on}
 use Rattle.h2_fetch.specs.Parts.{handed_on}
 use Rattle.h2_fetch.specs.Several.{AnsweredOn, AreComing, AreDropped, Asked, answered_next}
 use Rattle.h2_fetch.specs.Several.{IsFetchingSeveral, kept_on, octets_unused, takes}
-use Rattle.h2_fetch.specs.SeveralComings.{HaveTakenLast}
-use Rattle.h2_fetch.specs.SeveralComings.{lacks_memory}
+use Rattle.h2_fetch.specs.SeveralComings.{HaveTakenLast, lacks_memory}
 use Rattle.h2_fetch.specs.SeveralTakes.{HandsCame, IsAsCame, TakesCameOnce, TakesCameSo}
 use Rattle.h2_fetch.specs.declared.coming.CameNext.TheVariants as nexts
 use Rattle.h2_fetch.specs.declared.coming.CameTaken.{CameTaken}

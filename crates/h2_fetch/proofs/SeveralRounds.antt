@@ -1,7 +1,7 @@
 -- What the rounds make of octets that were read, at a client that makes several requests.
 use Rattle.h2_engines.proofs.Names
-use Names.{◌≡◌, ◌≢◌, ◌≤◌, ℕ, ◌+◌, ◌-◌, ◌^◌, List, [], ◌∷◌, ◌++◌, Some, None, Ok, Err}
-use Names.{refl, sym, ap, ◌∙◌, subst, arith, append-nil, Contains, Values, EndLog, EndTook, Handed}
+use Names.{◌≡◌, ◌≢◌, ◌≤◌, ℕ, ◌+◌, ◌-◌, ◌^◌, List, [], ◌∷◌, ◌++◌, Some, None, Ok, Err, refl, sym}
+use Names.{ap, ◌∙◌, subst, arith, append-nil, Contains, Values, EndLog, EndTook, Handed}
 use Names.{EndAnswer, EndFailed, EndMayTake, LinkError, Traffic, append_assoc, if◌then◌else◌}
 use Rattle.h2_engines.specs.Fetches.{WasDropped}
 use Rattle.h2_engines.specs.ServerSteps.{ErrsServing}
@@ -11,8 +11,8 @@ use Rattle.h2_engines.proofs.TakeMessages.{kept_failed, taken_says}
 use Rattle.h2_fetch.specs.Parts.{handed_on, is_on}
 use Rattle.h2_fetch.specs.Several.{AnsweredOn, AreComing, Asked, CameSo, kept_on, octets_unused}
 use Rattle.h2_fetch.specs.Several.{answered_next, takes}
-use Rattle.h2_fetch.specs.SeveralComings.{TakesNoneMore, TakesUntilCame, TookCame}
-use Rattle.h2_fetch.specs.SeveralComings.{fails, lacks_memory, out_of_rounds}
+use Rattle.h2_fetch.specs.SeveralComings.{TakesNoneMore, TakesUntilCame, TookCame, fails}
+use Rattle.h2_fetch.specs.SeveralComings.{lacks_memory, out_of_rounds}
 use Rattle.h2_fetch.specs.SeveralTakes.{TakesCameOnce, TakesCameSo}
 use Rattle.h2_fetch.specs.declared.coming.CameNext.TheVariants as nexts
 use Rattle.h2_fetch.specs.declared.coming.CameTaken.{CameTaken}

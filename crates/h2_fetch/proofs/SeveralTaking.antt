@@ -1,18 +1,17 @@
 -- What a client that makes several requests makes of octets, by what `take` has answered.
 use Rattle.h2_engines.proofs.Names
-use Names.{◌≡◌, ◌≢◌, ℕ, false, List, ◌∷◌, ◌++◌, length, Option, Some, None, Ok}
-use Names.{Err, refl, ap, ◌∙◌, append-nil, inl, inr}
-use Names.{Contains, End, EndLog, EndTook, EndFailed}
-use Names.{Handed, EndTaken, EndTakes, LentPart, LinkError, ConnFault, event_handed}
-use Names.{error_with, later_in, EndAnswer, InterimHanded, HeadHanded, BodyHanded}
-use Names.{TrailersHanded, Passed, ne_eqb, ◌==◌}
+use Names.{◌≡◌, ◌≢◌, ℕ, false, List, ◌∷◌, ◌++◌, length, Option, Some, None, Ok, Err, refl, ap}
+use Names.{◌∙◌, append-nil, inl, inr, Contains, End, EndLog, EndTook, EndFailed, Handed, EndTaken}
+use Names.{EndTakes, LentPart, LinkError, ConnFault, event_handed, error_with, later_in}
+use Names.{EndAnswer, InterimHanded, HeadHanded, BodyHanded, TrailersHanded, Passed, ne_eqb, ◌==◌}
 use Rattle.h2_engines.specs.Fetches.{WasDropped}
 use Rattle.h2_engines.specs.ServerSteps.{ErrsServing}
 use Rattle.h2_engines.proofs.TakeMessages.{handed_after}
 use Rattle.h2_fetch.specs.Kept.{came_on}
 use Rattle.h2_fetch.specs.Parts.{handed_on, is_on}
 use Rattle.h2_fetch.specs.Several.{AreDropped}
-use Rattle.h2_fetch.specs.SeveralTakes.{HandsCame, IsAsCame, TakesCameOnce, TakesCameSo, stream_of}
+use Rattle.h2_fetch.specs.SeveralTakes.{HandsCame, IsAsCame, TakesCameOnce, TakesCameSo}
+use Rattle.h2_fetch.specs.SeveralTakes.{stream_of}
 use Rattle.h2_fetch.specs.declared.coming.CameNext.{CameNext}
 use Rattle.h2_fetch.specs.declared.coming.CameNext.TheVariants as nexts
 use Rattle.h2_fetch.specs.declared.part.ResponsePart.TheVariants as parts

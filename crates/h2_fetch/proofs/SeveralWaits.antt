@@ -1,18 +1,16 @@
 -- How a client that makes several requests waits for the next of one.
 use Rattle.h2_engines.proofs.Names
-use Names.{◌≡◌, ◌≢◌, ◌≤◌, ℕ, ◌+◌, ◌-◌, ◌^◌, List, [], ◌++◌, Some, None, Result, Ok, Err}
-use Names.{refl, sym, ap, ◌∙◌, subst, inl, inr, arith, append-nil, Contains, Code, Values, EndLog}
+use Names.{◌≡◌, ◌≢◌, ◌≤◌, ℕ, ◌+◌, ◌-◌, ◌^◌, List, [], ◌++◌, Some, None, Result, Ok, Err, refl}
+use Names.{sym, ap, ◌∙◌, subst, inl, inr, arith, append-nil, Contains, Code, Values, EndLog}
 use Names.{EndRepresents, Handed, IsLinked, LinkError, Traffic, error_with}
 use Rattle.h2_engines.proofs.MachineViews.{all_in_part}
 use Rattle.h2_fetch.specs.Reads.{EndedSo, EndsOver, ReadOver, ReadSo, ReadsOver, ends_at_once}
 use Rattle.h2_fetch.specs.Reads.{ends_failed}
 use Rattle.h2_fetch.specs.Sends.{AsksSeveral}
-use Rattle.h2_fetch.specs.Several.{AnsweredOn, AreComing, Asked, CameSo}
-use Rattle.h2_fetch.specs.Several.{IsFetchingSeveral, StopsAllFor}
-use Rattle.h2_fetch.specs.Several.{kept_on, octets_unused}
-use Rattle.h2_fetch.specs.SeveralComings.{FilledSo, FillsSeveral, TakesNoneMore}
-use Rattle.h2_fetch.specs.SeveralComings.{TakesUntilCame, TookCame, WaitsFor, fails, lacks_memory}
-use Rattle.h2_fetch.specs.SeveralComings.{out_of_rounds}
+use Rattle.h2_fetch.specs.Several.{AnsweredOn, AreComing, Asked, CameSo, IsFetchingSeveral}
+use Rattle.h2_fetch.specs.Several.{StopsAllFor, kept_on, octets_unused}
+use Rattle.h2_fetch.specs.SeveralComings.{FilledSo, FillsSeveral, TakesNoneMore, TakesUntilCame}
+use Rattle.h2_fetch.specs.SeveralComings.{TookCame, WaitsFor, fails, lacks_memory, out_of_rounds}
 use Rattle.h2_fetch.specs.declared.several.Came.{Came}
 use Rattle.h2_fetch.specs.declared.several.SeveralFetch.{SeveralFetch}
 use Rattle.h2_fetch.proofs.SeveralComings.{AreGoing, are_going}

@@ -1,7 +1,7 @@
 -- What waits is written, whatever has happened at a client that has made requests.
-use Rattle.h2_engines.proofs.Names.{ℕ, List, Values, End, EndLog, EndRepresents}
-use Rattle.h2_engines.proofs.Names.{Traffic, IsLinked, ◌≡◌, IsOk, Result, Ok, Err, Refusal}
-use Rattle.h2_engines.proofs.Names.{LinkError, EndAnswers, PutOut, Count, Log, ConnRepresents}
+use Rattle.h2_engines.proofs.Names.{ℕ, List, Values, End, EndLog, EndRepresents, Traffic}
+use Rattle.h2_engines.proofs.Names.{IsLinked, ◌≡◌, IsOk, Result, Ok, Err, Refusal, LinkError}
+use Rattle.h2_engines.proofs.Names.{EndAnswers, PutOut, Count, Log, ConnRepresents}
 use Rattle.h2_engines.proofs.Names.{returns_before_put_out, log_view, false, WritesOut}
 use Rattle.h2_engines.specs.ClientHistories.{gives_out as one_gives_out}
 use Rattle.h2_engines.proofs.ResponderWrites.{MayPutOut, WritesOn, writes_ready}

@@ -1,13 +1,13 @@
 -- What a call of `take` has made of a client that makes several requests.
-use Rattle.std.specs.Prelude.{◌≡◌, ◌≢◌, ◌⊎◌, ℕ, Bool, List, length, Option, Some, None}
-use Rattle.std.specs.Prelude.{Result, Ok, Err}
+use Rattle.std.specs.Prelude.{◌≡◌, ◌≢◌, ◌⊎◌, ℕ, Bool, List, length, Option, Some, None, Result}
+use Rattle.std.specs.Prelude.{Ok, Err}
 use Rattle.std.specs.List.{Contains}
 use Rattle.h2_spec_log.specs.Acts.{Values}
 use Rattle.h2_spec_log.specs.Events.{ResetEvent, UnprocessedEvent}
 use Rattle.h2_message.specs.Messages.{SentMessage}
 use Rattle.h2_ends.specs.declared.end.End.{End}
-use Rattle.h2_ends.specs.Ends.{EndLog, Handed, EndAnswer, EndTook, Passed, InterimHanded, HeadHanded}
-use Rattle.h2_ends.specs.Ends.{BodyHanded, TrailersHanded}
+use Rattle.h2_ends.specs.Ends.{EndLog, Handed, EndAnswer, EndTook, Passed, InterimHanded}
+use Rattle.h2_ends.specs.Ends.{HeadHanded, BodyHanded, TrailersHanded}
 use Rattle.h2_ends.specs.EndTakes.{EndMayTake}
 use Rattle.h2_ends.specs.EndCalls.{MayRequest}
 use Rattle.h2_ends.specs.declared.refusal.EndRefusal.{EndRefusal}

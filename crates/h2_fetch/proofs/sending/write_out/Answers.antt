@@ -1,6 +1,6 @@
 -- By the lemmas on output that is written.
-use Rattle.h2_engines.proofs.Names.{refl, ap, sym, ◌∙◌, arith, err_from_is_err_and}
-use Rattle.h2_engines.proofs.Names.{error_after, traffic}
+use Rattle.h2_engines.proofs.Names.{refl, ap, sym, ◌∙◌, arith, err_from_is_err_and, error_after}
+use Rattle.h2_engines.proofs.Names.{traffic}
 use Rattle.h2_link.specs.Links.{WritesAll}
 use Rattle.h2_fetch.specs.Sends.{HasAsked}
 use Rattle.h2_fetch.proofs.Writing.{never_lost, puts_at}

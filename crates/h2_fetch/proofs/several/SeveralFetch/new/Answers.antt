@@ -19,9 +19,10 @@ pub returns-in_err-id-clause-err : goal.returns-in_err-id-clause-err
 returns-in_err-id-clause-err c =
     let answer = err_from_is_err_and c.from_residual.result c.from_residual.ensures.1 in
     rw (answer.1, answer.2) (refuses_one c.request_next.new.client.end c.loop-message.invariant
-    (message_value c.in-Some.message) c.in_err-id.field-0.0 (map message_value c.args.messages.items)
-    _ (given_next c.args.messages.items c.into_iter-message-iterator.result
-    c.loop-message.yielded c.loop-message.message-iterator c.next.new.self c.in-Some.message
+    (message_value c.in-Some.message) c.in_err-id.field-0.0
+    (map message_value c.args.messages.items) _ (given_next c.args.messages.items
+    c.into_iter-message-iterator.result c.loop-message.yielded c.loop-message.message-iterator
+    c.next.new.self c.in-Some.message
     c.into_iter-message-iterator.ensures.into_iter_gives.0 c.loop-message.yielded_by
     c.in-Some.ensures.steps.0) c.in_err-id.ensures)
 

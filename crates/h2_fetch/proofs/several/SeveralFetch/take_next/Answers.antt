@@ -1,11 +1,10 @@
 -- By the lemmas on how takes follow one another.
 use Rattle.h2_engines.proofs.Names.{refl, arith, ◌+◌, ◌≤◌, length, err_from_is_err_and}
 use Rattle.std.proofs.Common.{length-drop}
-use Rattle.h2_fetch.proofs.SeveralRounds.{came_first, next_came, next_done, next_failed, next_kept}
-use Rattle.h2_fetch.proofs.SeveralRounds.{next_lost, next_nothing, next_out}
-use Rattle.h2_fetch.proofs.several.SeveralFetch.take_next.Goals.{in-Again}
-use Rattle.h2_fetch.proofs.several.SeveralFetch.take_next.Goals.{in-On+else-stream-id+in_ok-keep-in-On}
+use Rattle.h2_fetch.proofs.SeveralRounds.{came_first, next_came, next_done, next_failed}
+use Rattle.h2_fetch.proofs.SeveralRounds.{next_kept, next_lost, next_nothing, next_out}
 use Rattle.h2_fetch.proofs.several.SeveralFetch.take_next.Goals as goal
+use goal.{in-Again, in-On+else-stream-id+in_ok-keep-in-On}
 
 pub loop-init : goal.loop-init
 loop-init c = record {
@@ -24,13 +23,15 @@ returns-in_err-taken-clause-takes c =
 pub returns-in-Done-clause-takes : goal.returns-in-Done-clause-takes
 returns-in-Done-clause-takes c =
     next_done c.args.self.now c.loop.self _ c.args.id c.loop.counter c.loop.invariant.takes refl
-    c.in_ok-taken.taken refl refl (rw (c.deref.ensures.value, c.deref-in-loop.ensures.value) at c.in_ok-taken.ensures.takes)
+    c.in_ok-taken.taken refl refl
+    (rw (c.deref.ensures.value, c.deref-in-loop.ensures.value) at c.in_ok-taken.ensures.takes)
     c.in-Done.is refl
 
 pub returns-then-stream-id-clause-takes : goal.returns-then-stream-id-clause-takes
 returns-then-stream-id-clause-takes c =
     next_came c.args.self.now c.loop.self _ c.args.id c.loop.counter c.loop.invariant.takes refl
-    c.in_ok-taken.taken refl refl (rw (c.deref.ensures.value, c.deref-in-loop.ensures.value) at c.in_ok-taken.ensures.takes)
+    c.in_ok-taken.taken refl refl
+    (rw (c.deref.ensures.value, c.deref-in-loop.ensures.value) at c.in_ok-taken.ensures.takes)
     c.in-On.stream _ (rw c.in-On.is refl) c.if-stream-id.true refl
 
 pub loop-preserved : goal.loop-preserved
