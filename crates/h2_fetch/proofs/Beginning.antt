@@ -11,13 +11,13 @@ use Rattle.h2_fetch.specs.Parts.{handed_on}
 use Rattle.h2_fetch.specs.declared.fetch.PartFetch.{PartFetch}
 
 -- It has used no octets and given none out,
-unused_yet : (values : Values)
+pub unused_yet : (values : Values)
     → ((opened Client values).input ≡ []) × ((opened Client values).given ≡ 0)
 unfolding opened with_sent
 unused_yet values = (refl, refl)
 
 -- and is up,
-up_yet : (values : Values) → (opened Client values).failed ≡ None
+pub up_yet : (values : Values) → (opened Client values).failed ≡ None
 unfolding opened with_sent
 up_yet values = refl
 
@@ -33,7 +33,7 @@ unfolding handed_on
 none_handed id = refl
 
 -- Nothing has gone over its link.
-none_gone : (start : Traffic) (log : Log) (left : List ℕ) → log.input ≡ [] → log.given ≡ 0
+pub none_gone : (start : Traffic) (log : Log) (left : List ℕ) → log.input ≡ [] → log.given ≡ 0
     → left ≡ [] → IsLinked start start log left
 none_gone start log left input given none =
     record {

@@ -1,7 +1,15 @@
 mod Beginning
 mod Comings
 mod Ending
+mod KeptParts
+mod ReadPieces
 mod Refilling
 mod SendingRounds
+mod SeveralAnswers
+mod SeveralBeginning
+mod SeveralComings
+mod SeveralRounds
+mod SeveralTaking
+mod SeveralWaits
 mod Taking
 mod Writing

@@ -1,148 +1,64 @@
--- What is sent before a piece is read, and what is read; and how `next` goes on then.
+-- What a client whose response comes in parts makes of a piece that is read; and how `next` goes
+-- on then.
 use Rattle.h2_engines.proofs.Names
-use Names.{◌≡◌, ℕ, ◌+◌, ◌-◌, ◌^◌, ◌≤◌, List, [], ◌++◌, ◌∷◌, Some, None, Ok, Err, refl, sym, ap, ◌∙◌}
-use Names.{subst, inr, arith, append-nil, Appends, Appends-trans, EndLog, EndsWriting, Handed}
-use Names.{LinkError, Log, Traffic, said_for, HasGiven}
+use Names.{◌≡◌, ℕ, ◌+◌, ◌-◌, ◌^◌, ◌≤◌, List, [], ◌++◌, ◌∷◌, Some, None, Ok, Err, refl, sym, ap}
+use Names.{◌∙◌, subst, inr, arith, append-nil, EndLog, Handed, Result, Values, SentMessage}
+use Names.{LinkError, Traffic, said_for, IsLinked}
 use Rattle.h2_engines.proofs.MachineViews.{all_in_part}
-use Rattle.h2_engines.proofs.MachineWrites.{written_links}
-use Rattle.h2_fetch.specs.Comings.{AnswersNext, ComesSo, EndsSo, Refills}
-use Rattle.h2_fetch.specs.Comings.{RefilledSo, StopsFor, TakesUntilPart, TookSo, octets_unused}
+use Rattle.h2_fetch.specs.Comings.{AnswersNext, ComesSo, EndsSo, IsComing, Refills, RefilledSo}
+use Rattle.h2_fetch.specs.Comings.{StopsFor, TakesUntilPart, TookSo}
 use Rattle.h2_fetch.specs.Parts.{handed_of, handed_on}
-use Rattle.h2_fetch.specs.Sends.{SendsAllOver, StopsSending}
+use Rattle.h2_fetch.specs.Reads.{ReadOver, ReadSo, ReadsOver}
+use Rattle.h2_fetch.specs.Sends.{AsksOne}
+use Rattle.h2_fetch.specs.Several.{StopsAllFor}
 use Rattle.h2_fetch.specs.declared.fetch.PartFetch.{PartFetch}
 use Rattle.h2_fetch.specs.declared.part.ResponsePart.{ResponsePart}
 use Rattle.h2_fetch.proofs.Comings.{NextOn, going_first}
 use Rattle.h2_link.specs.declared.error.LinkError.TheVariants as errors
 
--- What ends sending ends a fetch so.
-sending_so : (start now : Traffic) (end : EndLog) (id : ℕ) (error : LinkError) → EndsWriting error
-    → StopsSending {A = Unit {0}} now end (Err error) → StopsFor start now end id error
-sending_so start now end id errors.Device writing why = tt
-sending_so start now end id errors.Memory writing why = why
-sending_so start now end id errors.NoProgress writing why = why
-sending_so start now end id error writing why = absurd writing
+-- What ends reading ends a fetch of one request so.
+pub stops_for : (start now : Traffic) (end : EndLog) (id : ℕ) (error : LinkError)
+    → StopsAllFor start now end error → StopsFor start now end id error
+stops_for start now end id (errors.Reset number) so = absurd so
+stops_for start now end id error so = so
 
-pub refill_unsent : (before now : Traffic) (old new : PartFetch) (error : LinkError)
-    → new.id ≡ old.id → EndsWriting error
-    → SendsAllOver before now old.client.end new.client.end (Err error)
-    → Refills before now old new (Err error)
-unfolding RefilledSo
-refill_unsent before now old new error stream writing sends values message start end is empty =
-    let sent = sends values message start end (octets_unused old) is.represents is.fetching
-    is.linked
-    is.up in (
-      sent.after,
-      sent.same.handed,
+-- A piece was read, or the fetch has ended.
+module _ {values : Values} {message : SentMessage} {start : Traffic} (before now : Traffic)
+    (old new : PartFetch) {end : EndLog} (is : IsComing values message start before old end)
+    (stream : new.id ≡ old.id) (first : new.used ≡ 0) where
+  refilled_so : (result : Result (Unit {0}) LinkError)
+      → (read : ReadOver values (AsksOne message) start now end new.client.end new.input.items
+      result) → RefilledSo values message start now new end read.after result
+  unfolding RefilledSo ReadSo
+  refilled_so (Ok done) read = (
+    record {
+      fetching = read.asks;
+      represents = read.represents;
+      accepted = ap (λ (i : ℕ). said_for i read.after.accepted) stream
+          ∙ ap (said_for old.id) read.same.accepted ∙ is.accepted;
+      up = read.so.0;
+      linked = rw first read.so.1;
+    },
+    read.so.2,
+  )
+  refilled_so (Err error) read =
       record {
-        fetching = sent.fetching;
-        represents = sent.represents;
-        accepted = ap (λ (i : ℕ). said_for i sent.after.accepted) stream
-            ∙ ap (said_for old.id) sent.same.accepted ∙ is.accepted;
-        linked = record { unused = octets_unused old; given = sent.given; taken = sent.taken };
-        so = sending_so start now sent.after new.id error writing sent.why;
-      },
-    )
+        fetching = read.asks;
+        represents = read.represents;
+        accepted = ap (λ (i : ℕ). said_for i read.after.accepted) stream
+            ∙ ap (said_for old.id) read.same.accepted ∙ is.accepted;
+        linked = read.so.0;
+        so = stops_for start now read.after new.id error read.so.1;
+      }
 
--- The link has given these octets since, and taken none.
-gives_more : (start middle now : Traffic) (log : Log) (octets : List ℕ)
-    → HasGiven start middle log [] → Appends middle.given now.given octets
-    → HasGiven start now log octets
-gives_more start middle now log octets given more =
-    subst (Appends start.given now.given)
-    (ap (λ (input : List ℕ). input ++ octets) (append-nil log.input))
-    (Appends-trans start.given middle.given now.given _ octets given more)
-
-takes_none : (start middle now : Traffic) (octets : List ℕ)
-    → Appends start.taken middle.taken octets → Appends middle.taken now.taken []
-    → Appends start.taken now.taken octets
-takes_none start middle now octets taken none =
-    subst (Appends start.taken now.taken) (append-nil octets)
-    (Appends-trans start.taken middle.taken now.taken octets [] taken none)
-
-module _ (before middle : Traffic) (now : Traffic) (old new : PartFetch) (done : Unit {0})
-    (stream : new.id ≡ old.id) (gone : Appends middle.taken now.taken [])
-    (sends : SendsAllOver before middle old.client.end new.client.end (Ok done)) where
-  -- A piece was read,
-  pub refill_read : Appends middle.given now.given (octets_unused new)
-      → Refills before now old new (Ok done)
-  unfolding RefilledSo
-  refill_read gives values message start end is empty =
-      let sent = sends values message start end (octets_unused old) is.represents is.fetching
-      is.linked is.up in
-      let linked = written_links [] (subst (HasGiven start middle sent.after.log) empty sent.given)
-      sent.taken in (
-        sent.after,
-        sent.same.handed,
-        (
-          record {
-            fetching = sent.fetching;
-            represents = sent.represents;
-            accepted = ap (λ (i : ℕ). said_for i sent.after.accepted) stream
-                ∙ ap (said_for old.id) sent.same.accepted ∙ is.accepted;
-            up = sent.same.failed ∙ is.up;
-            linked = record {
-              given = gives_more start middle now sent.after.log
-                  (octets_unused new) linked.given gives;
-              taken = takes_none start middle now _ linked.taken gone;
-            };
-          },
-          sent.turns,
-        ),
-      )
-
-  module _ (gives : Appends middle.given now.given []) where
-    -- or none, at the end of the input,
-    pub refill_cut : Refills before now old new (Err errors.CutOff)
-    unfolding RefilledSo
-    refill_cut values message start end is empty =
-        let sent = sends values message start end (octets_unused old) is.represents is.fetching
-        is.linked is.up in
-        let linked = written_links []
-        (subst (HasGiven start middle sent.after.log) empty sent.given) sent.taken in
-        let given = gives_more start middle now sent.after.log [] linked.given gives in
-        let up = sent.same.failed ∙ is.up in (
-          sent.after,
-          sent.same.handed,
-          record {
-            fetching = sent.fetching;
-            represents = sent.represents;
-            accepted = ap (λ (i : ℕ). said_for i sent.after.accepted) stream
-                ∙ ap (said_for old.id) sent.same.accepted ∙ is.accepted;
-            linked = all_in_part
-                (record { given = given; taken = takes_none start middle now _ linked.taken gone });
-            so = (
-              up,
-              given,
-              takes_none start middle now _ sent.taken.taken gone,
-              sent.taken.returned up,
-            );
-          },
-        )
-
-    -- where the read has failed, or where there is no room for one.
-    pub refill_fails : (error : LinkError)
-        → ((start : Traffic) (end : EndLog) → end.log.failed ≡ None → StopsFor start now end new.id
-        error) → Refills before now old new (Err error)
-    unfolding RefilledSo
-    refill_fails error stops values message start end is empty =
-        let sent = sends values message start end (octets_unused old) is.represents is.fetching
-        is.linked is.up in
-        let linked = written_links []
-        (subst (HasGiven start middle sent.after.log) empty sent.given) sent.taken in (
-          sent.after,
-          sent.same.handed,
-          record {
-            fetching = sent.fetching;
-            represents = sent.represents;
-            accepted = ap (λ (i : ℕ). said_for i sent.after.accepted) stream
-                ∙ ap (said_for old.id) sent.same.accepted ∙ is.accepted;
-            linked = all_in_part (record {
-              given = gives_more start middle now sent.after.log [] linked.given gives;
-              taken = takes_none start middle now _ linked.taken gone;
-            });
-            so = stops start sent.after (sent.same.failed ∙ is.up);
-          },
-        )
+pub refilled : (before now : Traffic) (old new : PartFetch) (result : Result (Unit {0}) LinkError)
+    → new.id ≡ old.id → new.used ≡ 0
+    → ReadsOver before now old.client.end new.client.end new.input.items result
+    → Refills before now old new result
+refilled before now old new result stream first reads values message start end is empty =
+    let read = reads values (AsksOne message) start end is.represents is.fetching
+    (subst (IsLinked start before end.log) empty is.linked) is.up in
+    (read.after, read.same.handed, refilled_so before now old new is stream first result read)
 
 -- At first nothing was asked for.
 pub next_first : (now : Traffic) (fetch : PartFetch) → NextOn now now fetch fetch 0

@@ -1,27 +1,45 @@
 -- What is sent over a link in rounds: credit and what waits of the request, and then all output.
 use Rattle.h2_engines.proofs.Names
-use Names.{◌≡◌, ◌≤◌, ℕ, ◌+◌, ◌-◌, ◌^◌, List, length, None, Result, Ok, Err, ◌∙◌}
-use Names.{inl, inr, arith, Values, SentMessage, End, EndLog, EndRepresents, LinkError}
+use Names.{◌≡◌, ◌≤◌, ℕ, ◌+◌, ◌-◌, ◌^◌, List, length, None, Result, Ok, Err, ◌∙◌, inl, inr, arith}
+use Names.{Values, End, EndLog, EndRepresents, LinkError, EndRefusal, MayPump, MayReleaseAll}
 use Names.{EndsWriting, IsSameOfMessages, SendsWaiting, StallsWriting, Traffic, IsLinked, sends}
-use Rattle.h2_engines.specs.ClientHistories.{IsFetching, pumps, releases}
+use Rattle.h2_engines.specs.ClientHistories.{pumps as one_pumps, releases as one_releases}
 use Rattle.h2_engines.specs.WithoutLink.{HasSent, has_failed, releases_no_more, sends_no_more}
 use Rattle.h2_engines.proofs.MachineWrites.{written_links}
 use Rattle.h2_engines.proofs.ResponderEnds.{given_first, given_within, same_itself, same_twice}
 use Rattle.h2_engines.proofs.ServeLinkLogs.{goes_links}
 use Rattle.h2_engines.proofs.WithoutLinkSends.{sent_error, sent_same, sent_stays, sent_turns}
-use Rattle.h2_fetch.specs.Sends.{SentOver, StopsSending, WritesOver}
+use Rattle.h2_fetch.specs.Sends.{Asking, AsksOne, AsksSeveral, HasAsked, SentOver, StopsSending}
+use Rattle.h2_fetch.specs.Sends.{WritesOver}
+use Rattle.h2_fetch.specs.Several.{pumps, releases}
 use Rattle.h2_link.specs.declared.error.LinkError.TheVariants as errors
 
--- A request that was made stays so where credit is given back and what waits is sent.
-pub sent_fetching : {values : Values} {message : SentMessage} {before after : EndLog}
-    {result : Result (Unit {0}) LinkError} → IsFetching values message before
-    → HasSent before after result → IsFetching values message after
-sent_fetching was (has_failed failed same) = rw same was
-sent_fetching was (sends middle released sent up may all then) =
-    pumps (releases was released may) (Ok sent) then
-sent_fetching was (releases_no_more released error is up may) = releases was released may
-sent_fetching was (sends_no_more middle released sent error is up may then) =
-    pumps (releases was released may) sent then
+-- Requests that were made stay so where credit is given back and what waits is sent.
+releases_at : (values : Values) (asking : Asking) (before after : EndLog)
+    (released : Result (Unit {0}) EndRefusal) → HasAsked values asking before
+    → MayReleaseAll before released after → HasAsked values asking after
+releases_at values (AsksOne message) before after released was may = one_releases was released may
+releases_at values (AsksSeveral asked) before after released was may = releases was released may
+
+pumps_at : (values : Values) (asking : Asking) (before after : EndLog)
+    (sent : Result ℕ EndRefusal) → HasAsked values asking before → MayPump before sent after
+    → HasAsked values asking after
+pumps_at values (AsksOne message) before after sent was may = one_pumps was sent may
+pumps_at values (AsksSeveral asked) before after sent was may = pumps was sent may
+
+pub sent_asks : (values : Values) (asking : Asking) (before after : EndLog)
+    {result : Result (Unit {0}) LinkError} → HasAsked values asking before
+    → HasSent before after result → HasAsked values asking after
+sent_asks values asking before after was (has_failed failed same) = rw same was
+sent_asks values asking before after was (sends middle released sent up may all then) =
+    pumps_at values asking middle after (Ok sent)
+    (releases_at values asking before middle released was may) then
+sent_asks values asking before after was (releases_no_more released error is up may) =
+    releases_at values asking before after released was may
+sent_asks values asking before after was
+    (sends_no_more middle released sent error is up may then) =
+    pumps_at values asking middle after sent
+    (releases_at values asking before middle released was may) then
 
 -- What ends writing ends sending so.
 pub stops_by : (now : Traffic) (end : EndLog) (error : LinkError) → EndsWriting error
@@ -32,10 +50,10 @@ stops_by now end errors.NoProgress writing stalls = stalls
 stops_by now end error writing stalls = tt
 
 -- The link took all that the client has given out, in so many rounds, and the connection is up.
-pub record IsSending (values : Values) (message : SentMessage) (start now : Traffic)
+pub record IsSending (values : Values) (asking : Asking) (start now : Traffic)
     (before : EndLog) (new : End) (unused : List ℕ) (rounds : ℕ) : Type 0 where
   pub after : EndLog
-  pub fetching : IsFetching values message after
+  pub asks : HasAsked values asking after
   pub represents : EndRepresents values new after
   pub same : IsSameOfMessages before after
   pub linked : IsLinked start now after.log unused
@@ -45,17 +63,17 @@ pub record IsSending (values : Values) (message : SentMessage) (start now : Traf
 -- Whatever had happened at first, it is so now.
 abbrev pub SendsFrom : (before now : Traffic) → (old new : End) → (rounds : ℕ) → Type 0
 SendsFrom before now old new rounds =
-    (values : Values) (message : SentMessage) (start : Traffic) (end : EndLog) (unused : List ℕ)
-    → EndRepresents values old end → IsFetching values message end
+    (values : Values) (asking : Asking) (start : Traffic) (end : EndLog) (unused : List ℕ)
+    → EndRepresents values old end → HasAsked values asking end
     → IsLinked start before end.log unused → end.log.failed ≡ None
-    → IsSending values message start now end new unused rounds
+    → IsSending values asking start now end new unused rounds
 
 -- Nothing was sent yet.
 pub sends_first : (now : Traffic) (end : End) → SendsFrom now now end end 0
-sends_first now old values message start end unused is was linked up =
+sends_first now old values asking start end unused is was linked up =
     record {
       after = end;
-      fetching = was;
+      asks = was;
       represents = is;
       same = same_itself end;
       linked = linked;
@@ -63,18 +81,18 @@ sends_first now old values message start end unused is was linked up =
       up = up;
     }
 
-module _ {values : Values} {message : SentMessage} {start now : Traffic} {before : EndLog}
+module _ {values : Values} {asking : Asking} {start now : Traffic} {before : EndLog}
     {old : End} (new : End) {unused : List ℕ} {rounds : ℕ}
-    (on : IsSending values message start now before old unused rounds) where
+    (on : IsSending values asking start now before old unused rounds) where
   -- Credit is given back, and what waits is sent;
   pub waited : (result : Result (Unit {0}) LinkError) → SendsWaiting old new result
-      → IsSending values message start now before new unused rounds
+      → IsSending values asking start now before new unused rounds
   waited result waits =
       let sent = waits values on.after on.represents in
       let stays = sent_stays sent.2 in
       record {
         after = sent.0;
-        fetching = sent_fetching on.fetching sent.2;
+        asks = sent_asks values asking on.after sent.0 on.asks sent.2;
         represents = sent.1;
         same = same_twice on.same (sent_same sent.2);
         linked = goes_links (given_within on.represents) stays.goes on.linked;
@@ -84,13 +102,13 @@ module _ {values : Values} {message : SentMessage} {start now : Traffic} {before
 
   -- or there is no memory for that.
   pub not_waited : (error : LinkError) → SendsWaiting old new (Err error)
-      → SentOver values message start now before new unused (Err error)
+      → SentOver values asking start now before new unused (Err error)
   not_waited error waits =
       let then = waited (Err error) waits in
       let sent = waits values on.after on.represents in
       record {
         after = then.after;
-        fetching = then.fetching;
+        asks = then.asks;
         represents = then.represents;
         same = then.same;
         given = then.linked.given;
@@ -99,17 +117,17 @@ module _ {values : Values} {message : SentMessage} {start now : Traffic} {before
         why = rw (sent_error sent.2) (inl (inl then.up));
       }
 
-module _ {values : Values} {message : SentMessage} {start middle : Traffic} (now : Traffic)
+module _ {values : Values} {asking : Asking} {start middle : Traffic} (now : Traffic)
     {before : EndLog} {old : End} (new : End) {unused : List ℕ} {rounds : ℕ}
-    (on : IsSending values message start middle before old unused rounds) where
+    (on : IsSending values asking start middle before old unused rounds) where
   -- All that waits is written,
   pub wrote_on : (done : Unit {0}) → WritesOver middle now old new (Ok done)
-      → IsSending values message start now before new unused (rounds + 1)
+      → IsSending values asking start now before new unused (rounds + 1)
   wrote_on done writes =
-      let wrote = writes values message start on.after unused on.represents on.fetching on.linked in
+      let wrote = writes values asking start on.after unused on.represents on.asks on.linked in
       record {
         after = wrote.after;
-        fetching = wrote.happened;
+        asks = wrote.happened;
         represents = wrote.represents;
         same = same_twice on.same wrote.same;
         linked = written_links unused wrote.given wrote.taken;
@@ -119,12 +137,12 @@ module _ {values : Values} {message : SentMessage} {start middle : Traffic} (now
 
   -- with which all was sent,
   pub wrote_all : (done : Unit {0}) → WritesOver middle now old new (Ok done)
-      → SentOver values message start now before new unused (Ok done)
+      → SentOver values asking start now before new unused (Ok done)
   wrote_all done writes =
-      let wrote = writes values message start on.after unused on.represents on.fetching on.linked in
+      let wrote = writes values asking start on.after unused on.represents on.asks on.linked in
       record {
         after = wrote.after;
-        fetching = wrote.happened;
+        asks = wrote.happened;
         represents = wrote.represents;
         same = same_twice on.same wrote.same;
         given = wrote.given;
@@ -136,12 +154,12 @@ module _ {values : Values} {message : SentMessage} {start middle : Traffic} (now
   -- or it can't be.
   pub not_written : (error : LinkError) → EndsWriting error
       → WritesOver middle now old new (Err error)
-      → SentOver values message start now before new unused (Err error)
+      → SentOver values asking start now before new unused (Err error)
   not_written error writing writes =
-      let wrote = writes values message start on.after unused on.represents on.fetching on.linked in
+      let wrote = writes values asking start on.after unused on.represents on.asks on.linked in
       record {
         after = wrote.after;
-        fetching = wrote.happened;
+        asks = wrote.happened;
         represents = wrote.represents;
         same = same_twice on.same wrote.same;
         given = wrote.given;
@@ -151,14 +169,14 @@ module _ {values : Values} {message : SentMessage} {start middle : Traffic} (now
       }
 
 -- There were as many rounds as may be.
-pub no_round : {values : Values} {message : SentMessage} {start : Traffic} (now : Traffic)
+pub no_round : {values : Values} {asking : Asking} {start : Traffic} (now : Traffic)
     {before : EndLog} (new : End) {unused : List ℕ} {rounds : ℕ} → 2 ^ 64 - 1 ≤ rounds
-    → IsSending values message start now before new unused rounds
-    → SentOver values message start now before new unused (Err errors.NoProgress)
+    → IsSending values asking start now before new unused rounds
+    → SentOver values asking start now before new unused (Err errors.NoProgress)
 no_round {start = start} now new all on =
     record {
       after = on.after;
-      fetching = on.fetching;
+      asks = on.asks;
       represents = on.represents;
       same = on.same;
       given = on.linked.given;

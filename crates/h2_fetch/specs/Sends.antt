@@ -1,4 +1,4 @@
--- What a client that makes one request sends over a link, whatever has happened at it.
+-- What a client that has made requests sends over a link, whatever has happened at it.
 use Rattle.std.specs.Prelude.{◌<◌, List, ℕ, length, None, Result, Err, OnOk, ◌≡◌}
 use Rattle.h2_spec_log.specs.Acts.{Values}
 use Rattle.h2_message.specs.Messages.{SentMessage}
@@ -12,15 +12,26 @@ use Rattle.h2_engines.specs.Failures.{IsOutOfMemory}
 use Rattle.h2_engines.specs.Linked.{Traffic, HasGiven, HasStalled, IsLinked}
 use Rattle.h2_engines.specs.Machines.{WritesOut}
 use Rattle.h2_engines.specs.ServerSteps.{IsSameOfMessages, TookBy}
+use Rattle.h2_fetch.specs.Several.{Asked, IsFetchingSeveral}
+
+-- what a client has asked for: it makes one request, or several
+pub data Asking : Type 0 where
+  AsksOne : (message : SentMessage) → Asking
+  AsksSeveral : (asked : List Asked) → Asking
+
+-- What has happened at a client that has asked so.
+abbrev pub HasAsked : Values → Asking → EndLog → Type 0
+HasAsked values (AsksOne message) end = IsFetching values message end
+HasAsked values (AsksSeveral asked) end = IsFetchingSeveral values asked end
 
 -- What waits is written, or as far as that went, in a turn at least.
 abbrev pub WritesOver : (before now : Traffic) → (old new : End) → Result (Unit {0}) LinkError
     → Type 0
 WritesOver before now old new result =
-    (values : Values) (message : SentMessage) (start : Traffic) (end : EndLog) (unused : List ℕ)
-    → EndRepresents values old end → IsFetching values message end
+    (values : Values) (asking : Asking) (start : Traffic) (end : EndLog) (unused : List ℕ)
+    → EndRepresents values old end → HasAsked values asking end
     → IsLinked start before end.log unused
-    → WritesOut (IsFetching values message) values start now end new unused result
+    → WritesOut (HasAsked values asking) values start now end new unused result
 
 -- Why sending has ended early: memory was refused, or the link has stalled.
 -- rule: engines (own) N5 comes only where a write has taken nothing
@@ -31,11 +42,11 @@ StopsSending now end result = Unit {0}
 
 -- All that is owed was given back, what could go of the request was sent, and all of that was
 -- written, or as far as it went.
-pub record SentOver (values : Values) (message : SentMessage) (start now : Traffic)
+pub record SentOver (values : Values) (asking : Asking) (start now : Traffic)
     (before : EndLog) (new : End) (unused : List ℕ) (result : Result (Unit {0}) LinkError) : Type 0
   where
     pub after : EndLog
-    pub fetching : IsFetching values message after
+    pub asks : HasAsked values asking after
     pub represents : EndRepresents values new after
     pub same : IsSameOfMessages before after
     pub given : HasGiven start now after.log unused
@@ -46,7 +57,7 @@ pub record SentOver (values : Values) (message : SentMessage) (start now : Traff
 abbrev pub SendsAllOver : (before now : Traffic) → (old new : End) → Result (Unit {0}) LinkError
     → Type 0
 SendsAllOver before now old new result =
-    (values : Values) (message : SentMessage) (start : Traffic) (end : EndLog) (unused : List ℕ)
-    → EndRepresents values old end → IsFetching values message end
+    (values : Values) (asking : Asking) (start : Traffic) (end : EndLog) (unused : List ℕ)
+    → EndRepresents values old end → HasAsked values asking end
     → IsLinked start before end.log unused → end.log.failed ≡ None
-    → SentOver values message start now end new unused result
+    → SentOver values asking start now end new unused result

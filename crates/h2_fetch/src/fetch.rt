@@ -11,13 +11,11 @@ ghost use Rattle.h2_fetch.specs.Takes.{TakesPartOnce, part_in};
 
 use crate::errors::{error_of_refusal, unless_failed};
 use crate::part::{ResponsePart, part_of};
-use crate::sending::{send_all, write_out};
+use crate::reading::read_piece;
+use crate::sending::end_early;
 use h2_ends::{Client, Code, Config, Conn, EndEvent, EndRefusal, Message, Refusal};
 use h2_link::{Link, LinkError};
 use std::alloc::Global;
-
-/// How many octets are read at a time, at most.
-const PIECE: usize = 16_384;
 
 /// A client that makes one request over a link, and answers its response part by part. It keeps one
 /// piece of the input, and lets the server send more only once the next piece is read.
@@ -160,16 +158,8 @@ impl PartFetch {
         ensures failures { L.faults link.new ≡ failures_at_end (L.faults link.old) result }
         ensures stream { self.new.id ≡ self.old.id }
     {
-        send_all(&mut self.client, link)?;
         self.used = 0;
-        self.input.clear();
-        self.input.resize(PIECE, 0)?;
-        let count = link.read(&mut self.input)?;
-        self.input.truncate(count);
-        if count == 0 {
-            return Err(LinkError::CutOff);
-        }
-        Ok(())
+        read_piece(&mut self.client, &mut self.input, link)
     }
 
     /// How a fetch ends that can't go on. Where the connection has failed, all that waits is
@@ -186,13 +176,7 @@ impl PartFetch {
         ensures stream { self.new.id ≡ self.old.id }
         ensures goes { result ≢ LinkError.CutOff }
     {
-        if self.client.conn().failed().is_none() {
-            return error;
-        }
-        match write_out(&mut self.client, link) {
-            Ok(()) => error,
-            Err(unwritten) => unwritten,
-        }
+        end_early(&mut self.client, link, error)
     }
 }
 

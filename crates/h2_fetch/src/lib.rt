@@ -1,12 +1,18 @@
-//! A client that makes one request over any link (RFC 9113), and answers its response part by part,
-//! as it comes. It keeps one piece of the input, and lets the server send more only once the next
-//! piece is read.
+//! Clients that make one request over any link (RFC 9113), or several at once, and answer each
+//! response part by part, as it comes. They keep one piece of the input, and let the server send
+//! more only once the next piece is read.
 #![tactic(auto)]
 
+mod asking;
+mod coming;
 mod errors;
 mod fetch;
+mod kept;
 mod part;
+mod reading;
 mod sending;
+mod several;
 
 pub use fetch::PartFetch;
 pub use part::ResponsePart;
+pub use several::{Came, SeveralFetch};

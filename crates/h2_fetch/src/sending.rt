@@ -1,10 +1,12 @@
 //! What a client sends over a link.
 
-ghost use Rattle.std.specs.Prelude.{◌≡◌, ◌<◌, ◌-◌, ◌^◌, IfErr};
-ghost use Rattle.h2_engines.specs.Failures.{EndsWriting, IsOfCall, failures_at_end};
+ghost use Rattle.std.specs.Prelude.{◌≡◌, ◌≢◌, ◌<◌, ◌-◌, ◌^◌, IfErr};
+ghost use Rattle.h2_engines.specs.Failures.{EndsWriting, IsOfCall, IsOfClient, failures_at_end};
+ghost use Rattle.h2_engines.specs.Failures.{failures_by};
 ghost use Rattle.h2_engines.specs.Linked.{traffic};
 ghost use Rattle.h2_engines.specs.ServerSteps.{PumpsSome};
 ghost use Rattle.h2_engines.specs.WithoutLink.{SendsWaiting};
+ghost use Rattle.h2_fetch.specs.Reads.{EndsOver};
 ghost use Rattle.h2_fetch.specs.Sends.{SendsAllOver, WritesOver};
 
 use crate::errors::unless_refused;
@@ -14,7 +16,7 @@ use h2_frame::limits::FULL_OUTPUT;
 use h2_link::{Link, LinkError};
 
 // rule: engines (own) Over a link credit is returned and what could be sent is sent
-/// Gives back all that is owed, sends what waits of the request, and writes all of that, until
+/// Gives back all that is owed, sends what waits of the requests, and writes all of that, until
 /// nothing more could go.
 pub(crate) fn send_all<L: Link>(client: &mut Client, link: &mut L) -> Result<(), LinkError>
     requires { L.faults link.old < 2 ^ 64 - 1 }
@@ -37,7 +39,7 @@ pub(crate) fn send_all<L: Link>(client: &mut Client, link: &mut L) -> Result<(),
 }
 
 // rule: engines (own) Over a link credit is returned and what could be sent is sent
-/// Gives back all that is owed and sends what waits of the request, while the connection is up.
+/// Gives back all that is owed and sends what waits of the requests, while the connection is up.
 /// What a full output holds back is given back later.
 fn send_waiting(client: &mut Client) -> Result<(), LinkError>
     ensures sends { SendsWaiting client.old.end client.new.end result }
@@ -53,7 +55,7 @@ fn send_waiting(client: &mut Client) -> Result<(), LinkError>
     }
 }
 
-/// Sends what waits of the request, as windows allow.
+/// Sends what waits of the requests, as windows allow.
 fn pump(client: &mut Client) -> Result<(), LinkError>
     ensures pumps { PumpsSome client.old.end client.new.end result }
     ensures err { IfErr result IsOfCall }
@@ -84,4 +86,25 @@ pub(crate) fn write_out<L: Link>(client: &mut Client, link: &mut L) -> Result<()
         unless_refused(consumed)?;
     }
     Err(LinkError::NoProgress)
+}
+
+/// How a fetch ends that can't go on. Where the connection has failed, all that waits is written.
+pub(crate) fn end_early<L: Link>(client: &mut Client, link: &mut L, error: LinkError) -> LinkError
+    requires fits { L.faults link.old < 2 ^ 64 - 1 }
+    requires is { IsOfClient error }
+    requires goes { error ≢ LinkError.CutOff }
+    ensures ends { EndsOver
+        (traffic (L.given link.old) (L.taken link.old) (L.stalled link.old))
+        (traffic (L.given link.new) (L.taken link.new) (L.stalled link.new))
+        client.old.end client.new.end error result }
+    ensures failures { L.faults link.new ≡ failures_by (L.faults link.old) result }
+    ensures goes { result ≢ LinkError.CutOff }
+{
+    if client.conn().failed().is_none() {
+        return error;
+    }
+    match write_out(client, link) {
+        Ok(()) => error,
+        Err(unwritten) => unwritten,
+    }
 }

@@ -1,8 +1,8 @@
 -- By the lemmas on output that is written.
-use Rattle.h2_engines.proofs.Names.{refl, ap, sym, ◌∙◌, arith, err_from_is_err_and}
-use Rattle.h2_engines.specs.ClientHistories.{IsFetching}
-use Rattle.h2_engines.proofs.Names.{error_after, traffic}
+use Rattle.h2_engines.proofs.Names.{refl, ap, sym, ◌∙◌, arith, err_from_is_err_and, error_after}
+use Rattle.h2_engines.proofs.Names.{traffic}
 use Rattle.h2_link.specs.Links.{WritesAll}
+use Rattle.h2_fetch.specs.Sends.{HasAsked}
 use Rattle.h2_fetch.proofs.Writing.{never_lost, puts_at}
 use Rattle.h2_engines.proofs.ResponderFaults.{written_some, written_failures, written_ends}
 use Rattle.h2_engines.proofs.ResponderFaults.{call_failures, written_known}
@@ -14,30 +14,30 @@ use Rattle.h2_fetch.proofs.sending.write_out.Goals as goal
 pub loop-init : goal.loop-init
 loop-init g c = record {
   failures = refl;
-  writes = λ values message start end unused is was linked. writes_nothing
-      (IsFetching values message) is was linked;
+  writes = λ values asking start end unused is was linked. writes_nothing
+      (HasAsked values asking) is was linked;
 }
 
 pub returns-in_err-unless_refused-clause-writes : goal.returns-in_err-unless_refused-clause-writes
-returns-in_err-unless_refused-clause-writes g c values message start end unused is was linked =
+returns-in_err-unless_refused-clause-writes g c values asking start end unused is was linked =
     let new = c.ready.new.self.end in
     let answer = err_from_is_err_and c.from_residual.result c.from_residual.ensures.1 in
     let (refused, refusal, same, made, ends) = c.in_err-unless_refused.ensures.err in
-    rw (answer.1, answer.2) (writes_refused (IsFetching values message) puts_at
-    (c.loop.invariant.writes values message start end unused is was linked) new 0 refused
+    rw (answer.1, answer.2) (writes_refused (HasAsked values asking) (puts_at values asking)
+    (c.loop.invariant.writes values asking start end unused is was linked) new 0 refused
     (omega arith)
     (rw same at c.ready.ensures.answers) (ends ∙ ap error_after made))
 
 pub returns-then-waiting-eq0-clause-writes : goal.returns-then-waiting-eq0-clause-writes
-returns-then-waiting-eq0-clause-writes g c values message start end unused is was linked =
+returns-then-waiting-eq0-clause-writes g c values asking start end unused is was linked =
     let new = c.ready.new.self.end in
     let done = c.in_ok-unless_refused.ensures.ok in
-    writes_all (IsFetching values message) c.loop.counter tt
+    writes_all (HasAsked values asking) c.loop.counter tt
     (λ values log conn. sym c.if-waiting-eq0.true
     ∙ (rw c.conn.ensures at c.waiting.ensures.count) values log conn)
     (rw done at c.ready.ensures.returned)
-    (writes_ready (IsFetching values message) puts_at
-    (c.loop.invariant.writes values message start end unused is was linked) new
+    (writes_ready (HasAsked values asking) (puts_at values asking)
+    (c.loop.invariant.writes values asking start end unused is was linked) new
     (rw done at c.ready.ensures.answers))
 
 pub returns-in_err-written : goal.returns-in_err-written
@@ -51,11 +51,11 @@ returns-in_err-written g c =
     at c.write_waiting-written.ensures.writes in
     let some = written_some _ _ _ _ _ _ written in
     rw (answer.1, answer.2) (record {
-      writes = λ values message start end unused is was linked. writes_lent_first
-          (IsFetching values message)
-          puts_at now c.ready.new.self.end
+      writes = λ values asking start end unused is was linked. writes_lent_first
+          (HasAsked values asking)
+          (puts_at values asking) now c.ready.new.self.end
           c.consume-consumed.new.self.end
-          (c.loop.invariant.writes values message start end unused is was linked)
+          (c.loop.invariant.writes values asking start end unused is was linked)
           (rw done at c.ready.ensures.answers)
           (record {
             few = rw c.conn.ensures at c.waiting.ensures.bound;
@@ -91,11 +91,11 @@ loop-preserved g c =
     at c.write_waiting-written.ensures.writes in
     record {
       failures = written.1 ∙ c.loop.invariant.failures;
-      writes = λ values message start end unused is was linked. writes_lent
-          (IsFetching values message)
-          puts_at now c.ready.new.self.end
+      writes = λ values asking start end unused is was linked. writes_lent
+          (HasAsked values asking)
+          (puts_at values asking) now c.ready.new.self.end
           c.consume-consumed.new.self.end
-          (c.loop.invariant.writes values message start end unused is was linked)
+          (c.loop.invariant.writes values asking start end unused is was linked)
           (rw done at c.ready.ensures.answers)
           (record {
             few = rw c.conn.ensures at c.waiting.ensures.bound;
@@ -108,19 +108,19 @@ loop-preserved g c =
     }
 
 pub returns-clause-writes : goal.returns-clause-writes
-returns-clause-writes g c values message start end unused is was linked =
-    writes_no_more (IsFetching values message) (omega arith)
-    (c.loop.invariant.writes values message start end unused is was linked)
+returns-clause-writes g c values asking start end unused is was linked =
+    writes_no_more (HasAsked values asking) (omega arith)
+    (c.loop.invariant.writes values asking start end unused is was linked)
 
 pub returns-in_err-unless_refused-2-clause-writes :
     goal.returns-in_err-unless_refused-2-clause-writes
-returns-in_err-unless_refused-2-clause-writes g c values message start end unused is was linked =
+returns-in_err-unless_refused-2-clause-writes g c values asking start end unused is was linked =
     let done = c.in_ok-unless_refused.ensures.ok in
     let (refused, refusal, same, made, ends) = c.in_err-unless_refused-2.ensures.err in
     let answer = err_from_is_err_and c.from_residual-in_err-unless_refused-2.result
     c.from_residual-in_err-unless_refused-2.ensures.1 in
-    rw answer.1 (never_lost _ c.ready.new.self.end c.consume-consumed.new.self.end
+    rw answer.1 (never_lost asking _ c.ready.new.self.end c.consume-consumed.new.self.end
     c.consume-consumed.result refused answer.0
-    (c.loop.invariant.writes values message start end unused is was linked)
+    (c.loop.invariant.writes values asking start end unused is was linked)
     (rw done at c.ready.ensures.answers) (rw done at c.ready.ensures.returned)
     c.consume-consumed.ensures.room same)

@@ -1,26 +1,8 @@
--- It ends at once while the connection is up; else once all was written, or that could not be.
+-- By the lemma on a client that ends.
 use Rattle.h2_engines.proofs.Names.{refl}
-use Rattle.h2_engines.proofs.MachineViews.{no_message}
-use Rattle.h2_engines.proofs.WithoutLinkPutOut.{unlinked}
-use Rattle.h2_engines.proofs.WithoutLinkSends.{end_down, end_up}
-use Rattle.h2_fetch.proofs.Ending.{ends_unwritten, ends_up, ends_written}
+use Rattle.h2_fetch.proofs.Ending.{part_ends}
 use Rattle.h2_fetch.proofs.fetch.PartFetch.end_early.Goals as goal
 
-pub returns-then-is_none-clause-ends : goal.returns-then-is_none-clause-ends
-returns-then-is_none-clause-ends g c =
-    ends_up _ c.args.self.now c.args.error (λ values. end_up c.args.self.now.client.end
-    c.failed.result (rw c.conn.ensures at c.failed.ensures) c.if-is_none.ensures
-    (unlinked values no_message))
-
-pub returns-in-Ok-clause-ends : goal.returns-in-Ok-clause-ends
-returns-in-Ok-clause-ends g c =
-    ends_written _ _ c.args.self.now _ c.args.error (λ values. end_down
-    c.args.self.now.client.end c.failed.result (rw c.conn.ensures at c.failed.ensures)
-    c.if-is_none.ensures (unlinked values no_message)) refl c.in-Ok.field-0 c.in-Ok.ensures.writes
-
-pub returns-in-Err-clause-ends : goal.returns-in-Err-clause-ends
-returns-in-Err-clause-ends g c =
-    ends_unwritten _ _ c.args.self.now _ c.args.error (λ values. end_down
-    c.args.self.now.client.end c.failed.result (rw c.conn.ensures at c.failed.ensures)
-    c.if-is_none.ensures (unlinked values no_message)) refl c.in-Err.unwritten
-    c.in-Err.ensures.err c.in-Err.ensures.writes
+pub returns-clause-ends : goal.returns-clause-ends
+returns-clause-ends g c =
+    part_ends _ _ c.args.self.now _ c.args.error c.end_early.result refl c.end_early.ensures.ends

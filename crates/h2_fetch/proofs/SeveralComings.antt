@@ -1,0 +1,213 @@
+-- How the takes of a client that makes several requests follow one another.
+use Rattle.h2_engines.proofs.Names
+use Names.{◌≡◌, ◌≤◌, ◌<◌, ℕ, ◌+◌, ◌-◌, List, [], ◌∷◌, ◌++◌, length, take, drop, Option, None, Ok}
+use Names.{refl, sym, ap, ◌∙◌, subst, inl, inr, arith, drop-drop, drop_all, take_rest, Contains}
+use Names.{Values, EndLog, EndRepresents, EndTook, Handed, EndMayTake, IsLinked, Traffic}
+use Names.{first_in}
+use Rattle.std.proofs.lemmas.List.Elements.{Contains-push_cases}
+use Rattle.h2_engines.specs.Fetches.{WasDropped}
+use Rattle.h2_engines.proofs.ResponderEnds.{given_within}
+use Rattle.h2_engines.proofs.ServeLinkTakes.{took_links, takes_first}
+use Rattle.h2_engines.proofs.TakeMessages.{handed_after, taken_says}
+use Rattle.h2_engines.proofs.TurnsPassed.{turns_of_take}
+use Rattle.h2_fetch.specs.Kept.{came_on}
+use Rattle.h2_fetch.specs.Parts.{handed_on}
+use Rattle.h2_fetch.specs.Several.{AnsweredOn, AreComing, AreDropped, Asked, answered_next}
+use Rattle.h2_fetch.specs.Several.{IsFetchingSeveral, kept_on, octets_unused, takes}
+use Rattle.h2_fetch.specs.SeveralComings.{HaveTakenLast, lacks_memory}
+use Rattle.h2_fetch.specs.SeveralTakes.{HandsCame, IsAsCame, TakesCameOnce, TakesCameSo}
+use Rattle.h2_fetch.specs.declared.coming.CameNext.TheVariants as nexts
+use Rattle.h2_fetch.specs.declared.coming.CameTaken.{CameTaken}
+use Rattle.h2_fetch.specs.declared.several.Came.{Came}
+use Rattle.h2_fetch.specs.declared.several.Came.TheVariants.{Dropped}
+use Rattle.h2_fetch.specs.declared.several.SeveralFetch.{SeveralFetch}
+use Rattle.h2_fetch.proofs.KeptParts.{parts_answered, parts_kept, parts_lost}
+use Rattle.h2_fetch.proofs.SeveralTaking.{IsNothing, dropped_as, handed_came, nothing_came}
+use Rattle.h2_fetch.proofs.SeveralTaking.{something_came, stay_dropped, stays_handed}
+use Rattle.h2_link.specs.declared.error.LinkError.TheVariants as errors
+
+-- Whatever had happened at first, the client fetches still, keeps nothing of the stream, and each
+-- round was a turn at least.
+pub record AreGoing (values : Values) (start now : Traffic) (asked : List Asked)
+    (fetch : SeveralFetch) (id : ℕ) (before : EndLog) (answered : AnsweredOn) (rounds : ℕ) : Type 0
+  where
+    pub after : EndLog
+    pub coming : AreComing values start now asked fetch after answered
+    pub none : kept_on id fetch.kept.items ≡ []
+    pub turns : rounds + length before.log.turns ≤ length after.log.turns
+
+pub are_going : {values : Values} {start now : Traffic} {asked : List Asked} {fetch : SeveralFetch}
+    (id : ℕ) {end : EndLog} {answered : AnsweredOn}
+    → AreComing values start now asked fetch end answered → kept_on id fetch.kept.items ≡ []
+    → AreGoing values start now asked fetch id end answered 0
+are_going id {end} is none =
+    record { after = end; coming = is; none = none; turns = omega arith }
+
+-- The client has taken octets of those that it keeps, and this was handed out.
+pub record HasTakenCame (values : Values) (start now : Traffic) (asked : List Asked)
+    (fetch : SeveralFetch) (before : EndLog) (ids : List ℕ) (taken : CameTaken) : Type 0 where
+  pub after : EndLog
+  pub fetching : IsFetchingSeveral values asked after
+  pub represents : EndRepresents values fetch.client.end after
+  pub accepted : after.accepted ≡ before.accepted
+  pub up : after.log.failed ≡ None
+  pub linked : IsLinked start now after.log (octets_unused fetch)
+  pub turns : length before.log.turns < length after.log.turns
+  pub handed : Option Handed
+  pub hands : HandsCame ids handed taken.next
+  pub same : after.handed ≡ handed_after (EndTook taken.used handed) before.handed
+  pub done : taken.next ≡ nexts.Done → octets_unused fetch ≡ []
+
+-- what the octets are that a client hands to `take`
+abbrev pub piece_of : SeveralFetch → List ℕ
+piece_of fetch = take (length fetch.input.items - fetch.used) (octets_unused fetch)
+
+-- The rest of a piece is a list of its own.
+pub rest_is : (fetch : SeveralFetch) → piece_of fetch ≡ octets_unused fetch
+rest_is fetch = take_rest fetch.input.items fetch.used
+
+module _ {values : Values} {start now : Traffic} {asked : List Asked} {old : SeveralFetch}
+    (new : SeveralFetch) {end : EndLog} {answered : AnsweredOn}
+    (is : AreComing values start now asked old end answered) where
+  pub taken_came : (taken : CameTaken) → new.input ≡ old.input → new.used ≡ old.used + taken.used
+      → TakesCameOnce old.client.end new.client.end old.ids.items (piece_of old) (Ok taken)
+      → HasTakenCame values start now asked new end old.ids.items taken
+  unfolding TakesCameSo
+  taken_came taken input used part =
+      let (after, represents, so) = part values end is.represents in
+      let may = subst (λ (octets : List ℕ). EndMayTake end octets (EndTook taken.used so.0) after)
+      (rest_is old) so.1 in
+      let says = taken_says may in
+      let first = takes_first may in
+      let left : drop taken.used (octets_unused old) ≡ octets_unused new =
+      drop-drop taken.used old.used old.input.items
+      ∙ ap (λ (n : ℕ). drop n old.input.items) (sym used)
+      ∙ ap (λ input. drop new.used input.items) (sym input) in
+      record {
+        after = after;
+        fetching = takes is.fetching _ _ may;
+        represents = represents;
+        accepted = says.accepted;
+        up = first.says.1;
+        linked = subst (IsLinked start now after.log) left
+            (took_links (given_within is.represents) is.linked first.uses first.says.0);
+        turns = turns_of_take may;
+        handed = so.0;
+        hands = so.2;
+        same = says.handed;
+        done = λ is_done. sym left ∙ drop_all taken.used (octets_unused old)
+            (omega (arith, so.3 is_done, ap length (rest_is old)));
+      }
+
+-- Nothing has come: it goes on.
+module _ {values : Values} {start now : Traffic} {asked : List Asked} {old : SeveralFetch}
+    (new : SeveralFetch) {end : EndLog} {answered : AnsweredOn} {taken : CameTaken}
+    (is : AreComing values start now asked old end answered)
+    (took : HasTakenCame values start now asked new end old.ids.items taken)
+    (ids : new.ids ≡ old.ids) where
+  pub took_none : IsNothing taken.next → new.kept ≡ old.kept
+      → AreComing values start now asked new took.after answered
+  took_none nothing kept =
+      record {
+        fetching = took.fetching;
+        represents = took.represents;
+        streams = rw ids is.streams;
+        accepted = λ id message one. rw took.accepted (is.accepted id message one);
+        up = took.up;
+        linked = took.linked;
+        parts = λ id one.
+            let there : Contains old.ids.items id = rw ids at one in
+            nothing_came old.ids.items taken.next taken.used took.handed end.handed nothing
+            took.hands took.same id there
+            ∙ rw kept (is.parts id there);
+        dropped = rw kept (stay_dropped end took.after old.kept.items
+            (stays_handed (EndTook taken.used took.handed) end.handed took.same) is.dropped);
+      }
+
+  module _ (stream : ℕ) (came : Came) (next : taken.next ≡ nexts.On stream came) where
+    -- Something has come, which was handed out last.
+    last_came : (one : Handed) × IsAsCame stream came one
+        × (took.after.handed ≡ one ∷ end.handed)
+    last_came = something_came old.ids.items stream came taken.used took.handed end.handed next
+        took.hands took.same
+
+    more_came : (i : ℕ)
+        → handed_on i took.after.handed ≡ handed_on i end.handed ++ came_on stream came i
+    more_came i =
+        let (one, is_as, same) = last_came in
+        ap (handed_on i) same ∙ handed_came i stream came one end.handed is_as
+
+    pub came_dropped : (code : ℕ) → came ≡ Dropped code → WasDropped took.after stream code
+    came_dropped code dropped =
+        let (one, is_as, same) = last_came in
+        dropped_as took.after stream code one
+        (subst (λ (what : Came). IsAsCame stream what one) dropped is_as)
+        (subst (λ (handed : List Handed). Contains handed one) (sym same)
+        (first_in one end.handed))
+
+    still_dropped : AreDropped took.after old.kept.items
+    still_dropped = stay_dropped end took.after old.kept.items
+        (stays_handed (EndTook taken.used took.handed) end.handed took.same) is.dropped
+
+    -- It is answered, where nothing is kept of the stream,
+    pub came_answered : kept_on stream old.kept.items ≡ [] → new.kept ≡ old.kept
+        → AreComing values start now asked new took.after (answered_next answered stream came)
+    came_answered none kept =
+        record {
+          fetching = took.fetching;
+          represents = took.represents;
+          streams = rw ids is.streams;
+          accepted = λ id message one. rw took.accepted (is.accepted id message one);
+          up = took.up;
+          linked = took.linked;
+          parts = λ id one.
+              let there : Contains old.ids.items id = rw ids at one in
+              rw kept (parts_answered answered stream came old.kept.items id none
+              (is.parts id there) (more_came id));
+          dropped = rw kept still_dropped;
+        }
+
+    -- or kept,
+    more_dropped : AreDropped took.after (old.kept.items ++ (stream, came) ∷ [])
+    more_dropped id code one = elim (Contains-push_cases old.kept.items (stream, came)
+        (id, Dropped code) one) [
+          | inl was ↦ still_dropped id code was
+          | inr same ↦
+              let here : stream ≡ id = ap (λ (pair : ℕ × Came). pair.0) same in
+              let dropped : came ≡ Dropped code = ap (λ (pair : ℕ × Came). pair.1) same in
+              subst (λ (i : ℕ). WasDropped took.after i code) here (came_dropped code dropped)
+        ]
+
+    pub came_kept : new.kept.items ≡ old.kept.items ++ (stream, came) ∷ []
+        → AreComing values start now asked new took.after answered
+    came_kept kept =
+        record {
+          fetching = took.fetching;
+          represents = took.represents;
+          streams = rw ids is.streams;
+          accepted = λ id message one. rw took.accepted (is.accepted id message one);
+          up = took.up;
+          linked = took.linked;
+          parts = λ id one.
+              let there : Contains old.ids.items id = rw ids at one in
+              rw kept (parts_kept answered stream came old.kept.items id
+              (is.parts id there) (more_came id));
+          dropped = rw kept more_dropped;
+        }
+
+    -- or lost, where there is no memory for that.
+    pub came_lost : new.kept.items ≡ old.kept.items
+        → HaveTakenLast values start now asked new took.after answered errors.Memory
+    came_lost kept =
+        record {
+          fetching = took.fetching;
+          represents = took.represents;
+          unused = octets_unused new;
+          linked = took.linked;
+          lost = came_on stream came;
+          parts = λ id one.
+              let there : Contains old.ids.items id = rw ids at one in
+              rw kept (parts_lost answered stream came old.kept.items id
+              (is.parts id there) (more_came id));
+          why = lacks_memory took.up refl;
+        }

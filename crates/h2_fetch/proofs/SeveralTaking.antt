@@ -1,0 +1,145 @@
+-- What a client that makes several requests makes of octets, by what `take` has answered.
+use Rattle.h2_engines.proofs.Names
+use Names.{◌≡◌, ◌≢◌, ℕ, false, List, ◌∷◌, ◌++◌, length, Option, Some, None, Ok, Err, refl, ap}
+use Names.{◌∙◌, append-nil, inl, inr, Contains, End, EndLog, EndTook, EndFailed, Handed, EndTaken}
+use Names.{EndTakes, LentPart, LinkError, ConnFault, event_handed, error_with, later_in}
+use Names.{EndAnswer, InterimHanded, HeadHanded, BodyHanded, TrailersHanded, Passed, ne_eqb, ◌==◌}
+use Rattle.h2_engines.specs.Fetches.{WasDropped}
+use Rattle.h2_engines.specs.ServerSteps.{ErrsServing}
+use Rattle.h2_engines.proofs.TakeMessages.{handed_after}
+use Rattle.h2_fetch.specs.Kept.{came_on}
+use Rattle.h2_fetch.specs.Parts.{handed_on, is_on}
+use Rattle.h2_fetch.specs.Several.{AreDropped}
+use Rattle.h2_fetch.specs.SeveralTakes.{HandsCame, IsAsCame, TakesCameOnce, TakesCameSo}
+use Rattle.h2_fetch.specs.SeveralTakes.{stream_of}
+use Rattle.h2_fetch.specs.declared.coming.CameNext.{CameNext}
+use Rattle.h2_fetch.specs.declared.coming.CameNext.TheVariants as nexts
+use Rattle.h2_fetch.specs.declared.part.ResponsePart.TheVariants as parts
+use Rattle.h2_fetch.specs.declared.several.Came.{Came}
+use Rattle.h2_fetch.specs.declared.several.Came.TheVariants.{Part, Dropped}
+use Rattle.h2_link.specs.declared.error.LinkError.TheVariants as errors
+
+-- Nothing has come.
+abbrev pub IsNothing : CameNext → Type 0
+IsNothing (nexts.On id came) = ⊥
+IsNothing next = Unit {0}
+
+hands_none : (ids : List ℕ) (next : CameNext) → IsNothing next → HandsCame ids None next
+hands_none ids (nexts.On id came) nothing = nothing
+hands_none ids next nothing = tt
+
+module _ (old new : End) (ids piece : List ℕ) (taken : EndTaken) where
+  -- Nothing was handed out, with some octets left or none.
+  pub came_nothing : (next : CameNext) → taken.event ≡ None → IsNothing next
+      → (next ≡ nexts.Done → taken.used ≡ length piece) → EndTakes old piece (Ok taken) new
+      → TakesCameOnce old new ids piece (Ok (record { used = taken.used; next = next }))
+  unfolding TakesCameSo
+  came_nothing next none nothing all takes values end represents =
+      let (after, may, now) = takes values end represents in
+      let took = rw none at may in (after, now, (None, took, hands_none ids next nothing, all))
+
+  -- Something was, which has come on one of the streams or not;
+  pub came_some : (event : LentPart) (next : CameNext) → taken.event ≡ Some event
+      → next ≢ nexts.Done → HandsCame ids (Some (event_handed event)) next
+      → EndTakes old piece (Ok taken) new
+      → TakesCameOnce old new ids piece (Ok (record { used = taken.used; next = next }))
+  unfolding TakesCameSo
+  came_some event next some goes_on hands takes values end represents =
+      let (after, may, now) = takes values end represents in
+      let took = rw some at may in
+      (after, now, (Some (event_handed event), took, hands, λ is. absurd (goes_on is)))
+
+  -- or there was no memory for it,
+  pub came_unkept : (event : LentPart) → taken.event ≡ Some event
+      → EndTakes old piece (Ok taken) new → TakesCameOnce old new ids piece (Err errors.Memory)
+  unfolding TakesCameSo ErrsServing
+  came_unkept event some takes values end represents =
+      let (after, may, now) = takes values end represents in
+      let took = rw some at may in
+      (after, now, (EndTook taken.used (Some (event_handed event)), took, refl))
+
+-- or the connection has failed.
+pub came_fault : (old new : End) (ids piece : List ℕ) (fault : ConnFault) {error : LinkError}
+    → error ≡ error_with fault.code → EndTakes old piece (Err fault) new
+    → TakesCameOnce old new ids piece (Err error)
+unfolding TakesCameSo ErrsServing
+came_fault old new ids piece fault is takes values end represents =
+    let (after, may, now) = takes values end represents in
+    (after, now, (EndFailed fault.code, may, is))
+
+-- What was handed out last adds to its stream what has come there,
+pub handed_came : (i id : ℕ) (came : Came) (handed : Handed) (before : List Handed)
+    → IsAsCame id came handed
+    → handed_on i (handed ∷ before) ≡ handed_on i before ++ came_on id came i
+unfolding handed_on
+handed_came i id (Part (parts.Interim list)) handed before is = rw is refl
+handed_came i id (Part (parts.Head list end)) handed before is = rw is refl
+handed_came i id (Part (parts.Body octets end)) handed before is = rw is refl
+handed_came i id (Part (parts.Trailers list)) handed before is = rw is refl
+handed_came i id (Dropped code) handed before (inl reset) = rw reset.1 refl
+handed_came i id (Dropped code) handed before (inr left) = rw left.1 refl
+
+-- and nothing to one where nothing has.
+off_by : (i id : ℕ) → Some id ≢ Some i → (id == i) ≡ false
+off_by i id other = ne_eqb id i (λ same. other (ap Some same))
+
+off_stream : (i : ℕ) (handed : Handed) → stream_of handed ≢ Some i → is_on i handed ≡ false
+off_stream i (InterimHanded id list) other = off_by i id other
+off_stream i (HeadHanded id list end) other = off_by i id other
+off_stream i (BodyHanded id octets end) other = off_by i id other
+off_stream i (TrailersHanded id list) other = off_by i id other
+off_stream i (Passed event) other = refl
+
+handed_off : (i : ℕ) (handed : Handed) (before : List Handed) → is_on i handed ≡ false
+    → handed_on i (handed ∷ before) ≡ handed_on i before
+unfolding handed_on
+handed_off i handed before off = rw off (append-nil (handed_on i before))
+
+pub nothing_came : (ids : List ℕ) (next : CameNext) (count : ℕ) (handed : Option Handed)
+    (before : List Handed) {after : List Handed} → IsNothing next → HandsCame ids handed next
+    → after ≡ handed_after (EndTook count handed) before → (i : ℕ) → Contains ids i
+    → handed_on i after ≡ handed_on i before
+nothing_came ids next count None before nothing hands same i one = ap (handed_on i) same
+nothing_came ids (nexts.On id came) count (Some handed) before nothing hands same i one =
+    absurd nothing
+nothing_came ids nexts.Again count (Some handed) before nothing hands same i one =
+    ap (handed_on i) same ∙ handed_off i handed before (off_stream i handed (hands i one))
+nothing_came ids nexts.Done count (Some handed) before nothing hands same i one =
+    ap (handed_on i) same ∙ handed_off i handed before (off_stream i handed (hands i one))
+
+-- Where something has come on a stream, it was handed out.
+pub something_came : (ids : List ℕ) (id : ℕ) (came : Came) {next : CameNext} (count : ℕ)
+    (handed : Option Handed) (before : List Handed) {after : List Handed}
+    → next ≡ nexts.On id came → HandsCame ids handed next
+    → after ≡ handed_after (EndTook count handed) before
+    → (one : Handed) × IsAsCame id came one × (after ≡ one ∷ before)
+something_came ids id came count None before is hands same = absurd (rw is at hands)
+something_came ids id came count (Some one) before is hands same = (one, rw is at hands, same)
+
+-- What was handed out stays so,
+pub stays_handed : (answer : EndAnswer) (before : List Handed) {after : List Handed}
+    → after ≡ handed_after answer before → (one : Handed) → Contains before one
+    → Contains after one
+stays_handed (EndTook count (Some last)) before same one was =
+    rw same (later_in last before one was)
+stays_handed (EndTook count None) before same one was = rw same was
+stays_handed (EndFailed code) before same one was = rw same was
+
+-- so that a stream that was dropped stays dropped.
+pub stays_dropped : (before after : EndLog)
+    → ((one : Handed) → Contains before.handed one → Contains after.handed one)
+    → (id code : ℕ) → WasDropped before id code → WasDropped after id code
+stays_dropped before after stays id code (inl (ours, was)) = inl (ours, stays _ was)
+stays_dropped before after stays id code (inr (is, was)) = inr (is, stays _ was)
+
+pub stay_dropped : (before after : EndLog) (kept : List (ℕ × Came))
+    → ((one : Handed) → Contains before.handed one → Contains after.handed one)
+    → AreDropped before kept → AreDropped after kept
+stay_dropped before after kept stays dropped id code one =
+    stays_dropped before after stays id code (dropped id code one)
+
+-- What has come as dropped was.
+pub dropped_as : (end : EndLog) (id code : ℕ) (handed : Handed) → IsAsCame id (Dropped code) handed
+    → Contains end.handed handed → WasDropped end id code
+dropped_as end id code handed (inl (ours, is)) one = inl (ours, rw is at one)
+dropped_as end id code handed (inr (seven, is)) one = inr (seven, rw is at one)

@@ -1,0 +1,223 @@
+-- How a client that makes several requests waits for the next of one.
+use Rattle.h2_engines.proofs.Names
+use Names.{◌≡◌, ◌≢◌, ◌≤◌, ℕ, ◌+◌, ◌-◌, ◌^◌, List, [], ◌++◌, Some, None, Result, Ok, Err, refl}
+use Names.{sym, ap, ◌∙◌, subst, inl, inr, arith, append-nil, Contains, Code, Values, EndLog}
+use Names.{EndRepresents, Handed, IsLinked, LinkError, Traffic, error_with}
+use Rattle.h2_engines.proofs.MachineViews.{all_in_part}
+use Rattle.h2_fetch.specs.Reads.{EndedSo, EndsOver, ReadOver, ReadSo, ReadsOver, ends_at_once}
+use Rattle.h2_fetch.specs.Reads.{ends_failed}
+use Rattle.h2_fetch.specs.Sends.{AsksSeveral}
+use Rattle.h2_fetch.specs.Several.{AnsweredOn, AreComing, Asked, CameSo, IsFetchingSeveral}
+use Rattle.h2_fetch.specs.Several.{StopsAllFor, kept_on, octets_unused}
+use Rattle.h2_fetch.specs.SeveralComings.{FilledSo, FillsSeveral, TakesNoneMore, TakesUntilCame}
+use Rattle.h2_fetch.specs.SeveralComings.{TookCame, WaitsFor, fails, lacks_memory, out_of_rounds}
+use Rattle.h2_fetch.specs.declared.several.Came.{Came}
+use Rattle.h2_fetch.specs.declared.several.SeveralFetch.{SeveralFetch}
+use Rattle.h2_fetch.proofs.SeveralComings.{AreGoing, are_going}
+use Rattle.h2_fetch.proofs.SeveralTaking.{stay_dropped}
+use Rattle.h2_link.specs.declared.error.LinkError.TheVariants as errors
+
+-- Where nothing has happened to messages, and as much is kept, the client fetches still.
+pub coming_still : {values : Values} {start before now : Traffic} {asked : List Asked}
+    {old : SeveralFetch} (new : SeveralFetch) {end : EndLog} (after : EndLog)
+    {answered : AnsweredOn} → new.ids ≡ old.ids → new.kept.items ≡ old.kept.items
+    → after.accepted ≡ end.accepted → after.handed ≡ end.handed
+    → IsFetchingSeveral values asked after → EndRepresents values new.client.end after
+    → after.log.failed ≡ None → IsLinked start now after.log (octets_unused new)
+    → AreComing values start before asked old end answered
+    → AreComing values start now asked new after answered
+coming_still {old = old} new {end} after ids kept accepted handed fetching represents up linked is =
+    record {
+      fetching = fetching;
+      represents = represents;
+      streams = rw ids is.streams;
+      accepted = λ id message one. rw accepted (is.accepted id message one);
+      up = up;
+      linked = linked;
+      parts = λ id one.
+          let there : Contains old.ids.items id = rw ids at one in
+          rw (handed, kept) (is.parts id there);
+      dropped = rw kept (stay_dropped end after old.kept.items (λ one was. rw handed was)
+          is.dropped);
+    }
+
+-- A piece was read, or the fetch has ended.
+module _ {values : Values} {start : Traffic} (before now : Traffic) {asked : List Asked}
+    (old new : SeveralFetch) {end : EndLog} {answered : AnsweredOn}
+    (is : AreComing values start before asked old end answered) (ids : new.ids ≡ old.ids)
+    (kept : new.kept.items ≡ old.kept.items) where
+  filled_so : (result : Result (Unit {0}) LinkError) → new.used ≡ 0
+      → ReadOver values (AsksSeveral asked) start now end new.client.end new.input.items result
+      → FilledSo values start now asked new end answered result
+  unfolding FilledSo ReadSo
+  filled_so (Ok done) first read = (
+    read.after,
+    coming_still new read.after ids kept read.same.accepted read.same.handed read.asks
+        read.represents read.so.0 (rw first read.so.1) is,
+    read.so.2,
+  )
+  filled_so (Err error) first read = (
+    read.after,
+    record {
+      fetching = read.asks;
+      represents = read.represents;
+      linked = read.so.0;
+      lost = λ id. [];
+      parts = λ id one.
+          let there : Contains old.ids.items id = rw ids at one in
+          rw (read.same.handed, kept) (is.parts id there
+          ∙ ap (λ (rest : List Handed). answered id ++ rest)
+          (sym (append-nil (kept_on id old.kept.items))));
+      all = λ other id. refl;
+      so = read.so.1;
+    },
+  )
+
+pub filled : (before now : Traffic) (old new : SeveralFetch)
+    (result : Result (Unit {0}) LinkError) → new.ids ≡ old.ids → new.kept ≡ old.kept
+    → new.used ≡ 0
+    → ReadsOver before now old.client.end new.client.end new.input.items result
+    → FillsSeveral before now old new result
+filled before now old new result ids kept first reads values start asked end answered is empty =
+    let read = reads values (AsksSeveral asked) start end is.represents is.fetching
+    (subst (IsLinked start before end.log) empty is.linked) is.up in
+    filled_so before now old new is ids (ap (λ queue. queue.items) kept) result first read
+
+-- The error of a client that can take no more is that of its connection, where that has failed.
+why_failed : {end : EndLog} {lost : AnsweredOn} {error : LinkError}
+    → TakesNoneMore end lost error → (code : Code) → end.log.failed ≡ Some code
+    → error ≡ error_with code
+why_failed (fails code failed is none) other also =
+    let same : code ≡ other = let both = sym failed ∙ also in cc in
+    is ∙ ap error_with same
+why_failed (lacks_memory up is) code failed = let wrong = sym up ∙ failed in absurd (cc)
+why_failed (out_of_rounds up is out none) code failed = let wrong = sym up ∙ failed in absurd (cc)
+
+-- Parts are lost only where memory was refused.
+all_lost : {end : EndLog} {lost : AnsweredOn} {error : LinkError}
+    → TakesNoneMore end lost error → error ≢ errors.Memory → (id : ℕ) → lost id ≡ []
+all_lost (fails code failed is none) other = none
+all_lost (lacks_memory up is) other = absurd (other is)
+all_lost (out_of_rounds up is out none) other = none
+
+none_lost : {end : EndLog} {lost : AnsweredOn} {error : LinkError}
+    → end.log.failed ≢ None → TakesNoneMore end lost error → (id : ℕ) → lost id ≡ []
+none_lost down (fails code failed is none) = none
+none_lost down (lacks_memory up is) = absurd (down up)
+none_lost down (out_of_rounds up is out none) = none
+
+lost_none : {start now : Traffic} {end after : EndLog} {lost : AnsweredOn}
+    {error result : LinkError} → TakesNoneMore end lost error
+    → EndedSo start now end after error result → result ≢ errors.Memory → (id : ℕ) → lost id ≡ []
+lost_none why (ends_at_once up same is) other = all_lost why (λ memory. other (is ∙ memory))
+lost_none why (ends_failed down stops) other = none_lost down why
+
+-- While the connection is up, a client ends for its own reason.
+up_so : (start now : Traffic) {end : EndLog} {lost : AnsweredOn} {error : LinkError}
+    → TakesNoneMore end lost error → end.log.failed ≡ None → StopsAllFor start now end error
+up_so start now (fails code failed is none) up = let wrong = sym up ∙ failed in absurd (cc)
+up_so start now (lacks_memory up is) also = rw is (inl (inl up))
+up_so start now (out_of_rounds up is out none) also = rw is (inr out)
+
+ended_so : (start now : Traffic) {end after : EndLog} {lost : AnsweredOn}
+    {error result : LinkError} → TakesNoneMore end lost error
+    → EndedSo start now end after error result → StopsAllFor start now after result
+ended_so start now why (ends_at_once up same is) = rw (same, is) (up_so start now why up)
+ended_so start now why (ends_failed down stops) = stops
+
+-- In a call of `wait_for` something goes over the link.
+abbrev pub WaitsOn : (before now : Traffic) → (old new : SeveralFetch) → ℕ → (rounds : ℕ)
+    → Type 0
+WaitsOn before now old new id rounds =
+    (values : Values) (start : Traffic) (asked : List Asked) (end : EndLog)
+    (answered : AnsweredOn) → AreComing values start before asked old end answered
+    → kept_on id old.kept.items ≡ []
+    → AreGoing values start now asked new id end answered rounds
+
+pub waits_first : (now : Traffic) (fetch : SeveralFetch) (id : ℕ) → WaitsOn now now fetch fetch id 0
+waits_first now fetch id values start asked end answered is none = are_going id is none
+
+module _ (before between : Traffic) (old one two : SeveralFetch) (id rounds : ℕ)
+    (on : WaitsOn before between old one id rounds) where
+  -- The next has come,
+  pub waits_came : (came : Came) → TakesUntilCame one two id (Ok (Some came))
+      → WaitsFor before between old two id (Ok came)
+  unfolding TookCame
+  waits_came came takes values start asked end answered is none =
+      let go = on values start asked end answered is none in
+      takes values start between asked go.after answered go.coming go.none
+
+  -- or the client can take no more,
+  pub waits_ended : (now : Traffic) (three : SeveralFetch) (error result : LinkError)
+      → three.ids ≡ two.ids → three.kept.items ≡ two.kept.items
+      → TakesUntilCame one two id (Err error)
+      → EndsOver between now two.client.end three.client.end error result
+      → WaitsFor before now old three id (Err result)
+  unfolding TookCame CameSo
+  waits_ended now three error result ids kept takes ends values start asked end answered is none =
+      let go = on values start asked end answered is none in
+      let (after, last) = takes values start between asked go.after answered go.coming go.none in
+      let ended = ends values (AsksSeveral asked) start after last.unused last.represents
+      last.fetching last.linked (why_failed last.why) in (
+        ended.after,
+        record {
+          fetching = ended.asks;
+          represents = ended.represents;
+          linked = ended.linked;
+          lost = last.lost;
+          parts = λ i one.
+              let there : Contains two.ids.items i = rw ids at one in
+              rw (ended.same.handed, kept) (last.parts i there);
+          all = lost_none last.why ended.so;
+          so = ended_so start now last.why ended.so;
+        },
+      )
+
+  module _ (now : Traffic) (three : SeveralFetch) (kept : three.kept ≡ two.kept)
+      (takes : TakesUntilCame one two id (Ok None)) where
+    -- or a piece is read,
+    pub waits_filled : (done : Unit {0}) → FillsSeveral between now two three (Ok done)
+        → WaitsOn before now old three id (rounds + 1)
+    unfolding TookCame FilledSo
+    waits_filled done fills values start asked end answered is none =
+        let go = on values start asked end answered is none in
+        let (after, coming, left, empty, turns) =
+        takes values start between asked go.after answered go.coming go.none in
+        let (filled, still, more) = fills values start asked after answered coming empty in
+        record {
+          after = filled;
+          coming = still;
+          none = rw kept left;
+          turns = omega (arith, go.turns, turns, more);
+        }
+
+    -- or not.
+    pub waits_unfilled : (error : LinkError) → FillsSeveral between now two three (Err error)
+        → WaitsFor before now old three id (Err error)
+    unfolding TookCame FilledSo CameSo
+    waits_unfilled error fills values start asked end answered is none =
+        let go = on values start asked end answered is none in
+        let (after, coming, left, empty, turns) =
+        takes values start between asked go.after answered go.coming go.none in
+        fills values start asked after answered coming empty
+
+-- There were as many rounds as may be.
+pub waits_no_round : (before now : Traffic) (old new : SeveralFetch) (id rounds : ℕ)
+    → 2 ^ 64 - 1 ≤ rounds → WaitsOn before now old new id rounds
+    → WaitsFor before now old new id (Err errors.NoProgress)
+unfolding CameSo
+waits_no_round before now old new id rounds all on values start asked end answered is none =
+    let go = on values start asked end answered is none in (
+      go.after,
+      record {
+        fetching = go.coming.fetching;
+        represents = go.coming.represents;
+        linked = all_in_part go.coming.linked;
+        lost = λ i. [];
+        parts = λ i one. go.coming.parts i one
+            ∙ ap (λ (rest : List Handed). answered i ++ rest)
+            (sym (append-nil (kept_on i new.kept.items)));
+        all = λ other i. refl;
+        so = inr (omega (arith, all, go.turns));
+      },
+    )

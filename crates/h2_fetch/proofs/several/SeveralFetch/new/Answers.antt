@@ -1,0 +1,54 @@
+-- By the lemmas on requests that are made one after another.
+use Rattle.h2_engines.proofs.Names.{ap, ◌≡◌, ◌∙◌, ◌++◌, ◌∷◌, [], List, length, map, sym, subst}
+use Rattle.h2_engines.proofs.Names.{arith, rules, Message, SentMessage, err_from_is_err_and}
+use Rattle.h2_engines.proofs.Names.{map_push, message_value}
+use Rattle.std.proofs.Common.{map-id}
+use Rattle.std.proofs.lemmas.Iterator.Adapters.{YieldsList-from_vec}
+use Rattle.std.proofs.lemmas.Iterator.Consumers.{YieldsList-end}
+use Rattle.h2_flow.specs.ConfigValues.{values_of}
+use Rattle.h2_fetch.proofs.SeveralBeginning.{HasRequestedAll, begins_several, given_next}
+use Rattle.h2_fetch.proofs.SeveralBeginning.{refuses_one, requests_more, requests_none}
+use Rattle.h2_fetch.proofs.several.SeveralFetch.new.Goals as goal
+
+pub loop-message-init : goal.loop-message-init
+loop-message-init c =
+    requests_none c.in-Ok.client.end c.new-ids.result.items c.args.config.in_range
+    c.in-Ok.ensures.ok c.new-ids.ensures.items
+
+pub returns-in_err-id-clause-err : goal.returns-in_err-id-clause-err
+returns-in_err-id-clause-err c =
+    let answer = err_from_is_err_and c.from_residual.result c.from_residual.ensures.1 in
+    rw (answer.1, answer.2) (refuses_one c.request_next.new.client.end c.loop-message.invariant
+    (message_value c.in-Some.message) c.in_err-id.field-0.0
+    (map message_value c.args.messages.items) _ (given_next c.args.messages.items
+    c.into_iter-message-iterator.result c.loop-message.yielded c.loop-message.message-iterator
+    c.next.new.self c.in-Some.message
+    c.into_iter-message-iterator.ensures.into_iter_gives.0 c.loop-message.yielded_by
+    c.in-Some.ensures.steps.0) c.in_err-id.ensures)
+
+pub loop-message-preserved : goal.loop-message-preserved
+loop-message-preserved c =
+    let pushed : c.push.new.self.items ≡ c.loop-message.ids.items ++ c.in_ok-id.id ∷ [] =
+    search rules in
+    subst (λ (messages : List SentMessage). HasRequestedAll (values_of c.args.config) messages
+    c.request_next.new.client.end c.push.new.self.items)
+    (sym (map_push message_value c.loop-message.yielded c.in-Some.message))
+    (rw pushed (requests_more c.request_next.new.client.end c.loop-message.invariant
+    (message_value c.in-Some.message) c.in_ok-id.id c.in_ok-id.ensures))
+
+pub returns-clause-ok : goal.returns-clause-ok
+returns-clause-ok c =
+    let iterator = c.into_iter-message-iterator.result in
+    let gives : iterator.rest.items ≡ c.args.messages.items =
+    c.into_iter-message-iterator.ensures.into_iter_gives.0 in
+    let long : iterator.rest.len ≡ length c.args.messages.items =
+    omega (arith, iterator.rest.ok.0, ap length gives) in
+    let ended = YieldsList-end (YieldsList-from_vec c.args.messages.items gives long)
+    c.loop-message.yielded c.loop-message.message-iterator c.loop-message.yielded_by c.next.result
+    c.next.new.self c.in-None.is c.next.ensures.steps in
+    let all : c.loop-message.yielded ≡ c.args.messages.items =
+    sym (map-id c.loop-message.yielded) ∙ ended.0 in
+    begins_several _ (subst (λ (messages : List Message). HasRequestedAll
+    (values_of c.args.config) (map message_value messages) c.loop-message.client.end
+    c.loop-message.ids.items) all c.loop-message.invariant) c.new-2.ensures.items
+    c.new-3.ensures.items

@@ -1,0 +1,8 @@
+-- By the lemma on a piece that is read.
+use Rattle.h2_engines.proofs.Names.{refl}
+use Rattle.h2_fetch.proofs.SeveralWaits.{filled}
+use Rattle.h2_fetch.proofs.several.SeveralFetch.refill.Goals as goal
+
+pub returns-clause-fills : goal.returns-clause-fills
+returns-clause-fills g c =
+    filled _ _ c.args.self.now _ c.read_piece.result refl refl refl c.read_piece.ensures.reads

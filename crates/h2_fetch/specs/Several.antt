@@ -1,0 +1,172 @@
+-- What has happened at a client that makes several requests, and what it answers of each response.
+use Rattle.std.specs.Prelude.{◌≡◌, ◌≢◌, ◌==◌, ℕ, List, [], ◌∷◌, ◌++◌, drop, map}
+use Rattle.std.specs.Prelude.{if◌then◌else◌, Some, None, Result, Ok, Err}
+use Rattle.std.specs.List.{Contains}
+use Rattle.h2_spec_log.specs.declared.role.Role.TheVariants.{Client}
+use Rattle.h2_spec_log.specs.declared.refusal.Refusal.TheVariants.{ListTooLarge}
+use Rattle.h2_spec_log.specs.Acts.{Values, AreInRange, Answer, IsTypedAct, PutOut}
+use Rattle.h2_spec_log.specs.LogCalls.{MayAnswer, with_call}
+use Rattle.h2_message.specs.Messages.{SentMessage}
+use Rattle.h2_laws_pair.specs.Tokens.{at_once}
+use Rattle.h2_ends.specs.declared.refusal.EndRefusal.{EndRefusal}
+use Rattle.h2_ends.specs.declared.refusal.EndRefusal.TheVariants.{BadMessage, Conn}
+use Rattle.h2_ends.specs.Ends.{EndLog, EndAnswer, Handed, said_for}
+use Rattle.h2_ends.specs.EndTakes.{EndMayTake, end_with_log}
+use Rattle.h2_ends.specs.EndCalls.{MayRequest, MayPump, MayReleaseAll}
+use Rattle.h2_ends.specs.Represents.{EndRepresents, new_end_log}
+use Rattle.h2_link.specs.declared.error.LinkError.{LinkError}
+use Rattle.h2_link.specs.declared.error.LinkError.TheVariants as errors
+use Rattle.h2_engines.specs.Failures.{IsOutOfMemory, error_after}
+use Rattle.h2_engines.specs.Fetches.{WasDropped}
+use Rattle.h2_engines.specs.Linked.{Traffic, HasGiven, IsLinked, IsLinkedInPart, HasStalled}
+use Rattle.h2_engines.specs.Linked.{HasTakenAll}
+use Rattle.h2_engines.specs.Serves.{HasFailedWith, HasReturnedAll}
+use Rattle.h2_fetch.specs.declared.several.SeveralFetch.{SeveralFetch}
+use Rattle.h2_fetch.specs.declared.several.Came.{Came}
+use Rattle.h2_fetch.specs.declared.several.Came.TheVariants.{Part, Dropped}
+use Rattle.h2_fetch.specs.Parts.{handed_of, handed_on}
+
+-- a request that was accepted, with its stream
+abbrev pub Asked : Type 0
+Asked = ℕ × SentMessage
+
+-- What has happened at a client since it was new: it made these requests, the first one first, and
+-- each was accepted; it took octets, released, pumped and gave out.
+-- rule: engines (own) Responses of several requests are what is handed out, each in order
+pub data IsFetchingSeveral (values : Values) : List Asked → EndLog → Type 0 where
+  begins : AreInRange values → IsFetchingSeveral values [] (new_end_log Client values)
+  requests : {asked : List Asked} {end after : EndLog} → IsFetchingSeveral values asked end
+      → (id : ℕ) (message : SentMessage) → MayRequest end message (Ok id) after
+      → IsFetchingSeveral values (asked ++ (id, message) ∷ []) after
+  takes : {asked : List Asked} {end after : EndLog} → IsFetchingSeveral values asked end
+      → (piece : List ℕ) (answer : EndAnswer) → EndMayTake end piece answer after
+      → IsFetchingSeveral values asked after
+  releases : {asked : List Asked} {end after : EndLog} → IsFetchingSeveral values asked end
+      → (result : Result (Unit {0}) EndRefusal) → MayReleaseAll end result after
+      → IsFetchingSeveral values asked after
+  pumps : {asked : List Asked} {end after : EndLog} → IsFetchingSeveral values asked end
+      → (result : Result ℕ EndRefusal) → MayPump end result after
+      → IsFetchingSeveral values asked after
+  gives_out : {asked : List Asked} {end : EndLog} → IsFetchingSeveral values asked end
+      → (count : ℕ) (answer : Answer) → IsTypedAct (PutOut count)
+      → MayAnswer end.log (PutOut count) answer
+      → IsFetchingSeveral values asked
+      (end_with_log end (with_call end.log (PutOut count) answer))
+
+-- the octets that were read and not used yet
+abbrev pub octets_unused : SeveralFetch → List ℕ
+octets_unused fetch = drop fetch.used fetch.input.items
+
+-- what is kept of a stream: the parts that were handed out there and not answered yet, as they were
+-- handed out, the first one first
+unfoldable pub kept_on : ℕ → List (ℕ × Came) → List Handed
+kept_on i [] = []
+kept_on i ((id, Part part) ∷ kept) =
+    (if id == i then handed_of id part ∷ [] else []) ++ kept_on i kept
+kept_on i ((id, Dropped code) ∷ kept) = kept_on i kept
+
+-- what was answered of each stream
+abbrev pub AnsweredOn : Type 0
+AnsweredOn = ℕ → List Handed
+
+-- the same with what is answered next
+abbrev pub answered_next : AnsweredOn → (id : ℕ) → Came → AnsweredOn
+answered_next answered id (Part part) i =
+    answered i ++ (if id == i then handed_of id part ∷ [] else [])
+answered_next answered id (Dropped code) i = answered i
+
+-- Each stream that is kept as reset was reset, or its request was not processed.
+abbrev pub AreDropped : EndLog → List (ℕ × Came) → Type 0
+AreDropped end kept =
+    (id code : ℕ) → Contains kept (id, Dropped code) → WasDropped end id code
+
+-- A client with these values, at which this has happened, fetches: its messages were accepted, the
+-- connection is up, it has used all octets that the link gave since then but those that it keeps,
+-- the link took all that it has given out, and of each stream that it asked on these parts were
+-- answered and those are kept: all that were handed out, in order.
+-- rule: engines (own) Responses of several requests are what is handed out, each in order
+pub record AreComing (values : Values) (start now : Traffic) (asked : List Asked)
+    (fetch : SeveralFetch) (end : EndLog) (answered : AnsweredOn) : Type 0 where
+  pub fetching : IsFetchingSeveral values asked end
+  pub represents : EndRepresents values fetch.client.end end
+  pub streams : fetch.ids.items ≡ map (λ one. one.0) asked
+  pub accepted : (id : ℕ) (message : SentMessage) → Contains asked (id, message)
+      → said_for id end.accepted ≡ Some (at_once message)
+  pub up : end.log.failed ≡ None
+  pub linked : IsLinked start now end.log (octets_unused fetch)
+  pub parts : (id : ℕ) → Contains fetch.ids.items id
+      → handed_on id end.handed ≡ answered id ++ kept_on id fetch.kept.items
+  pub dropped : AreDropped end fetch.kept.items
+
+-- A new client has made these requests, and nothing has come.
+-- rule: engines (own) Responses of several requests are what is handed out, each in order
+abbrev pub BeginsSeveral : Values → (messages : List SentMessage) → SeveralFetch → Type 0
+BeginsSeveral values messages fetch =
+    (asked : List Asked) × (end : EndLog) × (map (λ one. one.1) asked ≡ messages)
+    × ((start : Traffic) → AreComing values start start asked fetch end (λ id. []))
+
+-- how a fetch ends whose request was refused for this
+abbrev pub error_of_request : EndRefusal → LinkError
+error_of_request (BadMessage rule) = errors.Refused
+error_of_request (Conn ListTooLarge) = errors.Refused
+error_of_request refusal = error_after refusal
+
+-- One of the messages was refused, after those before it were accepted; or no client could be had.
+-- rule: engines (own) Responses of several requests are what is handed out, each in order
+pub data RefusesOne (values : Values) (messages : List SentMessage) (error : LinkError) : Type 0
+  where
+    refuses : (asked : List Asked) (message : SentMessage) (more : List SentMessage)
+        (end after : EndLog) (refusal : EndRefusal)
+        → messages ≡ map (λ one. one.1) asked ++ message ∷ more
+        → IsFetchingSeveral values asked end → MayRequest end message (Err refusal) after
+        → error ≡ error_of_request refusal → RefusesOne values messages error
+    lacks_memory : error ≡ errors.Memory → RefusesOne values messages error
+
+-- why a fetch has ended early, by its error; out of memory no log says which allocation was refused
+abbrev pub StopsAllFor : (start now : Traffic) → EndLog → LinkError → Type 0
+StopsAllFor start now end (errors.Stream number) = HasFailedWith start now end.log number
+StopsAllFor start now end (errors.Reset number) = ⊥
+StopsAllFor start now end errors.CutOff =
+    (end.log.failed ≡ None) × HasGiven start now end.log [] × HasTakenAll start now end.log
+    × HasReturnedAll end.log
+StopsAllFor start now end errors.NoProgress = HasStalled now end
+StopsAllFor start now end errors.Memory = IsOutOfMemory end.log
+StopsAllFor start now end errors.Device = Unit {0}
+StopsAllFor start now end errors.Refused = ⊥
+
+-- The fetch has ended early, with this error: the octets that the client has used are the first
+-- that the link gave, the link took the first of its output, and of each stream these parts were
+-- answered, those are kept, and the last ones lost: none but where memory was refused.
+-- rule: engines (own) Responses of several requests are what is handed out, each in order
+pub record HaveStopped (values : Values) (start now : Traffic) (asked : List Asked)
+    (fetch : SeveralFetch) (end : EndLog) (answered : AnsweredOn) (error : LinkError) : Type 0 where
+  pub fetching : IsFetchingSeveral values asked end
+  pub represents : EndRepresents values fetch.client.end end
+  pub linked : IsLinkedInPart start now end.log
+  pub lost : AnsweredOn
+  pub parts : (id : ℕ) → Contains fetch.ids.items id
+      → handed_on id end.handed ≡ answered id ++ (kept_on id fetch.kept.items ++ lost id)
+  pub all : error ≢ errors.Memory → (id : ℕ) → lost id ≡ []
+  pub so : StopsAllFor start now end error
+
+-- what was answered of a stream, or how the fetch has ended early
+-- rule: engines (own) Responses of several requests are what is handed out, each in order
+unfoldable pub CameSo : Values → (start now : Traffic) → List Asked → SeveralFetch → ℕ → AnsweredOn
+    → Result Came LinkError → Type 0
+CameSo values start now asked fetch id answered (Ok came) =
+    (after : EndLog)
+    × AreComing values start now asked fetch after (answered_next answered id came)
+    × ((code : ℕ) → came ≡ Dropped code → WasDropped after id code)
+CameSo values start now asked fetch id answered (Err error) =
+    (after : EndLog) × HaveStopped values start now asked fetch after answered error
+
+-- Whatever has happened at a client that fetches, the next part of the response on this stream is
+-- asked for.
+-- rule: engines (own) Responses of several requests are what is handed out, each in order
+abbrev pub AnswersNextOn : (before now : Traffic) → (old new : SeveralFetch) → ℕ
+    → Result Came LinkError → Type 0
+AnswersNextOn before now old new id result =
+    (values : Values) (start : Traffic) (asked : List Asked) (end : EndLog)
+    (answered : AnsweredOn) → Contains old.ids.items id
+    → AreComing values start before asked old end answered
+    → CameSo values start now asked new id answered result

@@ -1,0 +1,107 @@
+//! What has come of several responses with octets.
+
+ghost use Rattle.std.specs.Prelude.{◌≡◌, ◌≢◌, ◌≤◌, IfErr, IfOk, Some, length};
+ghost use Rattle.h2_ends.specs.Loans.{event_handed};
+ghost use Rattle.h2_engines.specs.Failures.{IsOfClient};
+ghost use Rattle.h2_fetch.specs.SeveralTakes.{HandsCame, TakesCameOnce, stream_of};
+
+use crate::errors::unless_failed;
+use crate::part::part_of;
+use crate::several::Came;
+use h2_ends::{Client, Code, EndEvent, FieldList};
+use h2_link::LinkError;
+use std::alloc::{AllocError, Global};
+
+/// What a client made of a piece.
+#[derive(Drop)]
+pub(crate) struct CameTaken {
+    /// So many octets were used.
+    pub(crate) used: usize,
+    /// What comes of them.
+    pub(crate) next: CameNext,
+}
+
+/// What comes of octets that a client took.
+#[derive(Drop)]
+pub(crate) enum CameNext {
+    /// This has come on a stream.
+    On(u32, Came),
+    /// Nothing has, and some octets may be left.
+    Again,
+    /// Nothing has, and no octets are left.
+    Done,
+}
+
+// rule: engines (own) Responses of several requests are what is handed out, each in order
+/// Hands octets to `take` once, and answers what has come on one of these streams.
+pub(crate) fn take_came(
+    alloc: Global,
+    client: &mut Client,
+    ids: &[u32],
+    piece: &[u8],
+) -> Result<CameTaken, LinkError>
+    ensures takes { TakesCameOnce client.old.end client.new.end ids.now piece.now result }
+    ensures within { IfOk result (λ taken. taken.used ≤ length piece.now) }
+    ensures err { IfErr result IsOfClient }
+    ensures goes { IfErr result (λ error. error ≢ LinkError.CutOff) }
+{
+    let taken = unless_failed(client.take(piece))?;
+    let used = taken.used;
+    match taken.event {
+        None if used < piece.len() => Ok(CameTaken {
+            used,
+            next: CameNext::Again,
+        }),
+        None => Ok(CameTaken {
+            used,
+            next: CameNext::Done,
+        }),
+        Some(event) => {
+            let next = came_of(alloc, ids, event)?;
+            Ok(CameTaken { used, next })
+        }
+    }
+}
+
+// rule: engines (own) Responses of several requests are what is handed out, each in order
+/// What was handed out, where it has come on one of these streams.
+fn came_of(
+    alloc: Global,
+    ids: &[u32],
+    event: EndEvent<&FieldList, &[u8]>,
+) -> Result<CameNext, AllocError>
+    ensures hands { IfOk result (HandsCame ids.now (Some (event_handed event.entry))) }
+    ensures more { IfOk result (λ next. next ≢ CameNext.Done) }
+{
+    let Some(id) = stream_of(event) else {
+        return Ok(CameNext::Again);
+    };
+    if !ids.contains(&id) {
+        return Ok(CameNext::Again);
+    }
+    match event {
+        EndEvent::Reset { code, .. } => Ok(CameNext::On(id, Came::Dropped(code))),
+        EndEvent::Unprocessed { .. } => {
+            Ok(CameNext::On(id, Came::Dropped(Code::RefusedStream.number())))
+        }
+        event => match part_of(alloc, id, event)? {
+            Some(part) => Ok(CameNext::On(id, Came::Part(part))),
+            None => Ok(CameNext::Again),
+        },
+    }
+}
+
+/// The stream of what was handed out, where that is a part of a message, or no more comes on it.
+fn stream_of(event: EndEvent<&FieldList, &[u8]>) -> Option<u32>
+    ensures { result ≡ stream_of (event_handed event.entry) }
+{
+    match event {
+        EndEvent::Interim { id, .. } => Some(id),
+        EndEvent::Head { id, .. } => Some(id),
+        EndEvent::Body { id, .. } => Some(id),
+        EndEvent::Trailers { id, .. } => Some(id),
+        EndEvent::Reset { id, .. } => Some(id),
+        EndEvent::Unprocessed { id } => Some(id),
+        _ => None,
+    }
+}

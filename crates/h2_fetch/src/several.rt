@@ -1,0 +1,197 @@
+//! Fetching several responses over one link, each part by part.
+
+ghost use Rattle.std.specs.Prelude.{◌≡◌, ◌≢◌, ◌≤◌, ◌<◌, ◌-◌, ◌^◌, IfErr, IfOk, length, map};
+ghost use Rattle.h2_flow.specs.ConfigValues.{values_of};
+ghost use Rattle.h2_message.specs.Values.{message_value};
+ghost use Rattle.h2_engines.specs.Failures.{CutsOffAtEnd, IsOfClient, failures_at_end};
+ghost use Rattle.h2_engines.specs.Linked.{traffic};
+
+use crate::asking::request_next;
+use crate::coming::{CameNext, take_came};
+use crate::kept::{keep, take_kept};
+use crate::part::ResponsePart;
+use crate::reading::read_piece;
+use crate::sending::end_early;
+use h2_ends::{Client, Config, Conn, Message};
+use h2_link::{Link, LinkError};
+use std::alloc::Global;
+use std::collections::VecDeque;
+
+/// What has come on a stream.
+#[derive(Debug, Drop)]
+pub enum Came {
+    /// The next part of the response.
+    Part(ResponsePart),
+    /// The stream was reset with this code, by either end (RFC 9113, section 6.4), or its request
+    /// was not processed (section 6.8), with REFUSED_STREAM. No more comes on it.
+    Dropped(u32),
+}
+
+/// A client that makes several requests at once over a link, and answers the response of each part
+/// by part, of whichever stream is asked for. What comes of the others meanwhile is kept until it
+/// is asked for.
+#[derive(Drop)]
+pub struct SeveralFetch {
+    pub(crate) alloc: Global,
+    pub(crate) client: Client,
+    /// The streams of the requests, in their order.
+    pub(crate) ids: Vec<u32>,
+    /// What has come and wasn't answered yet, in its order, with its stream.
+    pub(crate) kept: VecDeque<(u32, Came)>,
+    /// What was read last.
+    pub(crate) input: Vec<u8>,
+    /// So many octets of it were used.
+    pub(crate) used: usize,
+    pub(crate) ghost within: { used ≤ length input.items },
+}
+
+impl SeveralFetch {
+    ghost use Rattle.h2_fetch.specs.Several.{AnswersNextOn, BeginsSeveral, RefusesOne};
+    ghost use Rattle.h2_fetch.specs.SeveralComings.{FillsSeveral, TakesUntilCame, WaitsFor};
+
+    // contract: engines (own) Responses of several requests are what is handed out, each in order
+    // rule: engines (own) Responses of several requests are what is handed out, each in order
+    /// A new one, whose opening and the heads of the requests wait. The requests are made at once,
+    /// whatever the server will allow.
+    ///
+    /// # Errors
+    ///
+    /// [`LinkError::Refused`] (N7) where a message breaks a rule or its fields are too many,
+    /// [`LinkError::Memory`] (N3) where an allocation was refused, and [`LinkError::NoProgress`]
+    /// (N5) where the client refuses a request for something else.
+    pub fn new(
+        alloc: Global,
+        config: Config,
+        messages: Vec<Message>,
+    ) -> Result<SeveralFetch, LinkError>
+        ensures ok { IfOk result (BeginsSeveral (values_of config)
+            (map message_value messages.items)) }
+        ensures err { IfErr result (RefusesOne (values_of config)
+            (map message_value messages.items)) }
+    {
+        let Ok(mut client) = Client::new(alloc, config) else {
+            return Err(LinkError::Memory);
+        };
+        let mut ids = Vec::new(alloc);
+        for message in messages {
+            let id = request_next(&mut client, message)?;
+            if ids.push(id).is_err() {
+                return Err(LinkError::Memory);
+            }
+        }
+        Ok(SeveralFetch {
+            alloc,
+            client,
+            ids,
+            kept: VecDeque::new(alloc),
+            input: Vec::new(alloc),
+            used: 0,
+        })
+    }
+
+    /// The streams of the requests, in their order.
+    pub fn streams(&self) -> &[u32]
+        ensures { result.now ≡ self.now.ids.items }
+    {
+        &self.ids
+    }
+
+    /// Its connection, for what that answers of itself, as why it has failed. It takes no memory.
+    pub fn conn(&self) -> &Conn
+        ensures { result.now ≡ self.now.client.end.conn }
+    {
+        self.client.conn()
+    }
+
+    // contract: engines (own) Responses of several requests are what is handed out, each in order
+    // rule: engines (own) Responses of several requests are what is handed out, each in order
+    /// The next part of the response on a stream of its requests. Where none is there, all that is
+    /// owed is released, what waits is written, and then the link is read. Nothing is to be asked
+    /// for after the part with which the response is whole, or after [`Came::Dropped`]. A link that
+    /// has failed isn't used any more.
+    ///
+    /// # Errors
+    ///
+    /// As [`crate::PartFetch::next`], but that a reset is an answer. What is kept then is answered
+    /// still, if it is asked for.
+    pub fn next_on<L: Link>(&mut self, id: u32, link: &mut L) -> Result<Came, LinkError>
+        requires { L.faults link.old < 2 ^ 64 - 1 }
+        ensures next { AnswersNextOn
+            (traffic (L.given link.old) (L.taken link.old) (L.stalled link.old))
+            (traffic (L.given link.new) (L.taken link.new) (L.stalled link.new))
+            self.old self.new id result }
+        ensures cut_off { CutsOffAtEnd result (L.ended link.new) }
+        ensures failures { L.faults link.new ≡ failures_at_end (L.faults link.old) result }
+        ensures streams { self.new.ids ≡ self.old.ids }
+    {
+        match take_kept(&mut self.kept, id) {
+            Some(came) => Ok(came),
+            None => self.wait_for(id, link),
+        }
+    }
+
+    // rule: engines (own) Responses of several requests are what is handed out, each in order
+    /// The next on a stream of which nothing is kept.
+    fn wait_for<L: Link>(&mut self, id: u32, link: &mut L) -> Result<Came, LinkError>
+        requires { L.faults link.old < 2 ^ 64 - 1 }
+        ensures waits { WaitsFor
+            (traffic (L.given link.old) (L.taken link.old) (L.stalled link.old))
+            (traffic (L.given link.new) (L.taken link.new) (L.stalled link.new))
+            self.old self.new id result }
+        ensures cut_off { CutsOffAtEnd result (L.ended link.new) }
+        ensures failures { L.faults link.new ≡ failures_at_end (L.faults link.old) result }
+        ensures streams { self.new.ids ≡ self.old.ids }
+    {
+        for _ in 0..u64::MAX {
+            match self.take_next(id) {
+                Ok(Some(came)) => return Ok(came),
+                Ok(None) => self.refill(link)?,
+                Err(error) => return Err(end_early(&mut self.client, link, error)),
+            }
+        }
+        Err(LinkError::NoProgress)
+    }
+
+    // rule: engines (own) Responses of several requests are what is handed out, each in order
+    /// Takes what was read until something has come on a stream, or all of it was used. What has
+    /// come on the others is kept.
+    fn take_next(&mut self, id: u32) -> Result<Option<Came>, LinkError>
+        ensures takes { TakesUntilCame self.old self.new id result }
+        ensures streams { self.new.ids ≡ self.old.ids }
+        ensures err { IfErr result IsOfClient }
+        ensures goes { IfErr result (λ error. error ≢ LinkError.CutOff) }
+    {
+        for _ in 0..u64::MAX {
+            let piece = &self.input[self.used..];
+            let taken = take_came(self.alloc, &mut self.client, &self.ids, piece)?;
+            self.used += taken.used;
+            match taken.next {
+                CameNext::On(stream, came) => {
+                    if stream == id {
+                        return Ok(Some(came));
+                    }
+                    keep(&mut self.kept, stream, came)?;
+                }
+                CameNext::Again => {}
+                CameNext::Done => return Ok(None),
+            }
+        }
+        Err(LinkError::NoProgress)
+    }
+
+    /// Sends what could go, and reads a piece.
+    fn refill<L: Link>(&mut self, link: &mut L) -> Result<(), LinkError>
+        requires { L.faults link.old < 2 ^ 64 - 1 }
+        ensures fills { FillsSeveral
+            (traffic (L.given link.old) (L.taken link.old) (L.stalled link.old))
+            (traffic (L.given link.new) (L.taken link.new) (L.stalled link.new))
+            self.old self.new result }
+        ensures cut_off { CutsOffAtEnd result (L.ended link.new) }
+        ensures failures { L.faults link.new ≡ failures_at_end (L.faults link.old) result }
+        ensures streams { self.new.ids ≡ self.old.ids }
+        ensures kept { self.new.kept ≡ self.old.kept }
+    {
+        self.used = 0;
+        read_piece(&mut self.client, &mut self.input, link)
+    }
+}
