@@ -1,6 +1,6 @@
 //! A file that is written, of which a terminal is told how much it has.
 
-ghost use Rattle.std.specs.Prelude.{◌∷◌, option_map};
+ghost use Rattle.std.specs.Prelude.{◌≡◌, ◌∷◌, option_map};
 
 use h2_message::Field;
 use std::io::{self, Write};
@@ -72,7 +72,9 @@ impl<'a, S: Write, C: Clock, E: Write> Counted<'a, S, C, E> {
 
     // rule (tested): engines (own) On a terminal get -o says how much of the body has come
     /// Notes octets that were written, and tells how many they are, some ten times a second.
-    fn note(&mut self, count: usize) {
+    fn note(&mut self, count: usize)
+        ensures { self.new.file ≡ self.old.file }
+    {
         self.count = self.count.saturating_add(count as u64);
         if !self.progress.is_shown {
             return;
@@ -86,7 +88,9 @@ impl<'a, S: Write, C: Clock, E: Write> Counted<'a, S, C, E> {
     }
 
     /// Writes the line over that of the last time. Whether that works changes nothing else.
-    fn tell(&mut self) {
+    fn tell(&mut self)
+        ensures { self.new.file ≡ self.old.file }
+    {
         let count = self.count;
         let _ = match self.progress.total {
             Some(total) => write!(self.out, "\r{count} of {total} octets"),
