@@ -17,4 +17,5 @@ mod serving;
 mod showing;
 mod sockets;
 mod streams;
+mod watching;
 mod words;

@@ -16,7 +16,7 @@ use std::test::Fail;
 use std::time::Clock;
 
 /// A link that gives these octets, so many a read.
-fn link_of(alloc: Global, octets: &[u8], most: usize) -> Result<MemoryLink, AllocError>
+pub(super) fn link_of(alloc: Global, octets: &[u8], most: usize) -> Result<MemoryLink, AllocError>
     ensures { IfOk result (λ link. link.failures ≡ 0) }
 {
     let input = Vec::from_slice(alloc, octets)?;
@@ -24,7 +24,7 @@ fn link_of(alloc: Global, octets: &[u8], most: usize) -> Result<MemoryLink, Allo
 }
 
 /// A fetch that asks for `/`.
-fn fetch_of(alloc: Global) -> Option<PartFetch> {
+pub(super) fn fetch_of(alloc: Global) -> Option<PartFetch> {
     let message = Message::get(alloc, b"h", b"/").ok()?;
     PartFetch::new(alloc, Config::default(), message).ok()
 }
@@ -117,12 +117,13 @@ fn bodies_that_end_early(rt: HostRuntime) {
     }
 }
 
-/// What words stream of the response, and how that ends.
+/// What words stream of the response, what is on standard error, and how that ends.
 fn streamed<F: Files + Clock>(
     files: &F,
     alloc: Global,
     options: &GetOptions<'_>,
-) -> Option<(Vec<u8>, Result<(), StreamError>)> {
+    has_progress: bool,
+) -> Option<(Vec<u8>, Vec<u8>, Result<(), StreamError>)> {
     let (mut fetch, mut link) = (fetch_of(alloc)?, link_of(alloc, RESPONSE, 7).ok()?);
     if link.failures() > 0 {
         return None;
@@ -130,9 +131,16 @@ fn streamed<F: Files + Clock>(
     let mut out = Vec::new(alloc);
     let mut err = Vec::new(alloc);
     let ended = stream_response(
-        files, alloc, options, &mut fetch, &mut link, false, &mut out, &mut err,
+        files,
+        alloc,
+        options,
+        &mut fetch,
+        &mut link,
+        has_progress,
+        &mut out,
+        &mut err,
     );
-    Some((out, ended.map(|_| ())))
+    Some((out, err, ended.map(|_| ())))
 }
 
 /// Whether words stream this text of the response.
@@ -149,10 +157,38 @@ fn words_stream<F: Files + Clock>(
     let Ok(options) = get_args(alloc, &words) else {
         return Ok(false);
     };
-    Ok(match streamed(files, alloc, &options) {
-        Some((out, ended)) => out.as_slice() == text.as_bytes() && ended == Ok(()),
+    Ok(match streamed(files, alloc, &options, false) {
+        Some((out, err, ended)) => {
+            out.as_slice() == text.as_bytes() && err.is_empty() && ended == Ok(())
+        }
         None => false,
     })
+}
+
+/// Whether it is said how much of a file has come.
+fn says_progress<F: Files + Clock>(files: &F, alloc: Global) -> Result<bool, Fail> {
+    let mut words = Vec::new(alloc);
+    for word in ["-o", "progress", "http://h:1/"] {
+        words.push(String::from_str(alloc, word)?)?;
+    }
+    let Ok(options) = get_args(alloc, &words) else {
+        return Ok(false);
+    };
+    Ok(match streamed(files, alloc, &options, true) {
+        Some((out, err, ended)) => {
+            out.as_slice() == b"200 OK\n".as_slice()
+                && err.as_slice().ends_with(b"\r6 of 6 octets\n")
+                && ended == Ok(())
+        }
+        None => false,
+    })
+}
+
+// rule: engines (own) On a terminal get -o says how much of the body has come
+#[test]
+fn progress_of_a_file(rt: HostRuntime) -> Result<(), Fail> {
+    assert!(rt; says_progress(&rt, rt.alloc())?);
+    Ok(())
 }
 
 // rule: engines (own) get -o and --stream write the body as it comes, in order
