@@ -63,22 +63,22 @@ unfolding with_call
 opens_still log list end id = items_failed log (Open list end) (Number id)
 
 -- What was given of the messages is the beginning of them.
-given_first : {Z : Type 0} (start : IntoIter Message Z) (given : List Message)
+yields_first : {Z : Type 0} (start : IntoIter Message Z) (given : List Message)
     (now : IntoIter Message Z) → Yields into_iter_steps start given now
     → into_iter_items start ≡ given ++ into_iter_items now
-given_first start [] now yields = ap into_iter_items yields
-given_first start (message ∷ given) now yields =
+yields_first start [] now yields = ap into_iter_items yields
+yields_first start (message ∷ given) now yields =
     yields.1.0 ∙ ap (λ (more : List Message). message ∷ more)
-    (given_first yields.0 given now yields.2)
+    (yields_first yields.0 given now yields.2)
 
-pub given_next : {Z : Type 0} (messages : List Message) (start : IntoIter Message Z)
+pub yields_next : {Z : Type 0} (messages : List Message) (start : IntoIter Message Z)
     (given : List Message) (now after : IntoIter Message Z) (message : Message)
     → into_iter_items start ≡ messages → Yields into_iter_steps start given now
     → into_iter_items now ≡ message ∷ into_iter_items after
     → map message_value messages
     ≡ map message_value given ++ message_value message ∷ map message_value (into_iter_items after)
-given_next messages start given now after message all yields next =
-    ap (map message_value) (sym all ∙ given_first start given now yields
+yields_next messages start given now after message all yields next =
+    ap (map message_value) (sym all ∙ yields_first start given now yields
     ∙ ap (λ (more : List Message). given ++ more) next)
     ∙ map-append message_value given (message ∷ into_iter_items after)
 

@@ -11,7 +11,7 @@ use Rattle.h2_fetch.specs.Kept.{came_on}
 use Rattle.h2_fetch.specs.Parts.{handed_on, is_on}
 use Rattle.h2_fetch.specs.Several.{AreDropped}
 use Rattle.h2_fetch.specs.SeveralTakes.{HandsCame, IsAsCame, TakesCameOnce, TakesCameSo}
-use Rattle.h2_fetch.specs.SeveralTakes.{stream_of}
+use Rattle.h2_fetch.specs.SeveralTakes.{stream_of_handed}
 use Rattle.h2_fetch.specs.declared.coming.CameNext.{CameNext}
 use Rattle.h2_fetch.specs.declared.coming.CameNext.TheVariants as nexts
 use Rattle.h2_fetch.specs.declared.part.ResponsePart.TheVariants as parts
@@ -83,7 +83,7 @@ handed_came i id (Dropped code) handed before (inr left) = rw left.1 refl
 off_by : (i id : ℕ) → Some id ≢ Some i → (id == i) ≡ false
 off_by i id other = ne_eqb id i (λ same. other (ap Some same))
 
-off_stream : (i : ℕ) (handed : Handed) → stream_of handed ≢ Some i → is_on i handed ≡ false
+off_stream : (i : ℕ) (handed : Handed) → stream_of_handed handed ≢ Some i → is_on i handed ≡ false
 off_stream i (InterimHanded id list) other = off_by i id other
 off_stream i (HeadHanded id list end) other = off_by i id other
 off_stream i (BodyHanded id octets end) other = off_by i id other
