@@ -14,9 +14,9 @@ use Rattle.h2_laws_end.proofs.OverNumbers.{opened_is_new}
 use Rattle.h2_laws_pair.proofs.Lists.{none_in}
 use Rattle.h2_ends.proofs.RequestHeads.{untouched}
 use Rattle.h2_ends.proofs.RequestSent.{accepted_elsewhere, accepted_here}
-use Rattle.h2_fetch.specs.Parts.{handed_on}
-use Rattle.h2_fetch.specs.Several.{Asked, BeginsSeveral, IsFetchingSeveral, RefusesOne, begins}
-use Rattle.h2_fetch.specs.Several.{error_of_request, kept_on, octets_unused, refuses, requests}
+use Rattle.h2_fetch.specs.Several.{all_on, Asked, BeginsSeveral, IsFetchingSeveral, RefusesOne}
+use Rattle.h2_fetch.specs.Several.{begins, error_of_request, kept_on, octets_unused, refuses}
+use Rattle.h2_fetch.specs.Several.{requests}
 use Rattle.h2_fetch.specs.SeveralTakes.{RequestedSo, RequestsOnce}
 use Rattle.h2_fetch.specs.declared.several.SeveralFetch.{SeveralFetch}
 use Rattle.h2_fetch.proofs.Beginning.{none_gone, unused_yet, up_yet}
@@ -143,7 +143,7 @@ module _ {values : Values} {messages : List SentMessage} {old : End} (new : End)
 pub begins_several : {values : Values} {messages : List SentMessage} (fetch : SeveralFetch)
     → HasRequestedAll values messages fetch.client.end fetch.ids.items → fetch.kept.items ≡ []
     → octets_unused fetch ≡ [] → BeginsSeveral values messages fetch
-unfolding handed_on kept_on
+unfolding all_on kept_on
 begins_several fetch so kept unused = (
   so.asked,
   so.end,
