@@ -8,19 +8,16 @@ use Rattle.std.proofs.lemmas.List.Sums.{passes_at_first, split_at_first, take_wh
 use Rattle.std.specs.List.{position_or_len, position, take_while, remove}
 use Rattle.std.specs.Prelude.{◌⊎◌}
 use borrow.Author.Tests.{ltb-true, ltb-false, eqb-true}
-use Rattle.h2_ends.specs.Ends.{Handed}
 use Rattle.h2_fetch.specs.Kept.{TakesFirstKept, came_on, is_of}
-use Rattle.h2_fetch.specs.Several.{AnsweredOn, answered_next, kept_on}
+use Rattle.h2_fetch.specs.Several.{AnsweredOn, OnStream, answered_next, kept_on}
 use Rattle.h2_fetch.specs.declared.several.Came.{Came}
-use Rattle.h2_fetch.specs.declared.several.Came.TheVariants.{Part, Dropped}
 
 -- Nothing of a stream comes before the first that is kept of it.
 none_by : (id stream : ℕ) (came : Came) (kept : List (ℕ × Came)) (b : Bool) → (stream == id) ≡ b
     → kept_on id kept ≡ [] → kept_on id (cond (not b) ((stream, came) ∷ kept) []) ≡ []
 unfolding kept_on
 none_by id stream came kept true is none = refl
-none_by id stream (Part part) kept false is none = rw is none
-none_by id stream (Dropped code) kept false is none = none
+none_by id stream came kept false is none = rw is none
 
 none_before : (id : ℕ) (kept : List (ℕ × Came))
     → kept_on id (take_while (λ one. not (is_of id one)) kept) ≡ []
@@ -77,8 +74,7 @@ first_kept id kept at one found is =
 kept_more : (i id : ℕ) (came : Came) (kept : List (ℕ × Came))
     → kept_on i ((id, came) ∷ kept) ≡ came_on id came i ++ kept_on i kept
 unfolding kept_on
-kept_more i id (Part part) kept = refl
-kept_more i id (Dropped code) kept = refl
+kept_more i id came kept = refl
 
 kept_append : (i : ℕ) (one two : List (ℕ × Came))
     → kept_on i (one ++ two) ≡ kept_on i one ++ kept_on i two
@@ -87,9 +83,9 @@ kept_append i [] two = refl
 kept_append i (first ∷ one) two =
     let came = came_on first.0 first.1 i in
     kept_more i first.0 first.1 (one ++ two)
-    ∙ ap (λ (rest : List Handed). came ++ rest) (kept_append i one two)
+    ∙ ap (λ (rest : List OnStream). came ++ rest) (kept_append i one two)
     ∙ sym (append_assoc came (kept_on i one) (kept_on i two))
-    ∙ ap (λ (all : List Handed). all ++ kept_on i two) (sym (kept_more i first.0 first.1 one))
+    ∙ ap (λ (all : List OnStream). all ++ kept_on i two) (sym (kept_more i first.0 first.1 one))
 
 -- so with one more at the end.
 kept_push : (i id : ℕ) (came : Came) (kept : List (ℕ × Came))
@@ -97,35 +93,28 @@ kept_push : (i id : ℕ) (came : Came) (kept : List (ℕ × Came))
 unfolding kept_on
 kept_push i id came kept =
     kept_append i kept ((id, came) ∷ [])
-    ∙ ap (λ (rest : List Handed). kept_on i kept ++ rest)
+    ∙ ap (λ (rest : List OnStream). kept_on i kept ++ rest)
     (kept_more i id came [] ∙ append-nil (came_on id came i))
 
 -- What has come on a stream is nothing of another.
 came_elsewhere : (i id : ℕ) (came : Came) → i ≢ id → came_on id came i ≡ []
-came_elsewhere i id (Part part) other = rw (ne_eqb id i (λ same. other (sym same))) refl
-came_elsewhere i id (Dropped code) other = refl
+came_elsewhere i id came other = rw (ne_eqb id i (λ same. other (sym same))) refl
 
 pub none_more : (id stream : ℕ) (came : Came) (kept : List (ℕ × Came)) → stream ≢ id
     → kept_on id kept ≡ [] → kept_on id (kept ++ (stream, came) ∷ []) ≡ []
 none_more id stream came kept other none =
     let elsewhere = came_elsewhere id stream came (λ same. other (sym same)) in
     kept_push id stream came kept
-    ∙ ap (λ (all : List Handed). all ++ came_on stream came id) none ∙ elsewhere
-
--- What is answered next is added to what was.
-answered_more : (answered : AnsweredOn) (id : ℕ) (came : Came) (i : ℕ)
-    → answered_next answered id came i ≡ answered i ++ came_on id came i
-answered_more answered id (Part part) i = refl
-answered_more answered id (Dropped code) i = sym (append-nil (answered i))
+    ∙ ap (λ (all : List OnStream). all ++ came_on stream came id) none ∙ elsewhere
 
 -- Of two lists of which one is empty, either may come first.
-either_first : (one two three : List Handed) → (two ≡ []) ⊎ (three ≡ [])
+either_first : (one two three : List OnStream) → (two ≡ []) ⊎ (three ≡ [])
     → (one ++ two) ++ three ≡ (one ++ three) ++ two
 either_first one two three (inl none) =
-    rw none (ap (λ (all : List Handed). all ++ three) (append-nil one)
+    rw none (ap (λ (all : List OnStream). all ++ three) (append-nil one)
     ∙ sym (append-nil (one ++ three)))
 either_first one two three (inr none) =
-    rw none (append-nil (one ++ two) ∙ ap (λ (all : List Handed). all ++ two)
+    rw none (append-nil (one ++ two) ∙ ap (λ (all : List OnStream). all ++ two)
     (sym (append-nil one)))
 
 none_or_elsewhere : (i id : ℕ) (came : Came) (kept : List (ℕ × Came)) → kept_on id kept ≡ []
@@ -137,37 +126,36 @@ none_or_elsewhere i id came kept none = elim (cases_eq i id) [
 
 -- What has come on a stream of which nothing is kept is answered,
 pub parts_answered : (answered : AnsweredOn) (id : ℕ) (came : Came) (kept : List (ℕ × Came))
-    (i : ℕ) {before after : List Handed} → kept_on id kept ≡ []
+    (i : ℕ) {before after : List OnStream} → kept_on id kept ≡ []
     → before ≡ answered i ++ kept_on i kept → after ≡ before ++ came_on id came i
     → after ≡ answered_next answered id came i ++ kept_on i kept
 parts_answered answered id came kept i none was now =
-    now ∙ ap (λ (all : List Handed). all ++ came_on id came i) was
+    now ∙ ap (λ (all : List OnStream). all ++ came_on id came i) was
     ∙ either_first (answered i) (kept_on i kept) (came_on id came i)
     (none_or_elsewhere i id came kept none)
-    ∙ ap (λ (all : List Handed). all ++ kept_on i kept) (sym (answered_more answered id came i))
 
 -- what has come on another is kept,
 pub parts_kept : (answered : AnsweredOn) (id : ℕ) (came : Came) (kept : List (ℕ × Came))
-    (i : ℕ) {before after : List Handed}
+    (i : ℕ) {before after : List OnStream}
     → before ≡ answered i ++ kept_on i kept → after ≡ before ++ came_on id came i
     → after ≡ answered i ++ kept_on i (kept ++ (id, came) ∷ [])
 parts_kept answered id came kept i was now =
-    now ∙ ap (λ (all : List Handed). all ++ came_on id came i) was
+    now ∙ ap (λ (all : List OnStream). all ++ came_on id came i) was
     ∙ append_assoc (answered i) (kept_on i kept) (came_on id came i)
-    ∙ ap (λ (all : List Handed). answered i ++ all) (sym (kept_push i id came kept))
+    ∙ ap (λ (all : List OnStream). answered i ++ all) (sym (kept_push i id came kept))
 
 -- or lost where there is no memory for that;
 pub parts_lost : (answered : AnsweredOn) (id : ℕ) (came : Came) (kept : List (ℕ × Came))
-    (i : ℕ) {before after : List Handed}
+    (i : ℕ) {before after : List OnStream}
     → before ≡ answered i ++ kept_on i kept → after ≡ before ++ came_on id came i
     → after ≡ answered i ++ (kept_on i kept ++ came_on id came i)
 parts_lost answered id came kept i was now =
-    now ∙ ap (λ (all : List Handed). all ++ came_on id came i) was
+    now ∙ ap (λ (all : List OnStream). all ++ came_on id came i) was
     ∙ append_assoc (answered i) (kept_on i kept) (came_on id came i)
 
 -- and the first that is kept of a stream is answered.
 pub parts_taken : (answered : AnsweredOn) (id : ℕ) (came : Came) {old new : List (ℕ × Came)}
-    (i : ℕ) {handed : List Handed} → TakesFirstKept id old new came
+    (i : ℕ) {handed : List OnStream} → TakesFirstKept id old new came
     → handed ≡ answered i ++ kept_on i old
     → handed ≡ answered_next answered id came i ++ kept_on i new
 parts_taken answered id came {old} {new} i takes was =
@@ -176,14 +164,13 @@ parts_taken answered id came {old} {new} i takes was =
     let one = came_on id came i in
     let all : kept_on i old ≡ before ++ (one ++ after) =
     ap (kept_on i) takes.was ∙ kept_append i takes.before ((id, came) ∷ takes.after)
-    ∙ ap (λ (rest : List Handed). before ++ rest) (kept_more i id came takes.after) in
+    ∙ ap (λ (rest : List OnStream). before ++ rest) (kept_more i id came takes.after) in
     let left : kept_on i new ≡ before ++ after =
     ap (kept_on i) takes.left ∙ kept_append i takes.before takes.after in
-    was ∙ ap (λ (rest : List Handed). answered i ++ rest) all
+    was ∙ ap (λ (rest : List OnStream). answered i ++ rest) all
     ∙ sym (append_assoc (answered i) before (one ++ after))
     ∙ sym (append_assoc (answered i ++ before) one after)
-    ∙ ap (λ (first : List Handed). first ++ after) (either_first (answered i) before one
+    ∙ ap (λ (first : List OnStream). first ++ after) (either_first (answered i) before one
     (none_or_elsewhere i id came takes.before takes.none))
     ∙ append_assoc (answered i ++ one) before after
-    ∙ ap (λ (rest : List Handed). (answered i ++ one) ++ rest) (sym left)
-    ∙ ap (λ (first : List Handed). first ++ kept_on i new) (sym (answered_more answered id came i))
+    ∙ ap (λ (rest : List OnStream). (answered i ++ one) ++ rest) (sym left)

@@ -14,9 +14,9 @@ use Rattle.h2_laws_end.proofs.OverNumbers.{opened_is_new}
 use Rattle.h2_laws_pair.proofs.Lists.{none_in}
 use Rattle.h2_ends.proofs.RequestHeads.{untouched}
 use Rattle.h2_ends.proofs.RequestSent.{accepted_elsewhere, accepted_here}
-use Rattle.h2_fetch.specs.Parts.{handed_on}
-use Rattle.h2_fetch.specs.Several.{Asked, BeginsSeveral, IsFetchingSeveral, RefusesOne, begins}
-use Rattle.h2_fetch.specs.Several.{error_of_request, kept_on, octets_unused, refuses, requests}
+use Rattle.h2_fetch.specs.Several.{all_on, Asked, BeginsSeveral, IsFetchingSeveral, RefusesOne}
+use Rattle.h2_fetch.specs.Several.{begins, error_of_request, kept_on, octets_unused, refuses}
+use Rattle.h2_fetch.specs.Several.{requests}
 use Rattle.h2_fetch.specs.SeveralTakes.{RequestedSo, RequestsOnce}
 use Rattle.h2_fetch.specs.declared.several.SeveralFetch.{SeveralFetch}
 use Rattle.h2_fetch.proofs.Beginning.{none_gone, unused_yet, up_yet}
@@ -63,22 +63,22 @@ unfolding with_call
 opens_still log list end id = items_failed log (Open list end) (Number id)
 
 -- What was given of the messages is the beginning of them.
-given_first : {Z : Type 0} (start : IntoIter Message Z) (given : List Message)
+yields_first : {Z : Type 0} (start : IntoIter Message Z) (given : List Message)
     (now : IntoIter Message Z) → Yields into_iter_steps start given now
     → into_iter_items start ≡ given ++ into_iter_items now
-given_first start [] now yields = ap into_iter_items yields
-given_first start (message ∷ given) now yields =
+yields_first start [] now yields = ap into_iter_items yields
+yields_first start (message ∷ given) now yields =
     yields.1.0 ∙ ap (λ (more : List Message). message ∷ more)
-    (given_first yields.0 given now yields.2)
+    (yields_first yields.0 given now yields.2)
 
-pub given_next : {Z : Type 0} (messages : List Message) (start : IntoIter Message Z)
+pub yields_next : {Z : Type 0} (messages : List Message) (start : IntoIter Message Z)
     (given : List Message) (now after : IntoIter Message Z) (message : Message)
     → into_iter_items start ≡ messages → Yields into_iter_steps start given now
     → into_iter_items now ≡ message ∷ into_iter_items after
     → map message_value messages
     ≡ map message_value given ++ message_value message ∷ map message_value (into_iter_items after)
-given_next messages start given now after message all yields next =
-    ap (map message_value) (sym all ∙ given_first start given now yields
+yields_next messages start given now after message all yields next =
+    ap (map message_value) (sym all ∙ yields_first start given now yields
     ∙ ap (λ (more : List Message). given ++ more) next)
     ∙ map-append message_value given (message ∷ into_iter_items after)
 
@@ -143,7 +143,7 @@ module _ {values : Values} {messages : List SentMessage} {old : End} (new : End)
 pub begins_several : {values : Values} {messages : List SentMessage} (fetch : SeveralFetch)
     → HasRequestedAll values messages fetch.client.end fetch.ids.items → fetch.kept.items ≡ []
     → octets_unused fetch ≡ [] → BeginsSeveral values messages fetch
-unfolding handed_on kept_on
+unfolding all_on kept_on
 begins_several fetch so kept unused = (
   so.asked,
   so.end,

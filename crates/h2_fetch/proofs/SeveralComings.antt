@@ -11,9 +11,9 @@ use Rattle.h2_engines.proofs.ServeLinkTakes.{took_links, takes_first}
 use Rattle.h2_engines.proofs.TakeMessages.{handed_after, taken_says}
 use Rattle.h2_engines.proofs.TurnsPassed.{turns_of_take}
 use Rattle.h2_fetch.specs.Kept.{came_on}
-use Rattle.h2_fetch.specs.Parts.{handed_on}
-use Rattle.h2_fetch.specs.Several.{AnsweredOn, AreComing, AreDropped, Asked, answered_next}
-use Rattle.h2_fetch.specs.Several.{IsFetchingSeveral, kept_on, octets_unused, takes}
+use Rattle.h2_fetch.specs.Several.{all_on, AnsweredOn, AreComing, AreDropped, Asked}
+use Rattle.h2_fetch.specs.Several.{answered_next, IsFetchingSeveral, kept_on, octets_unused}
+use Rattle.h2_fetch.specs.Several.{takes}
 use Rattle.h2_fetch.specs.SeveralComings.{HaveTakenLast, lacks_memory}
 use Rattle.h2_fetch.specs.SeveralTakes.{HandsCame, IsAsCame, TakesCameOnce, TakesCameSo}
 use Rattle.h2_fetch.specs.declared.coming.CameNext.TheVariants as nexts
@@ -132,10 +132,10 @@ module _ {values : Values} {start now : Traffic} {asked : List Asked} {old : Sev
         took.hands took.same
 
     more_came : (i : ℕ)
-        → handed_on i took.after.handed ≡ handed_on i end.handed ++ came_on stream came i
+        → all_on i took.after.handed ≡ all_on i end.handed ++ came_on stream came i
     more_came i =
         let (one, is_as, same) = last_came in
-        ap (handed_on i) same ∙ handed_came i stream came one end.handed is_as
+        ap (all_on i) same ∙ handed_came i stream came one end.handed is_as
 
     pub came_dropped : (code : ℕ) → came ≡ Dropped code → WasDropped took.after stream code
     came_dropped code dropped =

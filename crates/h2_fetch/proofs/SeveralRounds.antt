@@ -1,16 +1,15 @@
 -- What the rounds make of octets that were read, at a client that makes several requests.
 use Rattle.h2_engines.proofs.Names
 use Names.{◌≡◌, ◌≢◌, ◌≤◌, ℕ, ◌+◌, ◌-◌, ◌^◌, List, [], ◌∷◌, ◌++◌, Some, None, Ok, Err, refl, sym}
-use Names.{ap, ◌∙◌, subst, arith, append-nil, Contains, Values, EndLog, EndTook, Handed}
-use Names.{EndAnswer, EndFailed, EndMayTake, LinkError, Traffic, append_assoc, if◌then◌else◌}
+use Names.{ap, ◌∙◌, subst, arith, append-nil, Contains, Values, EndLog, EndTook, EndAnswer}
+use Names.{EndFailed, EndMayTake, LinkError, Traffic, append_assoc}
 use Rattle.h2_engines.specs.Fetches.{WasDropped}
 use Rattle.h2_engines.specs.ServerSteps.{ErrsServing}
 use Rattle.h2_engines.proofs.ResponderEnds.{given_within}
 use Rattle.h2_engines.proofs.ServeLinkTakes.{links_first, takes_first}
 use Rattle.h2_engines.proofs.TakeMessages.{kept_failed, taken_says}
-use Rattle.h2_fetch.specs.Parts.{handed_on, is_on}
-use Rattle.h2_fetch.specs.Several.{AnsweredOn, AreComing, Asked, CameSo, kept_on, octets_unused}
-use Rattle.h2_fetch.specs.Several.{answered_next, takes}
+use Rattle.h2_fetch.specs.Several.{OnStream, all_on, as_on, AnsweredOn, AreComing, Asked, CameSo}
+use Rattle.h2_fetch.specs.Several.{kept_on, octets_unused, answered_next, takes}
 use Rattle.h2_fetch.specs.SeveralComings.{TakesNoneMore, TakesUntilCame, TookCame, fails}
 use Rattle.h2_fetch.specs.SeveralComings.{lacks_memory, out_of_rounds}
 use Rattle.h2_fetch.specs.SeveralTakes.{TakesCameOnce, TakesCameSo}
@@ -113,8 +112,8 @@ module _ (old middle new : SeveralFetch) (id rounds : ℕ) (on : TakesCame old m
 
 -- or the client can take no more: the connection has failed, or memory was refused for what was
 -- handed out, which is lost.
-abbrev pub lost_of : EndAnswer → ℕ → List Handed
-lost_of (EndTook count (Some one)) i = if is_on i one then one ∷ [] else []
+abbrev pub lost_of : EndAnswer → ℕ → List OnStream
+lost_of (EndTook count (Some one)) i = as_on i one
 lost_of answer i = []
 
 pub why_none : (end after : EndLog) {piece : List ℕ} (answer : EndAnswer) (error : LinkError)
@@ -129,13 +128,13 @@ why_none end after (EndTook count (Some one)) error may errs =
 
 pub lost_last : (end after : EndLog) {piece : List ℕ} (answer : EndAnswer)
     → EndMayTake end piece answer after → (i : ℕ)
-    → handed_on i after.handed ≡ handed_on i end.handed ++ lost_of answer i
-unfolding handed_on
+    → all_on i after.handed ≡ all_on i end.handed ++ lost_of answer i
+unfolding all_on
 lost_last end after (EndFailed code) may i =
-    ap (handed_on i) (taken_says may).handed ∙ sym (append-nil (handed_on i end.handed))
+    ap (all_on i) (taken_says may).handed ∙ sym (append-nil (all_on i end.handed))
 lost_last end after (EndTook count None) may i =
-    ap (handed_on i) (taken_says may).handed ∙ sym (append-nil (handed_on i end.handed))
-lost_last end after (EndTook count (Some one)) may i = ap (handed_on i) (taken_says may).handed
+    ap (all_on i) (taken_says may).handed ∙ sym (append-nil (all_on i end.handed))
+lost_last end after (EndTook count (Some one)) may i = ap (all_on i) (taken_says may).handed
 
 pub next_failed : (old middle new : SeveralFetch) (id rounds : ℕ) (error : LinkError)
     → TakesCame old middle id rounds → new.ids ≡ middle.ids → new.kept ≡ middle.kept
@@ -159,7 +158,7 @@ next_failed old middle new id rounds error on ids kept part values start now ask
         parts = λ i one.
             let there : Contains middle.ids.items i = rw ids at one in
             lost_last go.after after so.0 may i
-            ∙ ap (λ (all : List Handed). all ++ lost_of so.0 i) (go.coming.parts i there)
+            ∙ ap (λ (all : List OnStream). all ++ lost_of so.0 i) (go.coming.parts i there)
             ∙ rw kept (append_assoc (answered i) (kept_on i middle.kept.items) (lost_of so.0 i));
         why = why_none go.after after so.0 error may so.2;
       },
@@ -179,7 +178,7 @@ next_out old new id rounds all on values start now asked end answered is none =
         linked = go.coming.linked;
         lost = λ i. [];
         parts = λ i one. go.coming.parts i one
-            ∙ ap (λ (kept : List Handed). answered i ++ kept)
+            ∙ ap (λ (kept : List OnStream). answered i ++ kept)
             (sym (append-nil (kept_on i new.kept.items)));
         why = out_of_rounds go.coming.up refl (omega (arith, all, go.turns)) (λ i. refl);
       },

@@ -1,17 +1,17 @@
 -- What a client that makes several requests makes of octets, by what `take` has answered.
 use Rattle.h2_engines.proofs.Names
-use Names.{◌≡◌, ◌≢◌, ℕ, false, List, ◌∷◌, ◌++◌, length, Option, Some, None, Ok, Err, refl, ap}
+use Names.{◌≡◌, ◌≢◌, ℕ, false, [], List, ◌∷◌, ◌++◌, length, Option, Some, None, Ok, Err, refl, ap}
 use Names.{◌∙◌, append-nil, inl, inr, Contains, End, EndLog, EndTook, EndFailed, Handed, EndTaken}
 use Names.{EndTakes, LentPart, LinkError, ConnFault, event_handed, error_with, later_in}
 use Names.{EndAnswer, InterimHanded, HeadHanded, BodyHanded, TrailersHanded, Passed, ne_eqb, ◌==◌}
+use Rattle.h2_spec_log.specs.Events.{ResetEvent, UnprocessedEvent}
 use Rattle.h2_engines.specs.Fetches.{WasDropped}
 use Rattle.h2_engines.specs.ServerSteps.{ErrsServing}
 use Rattle.h2_engines.proofs.TakeMessages.{handed_after}
 use Rattle.h2_fetch.specs.Kept.{came_on}
-use Rattle.h2_fetch.specs.Parts.{handed_on, is_on}
-use Rattle.h2_fetch.specs.Several.{AreDropped}
+use Rattle.h2_fetch.specs.Several.{AreDropped, OnStream, all_on, as_on}
 use Rattle.h2_fetch.specs.SeveralTakes.{HandsCame, IsAsCame, TakesCameOnce, TakesCameSo}
-use Rattle.h2_fetch.specs.SeveralTakes.{stream_of}
+use Rattle.h2_fetch.specs.SeveralTakes.{stream_of_handed}
 use Rattle.h2_fetch.specs.declared.coming.CameNext.{CameNext}
 use Rattle.h2_fetch.specs.declared.coming.CameNext.TheVariants as nexts
 use Rattle.h2_fetch.specs.declared.part.ResponsePart.TheVariants as parts
@@ -70,42 +70,46 @@ came_fault old new ids piece fault is takes values end represents =
 -- What was handed out last adds to its stream what has come there,
 pub handed_came : (i id : ℕ) (came : Came) (handed : Handed) (before : List Handed)
     → IsAsCame id came handed
-    → handed_on i (handed ∷ before) ≡ handed_on i before ++ came_on id came i
-unfolding handed_on
+    → all_on i (handed ∷ before) ≡ all_on i before ++ came_on id came i
+unfolding all_on
 handed_came i id (Part (parts.Interim list)) handed before is = rw is refl
 handed_came i id (Part (parts.Head list end)) handed before is = rw is refl
 handed_came i id (Part (parts.Body octets end)) handed before is = rw is refl
 handed_came i id (Part (parts.Trailers list)) handed before is = rw is refl
 handed_came i id (Dropped code) handed before (inl reset) = rw reset.1 refl
-handed_came i id (Dropped code) handed before (inr left) = rw left.1 refl
+handed_came i id (Dropped code) handed before (inr left) = rw (left.1, left.0) refl
 
 -- and nothing to one where nothing has.
 off_by : (i id : ℕ) → Some id ≢ Some i → (id == i) ≡ false
 off_by i id other = ne_eqb id i (λ same. other (ap Some same))
 
-off_stream : (i : ℕ) (handed : Handed) → stream_of handed ≢ Some i → is_on i handed ≡ false
-off_stream i (InterimHanded id list) other = off_by i id other
-off_stream i (HeadHanded id list end) other = off_by i id other
-off_stream i (BodyHanded id octets end) other = off_by i id other
-off_stream i (TrailersHanded id list) other = off_by i id other
+off_stream : (i : ℕ) (handed : Handed) → stream_of_handed handed ≢ Some i → as_on i handed ≡ []
+off_stream i (InterimHanded id list) other = rw (off_by i id other) refl
+off_stream i (HeadHanded id list end) other = rw (off_by i id other) refl
+off_stream i (BodyHanded id octets end) other = rw (off_by i id other) refl
+off_stream i (TrailersHanded id list) other = rw (off_by i id other) refl
+off_stream i (Passed (ResetEvent id code ours)) other = rw (off_by i id other) refl
+off_stream i (Passed (UnprocessedEvent id)) other = rw (off_by i id other) refl
 off_stream i (Passed event) other = refl
 
-handed_off : (i : ℕ) (handed : Handed) (before : List Handed) → is_on i handed ≡ false
-    → handed_on i (handed ∷ before) ≡ handed_on i before
-unfolding handed_on
-handed_off i handed before off = rw off (append-nil (handed_on i before))
+handed_off : (i : ℕ) (handed : Handed) (before : List Handed) → stream_of_handed handed ≢ Some i
+    → all_on i (handed ∷ before) ≡ all_on i before
+unfolding all_on
+handed_off i handed before off =
+    ap (λ (last : List OnStream). all_on i before ++ last) (off_stream i handed off)
+    ∙ append-nil (all_on i before)
 
 pub nothing_came : (ids : List ℕ) (next : CameNext) (count : ℕ) (handed : Option Handed)
     (before : List Handed) {after : List Handed} → IsNothing next → HandsCame ids handed next
     → after ≡ handed_after (EndTook count handed) before → (i : ℕ) → Contains ids i
-    → handed_on i after ≡ handed_on i before
-nothing_came ids next count None before nothing hands same i one = ap (handed_on i) same
+    → all_on i after ≡ all_on i before
+nothing_came ids next count None before nothing hands same i one = ap (all_on i) same
 nothing_came ids (nexts.On id came) count (Some handed) before nothing hands same i one =
     absurd nothing
 nothing_came ids nexts.Again count (Some handed) before nothing hands same i one =
-    ap (handed_on i) same ∙ handed_off i handed before (off_stream i handed (hands i one))
+    ap (all_on i) same ∙ handed_off i handed before (hands i one)
 nothing_came ids nexts.Done count (Some handed) before nothing hands same i one =
-    ap (handed_on i) same ∙ handed_off i handed before (off_stream i handed (hands i one))
+    ap (all_on i) same ∙ handed_off i handed before (hands i one)
 
 -- Where something has come on a stream, it was handed out.
 pub something_came : (ids : List ℕ) (id : ℕ) (came : Came) {next : CameNext} (count : ℕ)

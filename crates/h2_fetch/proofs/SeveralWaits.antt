@@ -2,13 +2,13 @@
 use Rattle.h2_engines.proofs.Names
 use Names.{◌≡◌, ◌≢◌, ◌≤◌, ℕ, ◌+◌, ◌-◌, ◌^◌, List, [], ◌++◌, Some, None, Result, Ok, Err, refl}
 use Names.{sym, ap, ◌∙◌, subst, inl, inr, arith, append-nil, Contains, Code, Values, EndLog}
-use Names.{EndRepresents, Handed, IsLinked, LinkError, Traffic, error_with}
+use Names.{EndRepresents, IsLinked, LinkError, Traffic, error_with}
 use Rattle.h2_engines.proofs.MachineViews.{all_in_part}
 use Rattle.h2_fetch.specs.Reads.{EndedSo, EndsOver, ReadOver, ReadSo, ReadsOver, ends_at_once}
 use Rattle.h2_fetch.specs.Reads.{ends_failed}
 use Rattle.h2_fetch.specs.Sends.{AsksSeveral}
-use Rattle.h2_fetch.specs.Several.{AnsweredOn, AreComing, Asked, CameSo, IsFetchingSeveral}
-use Rattle.h2_fetch.specs.Several.{StopsAllFor, kept_on, octets_unused}
+use Rattle.h2_fetch.specs.Several.{OnStream, AnsweredOn, AreComing, Asked, CameSo}
+use Rattle.h2_fetch.specs.Several.{IsFetchingSeveral, StopsAllFor, kept_on, octets_unused}
 use Rattle.h2_fetch.specs.SeveralComings.{FilledSo, FillsSeveral, TakesNoneMore, TakesUntilCame}
 use Rattle.h2_fetch.specs.SeveralComings.{TookCame, WaitsFor, fails, lacks_memory, out_of_rounds}
 use Rattle.h2_fetch.specs.declared.several.Came.{Came}
@@ -66,7 +66,7 @@ module _ {values : Values} {start : Traffic} (before now : Traffic) {asked : Lis
       parts = λ id one.
           let there : Contains old.ids.items id = rw ids at one in
           rw (read.same.handed, kept) (is.parts id there
-          ∙ ap (λ (rest : List Handed). answered id ++ rest)
+          ∙ ap (λ (rest : List OnStream). answered id ++ rest)
           (sym (append-nil (kept_on id old.kept.items))));
       all = λ other id. refl;
       so = read.so.1;
@@ -215,7 +215,7 @@ waits_no_round before now old new id rounds all on values start asked end answer
         linked = all_in_part go.coming.linked;
         lost = λ i. [];
         parts = λ i one. go.coming.parts i one
-            ∙ ap (λ (rest : List Handed). answered i ++ rest)
+            ∙ ap (λ (rest : List OnStream). answered i ++ rest)
             (sym (append-nil (kept_on i new.kept.items)));
         all = λ other i. refl;
         so = inr (omega (arith, all, go.turns));

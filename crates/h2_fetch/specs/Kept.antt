@@ -1,20 +1,16 @@
 -- What is kept of streams, and the first that is kept of one.
 use Rattle.std.specs.Prelude.{◌≡◌, ℕ, ◌==◌, List, [], ◌∷◌, ◌++◌, if◌then◌else◌, Option, Some}
 use Rattle.std.specs.Prelude.{Bool, None}
-use Rattle.h2_ends.specs.Ends.{Handed}
 use Rattle.h2_fetch.specs.declared.several.Came.{Came}
-use Rattle.h2_fetch.specs.declared.several.Came.TheVariants.{Part, Dropped}
-use Rattle.h2_fetch.specs.Parts.{handed_of}
-use Rattle.h2_fetch.specs.Several.{kept_on}
+use Rattle.h2_fetch.specs.Several.{OnStream, came_as, kept_on}
 
 -- whether something has come on a stream
 abbrev pub is_of : ℕ → (ℕ × Came) → Bool
 is_of id one = one.0 == id
 
--- the part of a stream that has come, or none
-abbrev pub came_on : ℕ → Came → ℕ → List Handed
-came_on id (Part part) i = if id == i then handed_of id part ∷ [] else []
-came_on id (Dropped code) i = []
+-- what has come on a stream of its own, or nothing on another
+abbrev pub came_on : ℕ → Came → ℕ → List OnStream
+came_on id came i = if id == i then came_as id came ∷ [] else []
 
 -- The first that is kept of a stream is taken from there.
 pub record TakesFirstKept (id : ℕ) (old new : List (ℕ × Came)) (came : Came) : Type 0 where

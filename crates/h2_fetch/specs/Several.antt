@@ -1,30 +1,31 @@
 -- What has happened at a client that makes several requests, and what it answers of each response.
-use Rattle.std.specs.Prelude.{◌≡◌, ◌≢◌, ◌==◌, ℕ, List, [], ◌∷◌, ◌++◌, drop, map}
-use Rattle.std.specs.Prelude.{if◌then◌else◌, Some, None, Result, Ok, Err}
+use Rattle.std.specs.Prelude.{◌≡◌, ◌≢◌, ◌==◌, ℕ, List, [], ◌∷◌, ◌++◌, drop, map, if◌then◌else◌}
+use Rattle.std.specs.Prelude.{Some, None, Result, Ok, Err}
 use Rattle.std.specs.List.{Contains}
 use Rattle.h2_spec_log.specs.declared.role.Role.TheVariants.{Client}
 use Rattle.h2_spec_log.specs.declared.refusal.Refusal.TheVariants.{ListTooLarge}
 use Rattle.h2_spec_log.specs.Acts.{Values, AreInRange, Answer, IsTypedAct, PutOut}
+use Rattle.h2_spec_log.specs.Events.{ResetEvent, UnprocessedEvent}
 use Rattle.h2_spec_log.specs.LogCalls.{MayAnswer, with_call}
 use Rattle.h2_message.specs.Messages.{SentMessage}
 use Rattle.h2_laws_pair.specs.Tokens.{at_once}
 use Rattle.h2_ends.specs.declared.refusal.EndRefusal.{EndRefusal}
 use Rattle.h2_ends.specs.declared.refusal.EndRefusal.TheVariants.{BadMessage, Conn}
-use Rattle.h2_ends.specs.Ends.{EndLog, EndAnswer, Handed, said_for}
+use Rattle.h2_ends.specs.Ends.{EndLog, EndAnswer, Handed, Passed, said_for}
 use Rattle.h2_ends.specs.EndTakes.{EndMayTake, end_with_log}
 use Rattle.h2_ends.specs.EndCalls.{MayRequest, MayPump, MayReleaseAll}
 use Rattle.h2_ends.specs.Represents.{EndRepresents, new_end_log}
 use Rattle.h2_link.specs.declared.error.LinkError.{LinkError}
 use Rattle.h2_link.specs.declared.error.LinkError.TheVariants as errors
 use Rattle.h2_engines.specs.Failures.{IsOutOfMemory, error_after}
-use Rattle.h2_engines.specs.Fetches.{WasDropped}
+use Rattle.h2_engines.specs.Fetches.{WasDropped, refused_stream}
 use Rattle.h2_engines.specs.Linked.{Traffic, HasGiven, IsLinked, IsLinkedInPart, HasStalled}
 use Rattle.h2_engines.specs.Linked.{HasTakenAll}
 use Rattle.h2_engines.specs.Serves.{HasFailedWith, HasReturnedAll}
 use Rattle.h2_fetch.specs.declared.several.SeveralFetch.{SeveralFetch}
 use Rattle.h2_fetch.specs.declared.several.Came.{Came}
 use Rattle.h2_fetch.specs.declared.several.Came.TheVariants.{Part, Dropped}
-use Rattle.h2_fetch.specs.Parts.{handed_of, handed_on}
+use Rattle.h2_fetch.specs.Parts.{handed_of, is_on}
 
 -- a request that was accepted, with its stream
 abbrev pub Asked : Type 0
@@ -57,23 +58,42 @@ pub data IsFetchingSeveral (values : Values) : List Asked → EndLog → Type 0 
 abbrev pub octets_unused : SeveralFetch → List ℕ
 octets_unused fetch = drop fetch.used fetch.input.items
 
--- what is kept of a stream: the parts that were handed out there and not answered yet, as they were
--- handed out, the first one first
-unfoldable pub kept_on : ℕ → List (ℕ × Came) → List Handed
+-- what has come on a stream: a part of a response as it was handed out, or that the stream was
+-- dropped with this code: it was reset, or its request was not processed
+pub data OnStream : Type 0 where
+  PartOn : (handed : Handed) → OnStream
+  DropOn : (code : ℕ) → OnStream
+
+-- what was handed out, where it has come on a stream
+abbrev pub as_on : ℕ → Handed → List OnStream
+as_on i (Passed (ResetEvent id code ours)) = if id == i then DropOn code ∷ [] else []
+as_on i (Passed (UnprocessedEvent id)) = if id == i then DropOn refused_stream ∷ [] else []
+as_on i handed = if is_on i handed then PartOn handed ∷ [] else []
+
+-- all that has come on a stream, the first one first
+-- rule: engines (own) Responses of several requests are what is handed out, each in order
+unfoldable pub all_on : ℕ → List Handed → List OnStream
+all_on i [] = []
+all_on i (one ∷ handed) = all_on i handed ++ as_on i one
+
+-- what is answered, as it has come on its stream
+abbrev pub came_as : ℕ → Came → OnStream
+came_as id (Part part) = PartOn (handed_of id part)
+came_as id (Dropped code) = DropOn code
+
+-- what is kept of a stream: what has come there and was not answered yet, the first one first
+unfoldable pub kept_on : ℕ → List (ℕ × Came) → List OnStream
 kept_on i [] = []
-kept_on i ((id, Part part) ∷ kept) =
-    (if id == i then handed_of id part ∷ [] else []) ++ kept_on i kept
-kept_on i ((id, Dropped code) ∷ kept) = kept_on i kept
+kept_on i ((id, came) ∷ kept) = (if id == i then came_as id came ∷ [] else []) ++ kept_on i kept
 
 -- what was answered of each stream
 abbrev pub AnsweredOn : Type 0
-AnsweredOn = ℕ → List Handed
+AnsweredOn = ℕ → List OnStream
 
 -- the same with what is answered next
 abbrev pub answered_next : AnsweredOn → (id : ℕ) → Came → AnsweredOn
-answered_next answered id (Part part) i =
-    answered i ++ (if id == i then handed_of id part ∷ [] else [])
-answered_next answered id (Dropped code) i = answered i
+answered_next answered id came i =
+    answered i ++ (if id == i then came_as id came ∷ [] else [])
 
 -- Each stream that is kept as reset was reset, or its request was not processed.
 abbrev pub AreDropped : EndLog → List (ℕ × Came) → Type 0
@@ -82,8 +102,8 @@ AreDropped end kept =
 
 -- A client with these values, at which this has happened, fetches: its messages were accepted, the
 -- connection is up, it has used all octets that the link gave since then but those that it keeps,
--- the link took all that it has given out, and of each stream that it asked on these parts were
--- answered and those are kept: all that were handed out, in order.
+-- the link took all that it has given out, and of each stream that it asked on this was answered
+-- and that is kept: all that has come there, in order.
 -- rule: engines (own) Responses of several requests are what is handed out, each in order
 pub record AreComing (values : Values) (start now : Traffic) (asked : List Asked)
     (fetch : SeveralFetch) (end : EndLog) (answered : AnsweredOn) : Type 0 where
@@ -95,7 +115,7 @@ pub record AreComing (values : Values) (start now : Traffic) (asked : List Asked
   pub up : end.log.failed ≡ None
   pub linked : IsLinked start now end.log (octets_unused fetch)
   pub parts : (id : ℕ) → Contains fetch.ids.items id
-      → handed_on id end.handed ≡ answered id ++ kept_on id fetch.kept.items
+      → all_on id end.handed ≡ answered id ++ kept_on id fetch.kept.items
   pub dropped : AreDropped end fetch.kept.items
 
 -- A new client has made these requests, and nothing has come.
@@ -135,8 +155,8 @@ StopsAllFor start now end errors.Device = Unit {0}
 StopsAllFor start now end errors.Refused = ⊥
 
 -- The fetch has ended early, with this error: the octets that the client has used are the first
--- that the link gave, the link took the first of its output, and of each stream these parts were
--- answered, those are kept, and the last ones lost: none but where memory was refused.
+-- that the link gave, the link took the first of its output, and of each stream this was answered,
+-- that is kept, and the last of it lost: none but where memory was refused.
 -- rule: engines (own) Responses of several requests are what is handed out, each in order
 pub record HaveStopped (values : Values) (start now : Traffic) (asked : List Asked)
     (fetch : SeveralFetch) (end : EndLog) (answered : AnsweredOn) (error : LinkError) : Type 0 where
@@ -145,7 +165,7 @@ pub record HaveStopped (values : Values) (start now : Traffic) (asked : List Ask
   pub linked : IsLinkedInPart start now end.log
   pub lost : AnsweredOn
   pub parts : (id : ℕ) → Contains fetch.ids.items id
-      → handed_on id end.handed ≡ answered id ++ (kept_on id fetch.kept.items ++ lost id)
+      → all_on id end.handed ≡ answered id ++ (kept_on id fetch.kept.items ++ lost id)
   pub all : error ≢ errors.Memory → (id : ℕ) → lost id ≡ []
   pub so : StopsAllFor start now end error
 

@@ -12,8 +12,7 @@ use Rattle.h2_engines.specs.Linked.{Traffic, IsLinked, IsOutOfRounds}
 use Rattle.h2_engines.specs.ServerSteps.{error_with}
 use Rattle.h2_fetch.specs.declared.several.Came.{Came}
 use Rattle.h2_fetch.specs.declared.several.SeveralFetch.{SeveralFetch}
-use Rattle.h2_fetch.specs.Parts.{handed_on}
-use Rattle.h2_fetch.specs.Several.{AnsweredOn, AreComing, Asked, CameSo, HaveStopped}
+use Rattle.h2_fetch.specs.Several.{AnsweredOn, AreComing, Asked, CameSo, HaveStopped, all_on}
 use Rattle.h2_fetch.specs.Several.{IsFetchingSeveral, kept_on, octets_unused}
 
 -- Why a client can take no more, by which no part is lost, unless memory was refused: the
@@ -34,7 +33,7 @@ pub record HaveTakenLast (values : Values) (start now : Traffic) (asked : List A
   pub linked : IsLinked start now end.log unused
   pub lost : AnsweredOn
   pub parts : (id : ℕ) → Contains fetch.ids.items id
-      → handed_on id end.handed ≡ answered id ++ (kept_on id fetch.kept.items ++ lost id)
+      → all_on id end.handed ≡ answered id ++ (kept_on id fetch.kept.items ++ lost id)
   pub why : TakesNoneMore end lost error
 
 -- what came of the octets that were read: something on a stream, or none, where none is kept

@@ -24,14 +24,14 @@ use Rattle.h2_fetch.specs.Parts.{handed_of}
 use Rattle.h2_fetch.specs.Several.{error_of_request}
 
 -- the stream of what was handed out, where that is a part of a message, or no more comes on it
-abbrev pub stream_of : Handed → Option ℕ
-stream_of (InterimHanded id list) = Some id
-stream_of (HeadHanded id list end) = Some id
-stream_of (BodyHanded id octets end) = Some id
-stream_of (TrailersHanded id list) = Some id
-stream_of (Passed (ResetEvent id code ours)) = Some id
-stream_of (Passed (UnprocessedEvent id)) = Some id
-stream_of (Passed event) = None
+abbrev pub stream_of_handed : Handed → Option ℕ
+stream_of_handed (InterimHanded id list) = Some id
+stream_of_handed (HeadHanded id list end) = Some id
+stream_of_handed (BodyHanded id octets end) = Some id
+stream_of_handed (TrailersHanded id list) = Some id
+stream_of_handed (Passed (ResetEvent id code ours)) = Some id
+stream_of_handed (Passed (UnprocessedEvent id)) = Some id
+stream_of_handed (Passed event) = None
 
 -- This was handed out: the part of a response, or that its stream was dropped.
 abbrev pub IsAsCame : ℕ → Came → Handed → Type 0
@@ -45,7 +45,7 @@ abbrev pub HandsCame : (ids : List ℕ) → Option Handed → CameNext → Type 
 HandsCame ids None (nexts.On id came) = ⊥
 HandsCame ids None next = Unit {0}
 HandsCame ids (Some handed) (nexts.On id came) = IsAsCame id came handed
-HandsCame ids (Some handed) next = (i : ℕ) → Contains ids i → stream_of handed ≢ Some i
+HandsCame ids (Some handed) next = (i : ℕ) → Contains ids i → stream_of_handed handed ≢ Some i
 
 -- what came of the octets that were handed to it: something on one of these streams, nothing with
 -- some octets left, or nothing and all of them used

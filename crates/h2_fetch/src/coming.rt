@@ -3,7 +3,7 @@
 ghost use Rattle.std.specs.Prelude.{◌≡◌, ◌≢◌, ◌≤◌, IfErr, IfOk, Some, length};
 ghost use Rattle.h2_ends.specs.Loans.{event_handed};
 ghost use Rattle.h2_engines.specs.Failures.{IsOfClient};
-ghost use Rattle.h2_fetch.specs.SeveralTakes.{HandsCame, TakesCameOnce, stream_of};
+ghost use Rattle.h2_fetch.specs.SeveralTakes.{HandsCame, TakesCameOnce, stream_of_handed};
 
 use crate::errors::unless_failed;
 use crate::part::part_of;
@@ -73,7 +73,7 @@ fn came_of(
     ensures hands { IfOk result (HandsCame ids.now (Some (event_handed event.entry))) }
     ensures more { IfOk result (λ next. next ≢ CameNext.Done) }
 {
-    let Some(id) = stream_of(event) else {
+    let Some(id) = stream_of_handed(event) else {
         return Ok(CameNext::Again);
     };
     if !ids.contains(&id) {
@@ -92,8 +92,8 @@ fn came_of(
 }
 
 /// The stream of what was handed out, where that is a part of a message, or no more comes on it.
-fn stream_of(event: EndEvent<&FieldList, &[u8]>) -> Option<u32>
-    ensures { result ≡ stream_of (event_handed event.entry) }
+fn stream_of_handed(event: EndEvent<&FieldList, &[u8]>) -> Option<u32>
+    ensures { result ≡ stream_of_handed (event_handed event.entry) }
 {
     match event {
         EndEvent::Interim { id, .. } => Some(id),

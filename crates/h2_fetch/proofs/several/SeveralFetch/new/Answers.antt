@@ -6,7 +6,7 @@ use Rattle.std.proofs.Common.{map-id}
 use Rattle.std.proofs.lemmas.Iterator.Adapters.{YieldsList-from_vec}
 use Rattle.std.proofs.lemmas.Iterator.Consumers.{YieldsList-end}
 use Rattle.h2_flow.specs.ConfigValues.{values_of}
-use Rattle.h2_fetch.proofs.SeveralBeginning.{HasRequestedAll, begins_several, given_next}
+use Rattle.h2_fetch.proofs.SeveralBeginning.{HasRequestedAll, begins_several, yields_next}
 use Rattle.h2_fetch.proofs.SeveralBeginning.{refuses_one, requests_more, requests_none}
 use Rattle.h2_fetch.proofs.several.SeveralFetch.new.Goals as goal
 
@@ -20,7 +20,7 @@ returns-in_err-id-clause-err c =
     let answer = err_from_is_err_and c.from_residual.result c.from_residual.ensures.1 in
     rw (answer.1, answer.2) (refuses_one c.request_next.new.client.end c.loop-message.invariant
     (message_value c.in-Some.message) c.in_err-id.field-0.0
-    (map message_value c.args.messages.items) _ (given_next c.args.messages.items
+    (map message_value c.args.messages.items) _ (yields_next c.args.messages.items
     c.into_iter-message-iterator.result c.loop-message.yielded c.loop-message.message-iterator
     c.next.new.self c.in-Some.message
     c.into_iter-message-iterator.ensures.into_iter_gives.0 c.loop-message.yielded_by
