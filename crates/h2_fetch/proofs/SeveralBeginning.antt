@@ -14,8 +14,8 @@ use Rattle.h2_laws_end.proofs.OverNumbers.{opened_is_new}
 use Rattle.h2_laws_pair.proofs.Lists.{none_in}
 use Rattle.h2_ends.proofs.RequestHeads.{untouched}
 use Rattle.h2_ends.proofs.RequestSent.{accepted_elsewhere, accepted_here}
-use Rattle.h2_fetch.specs.Several.{all_on, Asked, BeginsSeveral, IsFetchingSeveral, RefusesOne}
-use Rattle.h2_fetch.specs.Several.{begins, error_of_request, kept_on, octets_unused, refuses}
+use Rattle.h2_fetch.specs.Several.{all_on, AskedOn, BeginsSeveral, IsFetchingSeveral, RefusesOne}
+use Rattle.h2_fetch.specs.Several.{begins, error_of_request, kept_on, several_unused, refuses}
 use Rattle.h2_fetch.specs.Several.{requests}
 use Rattle.h2_fetch.specs.SeveralTakes.{RequestedSo, RequestsOnce}
 use Rattle.h2_fetch.specs.declared.several.SeveralFetch.{SeveralFetch}
@@ -24,7 +24,7 @@ use Rattle.h2_fetch.proofs.Beginning.{none_gone, unused_yet, up_yet}
 -- So many requests were made, each of which was accepted.
 pub record HasRequestedAll (values : Values) (messages : List SentMessage) (client : End)
     (ids : List ℕ) : Type 0 where
-  pub asked : List Asked
+  pub asked : List AskedOn
   pub end : EndLog
   pub sent : map (λ one. one.1) asked ≡ messages
   pub streams : ids ≡ map (λ one. one.0) asked
@@ -57,10 +57,10 @@ requests_none {values} client ids range represents none =
     }
 
 -- The connection is up as before once a stream is opened.
-opens_still : (log : Log) (list : List Field) (end : Bool) (id : ℕ)
+opens_still : {log : Log} (list : List Field) (end : Bool) (id : ℕ)
     → (with_call log (Open list end) (Number id)).failed ≡ log.failed
 unfolding with_call
-opens_still log list end id = items_failed log (Open list end) (Number id)
+opens_still {log} list end id = items_failed log (Open list end) (Number id)
 
 -- What was given of the messages is the beginning of them.
 yields_first : {Z : Type 0} (start : IntoIter Message Z) (given : List Message)
@@ -114,13 +114,13 @@ module _ {values : Values} {messages : List SentMessage} {old : End} (new : End)
               ap (λ (end : EndLog). said_for i end.accepted) is
               ∙ accepted_elsewhere i id (at_once message) so.end.accepted other ∙ said
           | inr same ↦
-              let here : id ≡ i = ap (λ (pair : Asked). pair.0) same in
-              let said : message ≡ one = ap (λ (pair : Asked). pair.1) same in
+              let here : id ≡ i = ap (λ (pair : AskedOn). pair.0) same in
+              let said : message ≡ one = ap (λ (pair : AskedOn). pair.1) same in
               rw (sym here, sym said) (ap (λ (end : EndLog). said_for id end.accepted) is
               ∙ accepted_here id (at_once message) so.end.accepted)
         ];
         up = ap (λ (one : Log). one.failed) log
-            ∙ opens_still before message.head (is_head_alone message) id ∙ so.up;
+            ∙ opens_still message.head (is_head_alone message) id ∙ so.up;
         unused = ap (λ (one : Log). one.input) log
             ∙ (Keeps-call before act (Number id)).input ∙ so.unused;
         ungiven = ap (λ (one : Log). one.given) log
@@ -142,7 +142,7 @@ module _ {values : Values} {messages : List SentMessage} {old : End} (new : End)
 -- All of them were made.
 pub begins_several : {values : Values} {messages : List SentMessage} (fetch : SeveralFetch)
     → HasRequestedAll values messages fetch.client.end fetch.ids.items → fetch.kept.items ≡ []
-    → octets_unused fetch ≡ [] → BeginsSeveral values messages fetch
+    → several_unused fetch ≡ [] → BeginsSeveral values messages fetch
 unfolding all_on kept_on
 begins_several fetch so kept unused = (
   so.asked,
@@ -154,7 +154,7 @@ begins_several fetch so kept unused = (
     streams = so.streams;
     accepted = so.accepted;
     up = so.up;
-    linked = none_gone start so.end.log (octets_unused fetch) so.unused so.ungiven unused;
+    linked = none_gone start so.end.log (several_unused fetch) so.unused so.ungiven unused;
     parts = λ id one. rw (so.none, kept) refl;
     dropped = λ id code one. absurd (none_in _ (rw kept at one));
   },

@@ -11,8 +11,8 @@ use Rattle.h2_engines.proofs.ServeLinkTakes.{took_links, takes_first}
 use Rattle.h2_engines.proofs.TakeMessages.{handed_after, taken_says}
 use Rattle.h2_engines.proofs.TurnsPassed.{turns_of_take}
 use Rattle.h2_fetch.specs.Kept.{came_on}
-use Rattle.h2_fetch.specs.Several.{all_on, AnsweredOn, AreComing, AreDropped, Asked}
-use Rattle.h2_fetch.specs.Several.{answered_next, IsFetchingSeveral, kept_on, octets_unused}
+use Rattle.h2_fetch.specs.Several.{all_on, AnsweredOn, AreComing, AreDropped, AskedOn}
+use Rattle.h2_fetch.specs.Several.{answered_next, IsFetchingSeveral, kept_on, several_unused}
 use Rattle.h2_fetch.specs.Several.{takes}
 use Rattle.h2_fetch.specs.SeveralComings.{HaveTakenLast, lacks_memory}
 use Rattle.h2_fetch.specs.SeveralTakes.{HandsCame, IsAsCame, TakesCameOnce, TakesCameSo}
@@ -28,7 +28,7 @@ use Rattle.h2_link.specs.declared.error.LinkError.TheVariants as errors
 
 -- Whatever had happened at first, the client fetches still, keeps nothing of the stream, and each
 -- round was a turn at least.
-pub record AreGoing (values : Values) (start now : Traffic) (asked : List Asked)
+pub record AreGoing (values : Values) (start now : Traffic) (asked : List AskedOn)
     (fetch : SeveralFetch) (id : ℕ) (before : EndLog) (answered : AnsweredOn) (rounds : ℕ) : Type 0
   where
     pub after : EndLog
@@ -36,7 +36,8 @@ pub record AreGoing (values : Values) (start now : Traffic) (asked : List Asked)
     pub none : kept_on id fetch.kept.items ≡ []
     pub turns : rounds + length before.log.turns ≤ length after.log.turns
 
-pub are_going : {values : Values} {start now : Traffic} {asked : List Asked} {fetch : SeveralFetch}
+pub are_going : {values : Values} {start now : Traffic} {asked : List AskedOn}
+    {fetch : SeveralFetch}
     (id : ℕ) {end : EndLog} {answered : AnsweredOn}
     → AreComing values start now asked fetch end answered → kept_on id fetch.kept.items ≡ []
     → AreGoing values start now asked fetch id end answered 0
@@ -44,29 +45,29 @@ are_going id {end} is none =
     record { after = end; coming = is; none = none; turns = omega arith }
 
 -- The client has taken octets of those that it keeps, and this was handed out.
-pub record HasTakenCame (values : Values) (start now : Traffic) (asked : List Asked)
+pub record HasTakenCame (values : Values) (start now : Traffic) (asked : List AskedOn)
     (fetch : SeveralFetch) (before : EndLog) (ids : List ℕ) (taken : CameTaken) : Type 0 where
   pub after : EndLog
   pub fetching : IsFetchingSeveral values asked after
   pub represents : EndRepresents values fetch.client.end after
   pub accepted : after.accepted ≡ before.accepted
   pub up : after.log.failed ≡ None
-  pub linked : IsLinked start now after.log (octets_unused fetch)
+  pub linked : IsLinked start now after.log (several_unused fetch)
   pub turns : length before.log.turns < length after.log.turns
   pub handed : Option Handed
   pub hands : HandsCame ids handed taken.next
   pub same : after.handed ≡ handed_after (EndTook taken.used handed) before.handed
-  pub done : taken.next ≡ nexts.Done → octets_unused fetch ≡ []
+  pub done : taken.next ≡ nexts.Done → several_unused fetch ≡ []
 
 -- what the octets are that a client hands to `take`
 abbrev pub piece_of : SeveralFetch → List ℕ
-piece_of fetch = take (length fetch.input.items - fetch.used) (octets_unused fetch)
+piece_of fetch = take (length fetch.input.items - fetch.used) (several_unused fetch)
 
 -- The rest of a piece is a list of its own.
-pub rest_is : (fetch : SeveralFetch) → piece_of fetch ≡ octets_unused fetch
+pub rest_is : (fetch : SeveralFetch) → piece_of fetch ≡ several_unused fetch
 rest_is fetch = take_rest fetch.input.items fetch.used
 
-module _ {values : Values} {start now : Traffic} {asked : List Asked} {old : SeveralFetch}
+module _ {values : Values} {start now : Traffic} {asked : List AskedOn} {old : SeveralFetch}
     (new : SeveralFetch) {end : EndLog} {answered : AnsweredOn}
     (is : AreComing values start now asked old end answered) where
   pub taken_came : (taken : CameTaken) → new.input ≡ old.input → new.used ≡ old.used + taken.used
@@ -79,7 +80,7 @@ module _ {values : Values} {start now : Traffic} {asked : List Asked} {old : Sev
       (rest_is old) so.1 in
       let says = taken_says may in
       let first = takes_first may in
-      let left : drop taken.used (octets_unused old) ≡ octets_unused new =
+      let left : drop taken.used (several_unused old) ≡ several_unused new =
       drop-drop taken.used old.used old.input.items
       ∙ ap (λ (n : ℕ). drop n old.input.items) (sym used)
       ∙ ap (λ input. drop new.used input.items) (sym input) in
@@ -95,12 +96,12 @@ module _ {values : Values} {start now : Traffic} {asked : List Asked} {old : Sev
         handed = so.0;
         hands = so.2;
         same = says.handed;
-        done = λ is_done. sym left ∙ drop_all taken.used (octets_unused old)
+        done = λ is_done. sym left ∙ drop_all taken.used (several_unused old)
             (omega (arith, so.3 is_done, ap length (rest_is old)));
       }
 
 -- Nothing has come: it goes on.
-module _ {values : Values} {start now : Traffic} {asked : List Asked} {old : SeveralFetch}
+module _ {values : Values} {start now : Traffic} {asked : List AskedOn} {old : SeveralFetch}
     (new : SeveralFetch) {end : EndLog} {answered : AnsweredOn} {taken : CameTaken}
     (is : AreComing values start now asked old end answered)
     (took : HasTakenCame values start now asked new end old.ids.items taken)
@@ -202,7 +203,7 @@ module _ {values : Values} {start now : Traffic} {asked : List Asked} {old : Sev
         record {
           fetching = took.fetching;
           represents = took.represents;
-          unused = octets_unused new;
+          unused = several_unused new;
           linked = took.linked;
           lost = came_on stream came;
           parts = λ id one.

@@ -8,8 +8,8 @@ use Rattle.h2_engines.specs.ServerSteps.{ErrsServing}
 use Rattle.h2_engines.proofs.ResponderEnds.{given_within}
 use Rattle.h2_engines.proofs.ServeLinkTakes.{links_first, takes_first}
 use Rattle.h2_engines.proofs.TakeMessages.{kept_failed, taken_says}
-use Rattle.h2_fetch.specs.Several.{OnStream, all_on, as_on, AnsweredOn, AreComing, Asked, CameSo}
-use Rattle.h2_fetch.specs.Several.{kept_on, octets_unused, answered_next, takes}
+use Rattle.h2_fetch.specs.Several.{OnStream, all_on, as_on, AnsweredOn, AreComing, AskedOn, CameSo}
+use Rattle.h2_fetch.specs.Several.{kept_on, several_unused, answered_next, takes}
 use Rattle.h2_fetch.specs.SeveralComings.{TakesNoneMore, TakesUntilCame, TookCame, fails}
 use Rattle.h2_fetch.specs.SeveralComings.{lacks_memory, out_of_rounds}
 use Rattle.h2_fetch.specs.SeveralTakes.{TakesCameOnce, TakesCameSo}
@@ -27,7 +27,7 @@ use Rattle.h2_link.specs.declared.error.LinkError.TheVariants as errors
 -- In a call of `take_next` nothing goes over the link.
 abbrev pub TakesCame : (old new : SeveralFetch) → ℕ → (rounds : ℕ) → Type 0
 TakesCame old new id rounds =
-    (values : Values) (start now : Traffic) (asked : List Asked) (end : EndLog)
+    (values : Values) (start now : Traffic) (asked : List AskedOn) (end : EndLog)
     (answered : AnsweredOn) → AreComing values start now asked old end answered
     → kept_on id old.kept.items ≡ []
     → AreGoing values start now asked new id end answered rounds
@@ -174,7 +174,7 @@ next_out old new id rounds all on values start now asked end answered is none =
       record {
         fetching = go.coming.fetching;
         represents = go.coming.represents;
-        unused = octets_unused new;
+        unused = several_unused new;
         linked = go.coming.linked;
         lost = λ i. [];
         parts = λ i one. go.coming.parts i one

@@ -7,8 +7,8 @@ use Rattle.h2_engines.proofs.MachineViews.{all_in_part}
 use Rattle.h2_fetch.specs.Reads.{EndedSo, EndsOver, ReadOver, ReadSo, ReadsOver, ends_at_once}
 use Rattle.h2_fetch.specs.Reads.{ends_failed}
 use Rattle.h2_fetch.specs.Sends.{AsksSeveral}
-use Rattle.h2_fetch.specs.Several.{OnStream, AnsweredOn, AreComing, Asked, CameSo}
-use Rattle.h2_fetch.specs.Several.{IsFetchingSeveral, StopsAllFor, kept_on, octets_unused}
+use Rattle.h2_fetch.specs.Several.{OnStream, AnsweredOn, AreComing, AskedOn, CameSo}
+use Rattle.h2_fetch.specs.Several.{IsFetchingSeveral, StopsAllFor, kept_on, several_unused}
 use Rattle.h2_fetch.specs.SeveralComings.{FilledSo, FillsSeveral, TakesNoneMore, TakesUntilCame}
 use Rattle.h2_fetch.specs.SeveralComings.{TookCame, WaitsFor, fails, lacks_memory, out_of_rounds}
 use Rattle.h2_fetch.specs.declared.several.Came.{Came}
@@ -18,12 +18,12 @@ use Rattle.h2_fetch.proofs.SeveralTaking.{stay_dropped}
 use Rattle.h2_link.specs.declared.error.LinkError.TheVariants as errors
 
 -- Where nothing has happened to messages, and as much is kept, the client fetches still.
-pub coming_still : {values : Values} {start before now : Traffic} {asked : List Asked}
+pub coming_still : {values : Values} {start before now : Traffic} {asked : List AskedOn}
     {old : SeveralFetch} (new : SeveralFetch) {end : EndLog} (after : EndLog)
     {answered : AnsweredOn} → new.ids ≡ old.ids → new.kept.items ≡ old.kept.items
     → after.accepted ≡ end.accepted → after.handed ≡ end.handed
     → IsFetchingSeveral values asked after → EndRepresents values new.client.end after
-    → after.log.failed ≡ None → IsLinked start now after.log (octets_unused new)
+    → after.log.failed ≡ None → IsLinked start now after.log (several_unused new)
     → AreComing values start before asked old end answered
     → AreComing values start now asked new after answered
 coming_still {old = old} new {end} after ids kept accepted handed fetching represents up linked is =
@@ -42,7 +42,7 @@ coming_still {old = old} new {end} after ids kept accepted handed fetching repre
     }
 
 -- A piece was read, or the fetch has ended.
-module _ {values : Values} {start : Traffic} (before now : Traffic) {asked : List Asked}
+module _ {values : Values} {start : Traffic} (before now : Traffic) {asked : List AskedOn}
     (old new : SeveralFetch) {end : EndLog} {answered : AnsweredOn}
     (is : AreComing values start before asked old end answered) (ids : new.ids ≡ old.ids)
     (kept : new.kept.items ≡ old.kept.items) where
@@ -129,7 +129,7 @@ ended_so start now why (ends_failed down stops) = stops
 abbrev pub WaitsOn : (before now : Traffic) → (old new : SeveralFetch) → ℕ → (rounds : ℕ)
     → Type 0
 WaitsOn before now old new id rounds =
-    (values : Values) (start : Traffic) (asked : List Asked) (end : EndLog)
+    (values : Values) (start : Traffic) (asked : List AskedOn) (end : EndLog)
     (answered : AnsweredOn) → AreComing values start before asked old end answered
     → kept_on id old.kept.items ≡ []
     → AreGoing values start now asked new id end answered rounds

@@ -12,12 +12,12 @@ use Rattle.h2_engines.specs.Failures.{IsOutOfMemory}
 use Rattle.h2_engines.specs.Linked.{Traffic, HasGiven, HasStalled, IsLinked}
 use Rattle.h2_engines.specs.Machines.{WritesOut}
 use Rattle.h2_engines.specs.ServerSteps.{IsSameOfMessages, TookBy}
-use Rattle.h2_fetch.specs.Several.{Asked, IsFetchingSeveral}
+use Rattle.h2_fetch.specs.Several.{AskedOn, IsFetchingSeveral}
 
 -- what a client has asked for: it makes one request, or several
 pub data Asking : Type 0 where
   AsksOne : (message : SentMessage) → Asking
-  AsksSeveral : (asked : List Asked) → Asking
+  AsksSeveral : (asked : List AskedOn) → Asking
 
 -- What has happened at a client that has asked so.
 abbrev pub HasAsked : Values → Asking → EndLog → Type 0

@@ -28,35 +28,35 @@ use Rattle.h2_fetch.specs.declared.several.Came.TheVariants.{Part, Dropped}
 use Rattle.h2_fetch.specs.Parts.{handed_of, is_on}
 
 -- a request that was accepted, with its stream
-abbrev pub Asked : Type 0
-Asked = ℕ × SentMessage
+abbrev pub AskedOn : Type 0
+AskedOn = ℕ × SentMessage
 
 -- What has happened at a client since it was new: it made these requests, the first one first, and
 -- each was accepted; it took octets, released, pumped and gave out.
 -- rule: engines (own) Responses of several requests are what is handed out, each in order
-pub data IsFetchingSeveral (values : Values) : List Asked → EndLog → Type 0 where
+pub data IsFetchingSeveral (values : Values) : List AskedOn → EndLog → Type 0 where
   begins : AreInRange values → IsFetchingSeveral values [] (new_end_log Client values)
-  requests : {asked : List Asked} {end after : EndLog} → IsFetchingSeveral values asked end
+  requests : {asked : List AskedOn} {end after : EndLog} → IsFetchingSeveral values asked end
       → (id : ℕ) (message : SentMessage) → MayRequest end message (Ok id) after
       → IsFetchingSeveral values (asked ++ (id, message) ∷ []) after
-  takes : {asked : List Asked} {end after : EndLog} → IsFetchingSeveral values asked end
+  takes : {asked : List AskedOn} {end after : EndLog} → IsFetchingSeveral values asked end
       → (piece : List ℕ) (answer : EndAnswer) → EndMayTake end piece answer after
       → IsFetchingSeveral values asked after
-  releases : {asked : List Asked} {end after : EndLog} → IsFetchingSeveral values asked end
+  releases : {asked : List AskedOn} {end after : EndLog} → IsFetchingSeveral values asked end
       → (result : Result (Unit {0}) EndRefusal) → MayReleaseAll end result after
       → IsFetchingSeveral values asked after
-  pumps : {asked : List Asked} {end after : EndLog} → IsFetchingSeveral values asked end
+  pumps : {asked : List AskedOn} {end after : EndLog} → IsFetchingSeveral values asked end
       → (result : Result ℕ EndRefusal) → MayPump end result after
       → IsFetchingSeveral values asked after
-  gives_out : {asked : List Asked} {end : EndLog} → IsFetchingSeveral values asked end
+  gives_out : {asked : List AskedOn} {end : EndLog} → IsFetchingSeveral values asked end
       → (count : ℕ) (answer : Answer) → IsTypedAct (PutOut count)
       → MayAnswer end.log (PutOut count) answer
       → IsFetchingSeveral values asked
       (end_with_log end (with_call end.log (PutOut count) answer))
 
 -- the octets that were read and not used yet
-abbrev pub octets_unused : SeveralFetch → List ℕ
-octets_unused fetch = drop fetch.used fetch.input.items
+abbrev pub several_unused : SeveralFetch → List ℕ
+several_unused fetch = drop fetch.used fetch.input.items
 
 -- what has come on a stream: a part of a response as it was handed out, or that the stream was
 -- dropped with this code: it was reset, or its request was not processed
@@ -105,7 +105,7 @@ AreDropped end kept =
 -- the link took all that it has given out, and of each stream that it asked on this was answered
 -- and that is kept: all that has come there, in order.
 -- rule: engines (own) Responses of several requests are what is handed out, each in order
-pub record AreComing (values : Values) (start now : Traffic) (asked : List Asked)
+pub record AreComing (values : Values) (start now : Traffic) (asked : List AskedOn)
     (fetch : SeveralFetch) (end : EndLog) (answered : AnsweredOn) : Type 0 where
   pub fetching : IsFetchingSeveral values asked end
   pub represents : EndRepresents values fetch.client.end end
@@ -113,7 +113,7 @@ pub record AreComing (values : Values) (start now : Traffic) (asked : List Asked
   pub accepted : (id : ℕ) (message : SentMessage) → Contains asked (id, message)
       → said_for id end.accepted ≡ Some (at_once message)
   pub up : end.log.failed ≡ None
-  pub linked : IsLinked start now end.log (octets_unused fetch)
+  pub linked : IsLinked start now end.log (several_unused fetch)
   pub parts : (id : ℕ) → Contains fetch.ids.items id
       → all_on id end.handed ≡ answered id ++ kept_on id fetch.kept.items
   pub dropped : AreDropped end fetch.kept.items
@@ -122,7 +122,7 @@ pub record AreComing (values : Values) (start now : Traffic) (asked : List Asked
 -- rule: engines (own) Responses of several requests are what is handed out, each in order
 abbrev pub BeginsSeveral : Values → (messages : List SentMessage) → SeveralFetch → Type 0
 BeginsSeveral values messages fetch =
-    (asked : List Asked) × (end : EndLog) × (map (λ one. one.1) asked ≡ messages)
+    (asked : List AskedOn) × (end : EndLog) × (map (λ one. one.1) asked ≡ messages)
     × ((start : Traffic) → AreComing values start start asked fetch end (λ id. []))
 
 -- how a fetch ends whose request was refused for this
@@ -135,7 +135,7 @@ error_of_request refusal = error_after refusal
 -- rule: engines (own) Responses of several requests are what is handed out, each in order
 pub data RefusesOne (values : Values) (messages : List SentMessage) (error : LinkError) : Type 0
   where
-    refuses : (asked : List Asked) (message : SentMessage) (more : List SentMessage)
+    refuses : (asked : List AskedOn) (message : SentMessage) (more : List SentMessage)
         (end after : EndLog) (refusal : EndRefusal)
         → messages ≡ map (λ one. one.1) asked ++ message ∷ more
         → IsFetchingSeveral values asked end → MayRequest end message (Err refusal) after
@@ -158,7 +158,7 @@ StopsAllFor start now end errors.Refused = ⊥
 -- that the link gave, the link took the first of its output, and of each stream this was answered,
 -- that is kept, and the last of it lost: none but where memory was refused.
 -- rule: engines (own) Responses of several requests are what is handed out, each in order
-pub record HaveStopped (values : Values) (start now : Traffic) (asked : List Asked)
+pub record HaveStopped (values : Values) (start now : Traffic) (asked : List AskedOn)
     (fetch : SeveralFetch) (end : EndLog) (answered : AnsweredOn) (error : LinkError) : Type 0 where
   pub fetching : IsFetchingSeveral values asked end
   pub represents : EndRepresents values fetch.client.end end
@@ -171,7 +171,8 @@ pub record HaveStopped (values : Values) (start now : Traffic) (asked : List Ask
 
 -- what was answered of a stream, or how the fetch has ended early
 -- rule: engines (own) Responses of several requests are what is handed out, each in order
-unfoldable pub CameSo : Values → (start now : Traffic) → List Asked → SeveralFetch → ℕ → AnsweredOn
+unfoldable pub CameSo : Values → (start now : Traffic) → List AskedOn → SeveralFetch → ℕ →
+    AnsweredOn
     → Result Came LinkError → Type 0
 CameSo values start now asked fetch id answered (Ok came) =
     (after : EndLog)
@@ -186,7 +187,7 @@ CameSo values start now asked fetch id answered (Err error) =
 abbrev pub AnswersNextOn : (before now : Traffic) → (old new : SeveralFetch) → ℕ
     → Result Came LinkError → Type 0
 AnswersNextOn before now old new id result =
-    (values : Values) (start : Traffic) (asked : List Asked) (end : EndLog)
+    (values : Values) (start : Traffic) (asked : List AskedOn) (end : EndLog)
     (answered : AnsweredOn) → Contains old.ids.items id
     → AreComing values start before asked old end answered
     → CameSo values start now asked new id answered result

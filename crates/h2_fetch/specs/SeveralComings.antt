@@ -12,8 +12,8 @@ use Rattle.h2_engines.specs.Linked.{Traffic, IsLinked, IsOutOfRounds}
 use Rattle.h2_engines.specs.ServerSteps.{error_with}
 use Rattle.h2_fetch.specs.declared.several.Came.{Came}
 use Rattle.h2_fetch.specs.declared.several.SeveralFetch.{SeveralFetch}
-use Rattle.h2_fetch.specs.Several.{AnsweredOn, AreComing, Asked, CameSo, HaveStopped, all_on}
-use Rattle.h2_fetch.specs.Several.{IsFetchingSeveral, kept_on, octets_unused}
+use Rattle.h2_fetch.specs.Several.{AnsweredOn, AreComing, AskedOn, CameSo, HaveStopped, all_on}
+use Rattle.h2_fetch.specs.Several.{IsFetchingSeveral, kept_on, several_unused}
 
 -- Why a client can take no more, by which no part is lost, unless memory was refused: the
 -- connection has failed, or it is out of rounds.
@@ -25,7 +25,7 @@ pub data TakesNoneMore (end : EndLog) (lost : AnsweredOn) (error : LinkError) : 
       → ((id : ℕ) → lost id ≡ []) → TakesNoneMore end lost error
 
 -- A client has taken its last octets.
-pub record HaveTakenLast (values : Values) (start now : Traffic) (asked : List Asked)
+pub record HaveTakenLast (values : Values) (start now : Traffic) (asked : List AskedOn)
     (fetch : SeveralFetch) (end : EndLog) (answered : AnsweredOn) (error : LinkError) : Type 0 where
   pub fetching : IsFetchingSeveral values asked end
   pub represents : EndRepresents values fetch.client.end end
@@ -37,13 +37,13 @@ pub record HaveTakenLast (values : Values) (start now : Traffic) (asked : List A
   pub why : TakesNoneMore end lost error
 
 -- what came of the octets that were read: something on a stream, or none, where none is kept
-unfoldable pub TookCame : Values → (start now : Traffic) → List Asked → SeveralFetch → ℕ
+unfoldable pub TookCame : Values → (start now : Traffic) → List AskedOn → SeveralFetch → ℕ
     → (before : EndLog) → AnsweredOn → Result (Option Came) LinkError → Type 0
 TookCame values start now asked fetch id before answered (Ok (Some came)) =
     CameSo values start now asked fetch id answered (Ok came)
 TookCame values start now asked fetch id before answered (Ok None) =
     (after : EndLog) × AreComing values start now asked fetch after answered
-    × (kept_on id fetch.kept.items ≡ []) × (octets_unused fetch ≡ [])
+    × (kept_on id fetch.kept.items ≡ []) × (several_unused fetch ≡ [])
     × (length before.log.turns ≤ length after.log.turns)
 TookCame values start now asked fetch id before answered (Err error) =
     (after : EndLog) × HaveTakenLast values start now asked fetch after answered error
@@ -52,13 +52,13 @@ TookCame values start now asked fetch id before answered (Err error) =
 -- read until something has come there.
 abbrev pub TakesUntilCame : (old new : SeveralFetch) → ℕ → Result (Option Came) LinkError → Type 0
 TakesUntilCame old new id result =
-    (values : Values) (start now : Traffic) (asked : List Asked) (end : EndLog)
+    (values : Values) (start now : Traffic) (asked : List AskedOn) (end : EndLog)
     (answered : AnsweredOn) → AreComing values start now asked old end answered
     → kept_on id old.kept.items ≡ []
     → TookCame values start now asked new id end answered result
 
 -- A piece was read, in a turn at least, or the fetch has ended early; nothing was handed out.
-unfoldable pub FilledSo : Values → (start now : Traffic) → List Asked → SeveralFetch
+unfoldable pub FilledSo : Values → (start now : Traffic) → List AskedOn → SeveralFetch
     → (before : EndLog) → AnsweredOn → Result (Unit {0}) LinkError → Type 0
 FilledSo values start now asked fetch before answered (Ok done) =
     (after : EndLog) × AreComing values start now asked fetch after answered
@@ -69,16 +69,16 @@ FilledSo values start now asked fetch before answered (Err error) =
 abbrev pub FillsSeveral : (before now : Traffic) → (old new : SeveralFetch)
     → Result (Unit {0}) LinkError → Type 0
 FillsSeveral before now old new result =
-    (values : Values) (start : Traffic) (asked : List Asked) (end : EndLog)
+    (values : Values) (start : Traffic) (asked : List AskedOn) (end : EndLog)
     (answered : AnsweredOn) → AreComing values start before asked old end answered
-    → octets_unused old ≡ []
+    → several_unused old ≡ []
     → FilledSo values start now asked new end answered result
 
 -- The next of a stream is asked for of which nothing is kept.
 abbrev pub WaitsFor : (before now : Traffic) → (old new : SeveralFetch) → ℕ
     → Result Came LinkError → Type 0
 WaitsFor before now old new id result =
-    (values : Values) (start : Traffic) (asked : List Asked) (end : EndLog)
+    (values : Values) (start : Traffic) (asked : List AskedOn) (end : EndLog)
     (answered : AnsweredOn) → AreComing values start before asked old end answered
     → kept_on id old.kept.items ≡ []
     → CameSo values start now asked new id answered result

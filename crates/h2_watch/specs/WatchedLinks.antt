@@ -14,8 +14,8 @@ octets_by (Ok count) octets = take count octets
 octets_by (Err fault) octets = []
 
 -- texts, one after another
-abbrev pub joined : List (List ℕ) → List ℕ
-joined texts = flat_map (λ text. text) texts
+abbrev pub texts_joined : List (List ℕ) → List ℕ
+texts_joined texts = flat_map (λ text. text) texts
 
 -- what is printed of texts of a side: the lines of each, after the side's mark
 -- rule: engines (own) get -v shows the frames of both sides as they come
@@ -29,7 +29,7 @@ pub record ShowsParts (old new : Watch) (side : Side) (octets : List ℕ)
     (before after : Option (List ℕ)) : Type 0 where
   pub texts : List (List ℕ)
   pub printed : Appends before after (marked_texts side texts)
-  pub shows : ShowsMore old new side octets (joined texts)
+  pub shows : ShowsMore old new side octets (texts_joined texts)
 
 -- Where octets were shown so far, these were too, unless something could not be shown; where that
 -- was so before, nothing is printed.
