@@ -74,23 +74,15 @@ where
         Ok(message) => message,
         Err(fault) => return refuse_request(fault, err),
     };
-    let Some(seconds) = options.timeout else {
-        let limits = Limits {
-            deadline: None,
-            has_progress,
-        };
-        return ask(
-            net, net, alloc, &options, &location, message, limits, out, err,
-        );
-    };
-    let deadline = Deadline::in_seconds(net, seconds);
-    let timed = TimedNet::new(*net, deadline);
-    let limits = Limits {
-        deadline: Some(deadline),
+    ask_in_time(
+        net,
+        alloc,
+        &options,
+        &location,
+        message,
         has_progress,
-    };
-    ask(
-        &timed, net, alloc, &options, &location, message, limits, out, err,
+        out,
+        err,
     )
 }
 
@@ -101,6 +93,46 @@ struct Limits {
     deadline: Option<Deadline>,
     // Whether it is said how much of a file has come.
     has_progress: bool,
+}
+
+// Makes the request over a network, within the time that the options give.
+fn ask_in_time<N: Net + Files + Clock + Copy, W: Write, E: Write>(
+    net: &N,
+    alloc: Global,
+    options: &GetOptions<'_>,
+    location: &Location,
+    message: Message,
+    has_progress: bool,
+    out: &mut W,
+    err: &mut E,
+) -> Status
+where
+    N::Stream: WriteParts,
+    ensures { AsksSo (asked_by options.now) (message_value message) (W.contents out.old)
+        (W.contents out.new) result }
+{
+    match options.timeout {
+        None => {
+            let limits = Limits {
+                deadline: None,
+                has_progress,
+            };
+            ask(
+                net, net, alloc, options, location, message, limits, out, err,
+            )
+        }
+        Some(seconds) => {
+            let deadline = Deadline::in_seconds(net, seconds);
+            let timed = TimedNet::new(*net, deadline);
+            let limits = Limits {
+                deadline: Some(deadline),
+                has_progress,
+            };
+            ask(
+                &timed, net, alloc, options, location, message, limits, out, err,
+            )
+        }
+    }
 }
 
 // rule: engines (own) The words of get make its request and say what is printed

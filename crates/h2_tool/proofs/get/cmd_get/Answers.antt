@@ -58,34 +58,17 @@ returns-in-Err-request_of-clause-unread g c = λ none.
     c.in-Ok-body_of.ensures.unread (none (asked_by c.in-Ok.options) c.in-Ok.ensures.ok)
 
 -- The request was made.
-pub returns-in-None-clause-ends : goal.returns-in-None-clause-ends
-returns-in-None-clause-ends g c =
-    let words = asked_by c.in-Ok.options in
-    inl (
-      words,
-      c.in-Ok.ensures.ok,
-      asks_so words _ _ _ c.ask.result c.in-Ok-location_at.location
-          (subst (λ (url : List ℕ). NamesAtPort url words.port c.in-Ok-location_at.location)
-          c.as_bytes.ensures.value c.in-Ok-location_at.ensures.ok)
-          c.in-Ok-body_of.body.items c.in-Ok-body_of.ensures.body c.in-Ok-request_of.ensures.asked _
-          c.in-Ok-request_of.ensures.ok c.ask.ensures,
-    )
-
-pub returns-in-None-clause-unread : goal.returns-in-None-clause-unread
-returns-in-None-clause-unread g c = λ none.
-    c.in-Ok-body_of.ensures.unread (none (asked_by c.in-Ok.options) c.in-Ok.ensures.ok)
-
 pub returns-clause-ends : goal.returns-clause-ends
 returns-clause-ends g c =
     let words = asked_by c.in-Ok.options in
     inl (
       words,
       c.in-Ok.ensures.ok,
-      asks_so words _ _ _ c.ask-in-Some.result c.in-Ok-location_at.location
+      asks_so words _ _ _ c.ask_in_time.result c.in-Ok-location_at.location
           (subst (λ (url : List ℕ). NamesAtPort url words.port c.in-Ok-location_at.location)
           c.as_bytes.ensures.value c.in-Ok-location_at.ensures.ok)
           c.in-Ok-body_of.body.items c.in-Ok-body_of.ensures.body c.in-Ok-request_of.ensures.asked _
-          c.in-Ok-request_of.ensures.ok c.ask-in-Some.ensures,
+          c.in-Ok-request_of.ensures.ok c.ask_in_time.ensures,
     )
 
 pub returns-clause-unread : goal.returns-clause-unread
