@@ -150,7 +150,7 @@ GetsSo words remaining before after Memory = after ≡ before
 -- whether the words ask for the body as it comes
 -- rule: engines (own) get -o and --stream write the body as it comes, in order
 abbrev pub is_in_parts : GetWords → Bool
-is_in_parts words = words.stream || words.verbose || is_some words.output
+is_in_parts words = (words.stream || words.verbose) || is_some words.output
 
 -- The location that the words name was asked for with the request that they ask for, and the
 -- response was printed as it came, with this result.
