@@ -10,7 +10,7 @@ use Rattle.h2_tool.proofs.program.run.Goals as goal
 pub returns-in-show-clause-show : goal.returns-in-show-clause-show
 returns-in-show-clause-show g c = λ others same.
     let following : map string_bytes c.in-Some.others.now ≡ others = search rules in
-    subst (λ (words : List (List ℕ)). EndsShow c.args.colored words
+    subst (λ (words : List (List ℕ)). EndsShow c.args.terminals.colored words
     (g.R.Read.remaining c.args.input.now)
     (g.R.Read.remaining c.cmd_show.new.input) (g.W.Write.contents c.args.out.now)
     (g.W.Write.contents c.cmd_show.new.out) c.cmd_show.result) following c.cmd_show.ensures
