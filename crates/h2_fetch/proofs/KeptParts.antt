@@ -29,19 +29,19 @@ none_before id (one ∷ kept) =
     (none_before id kept)
 
 -- A place that is chosen by a test is chosen where it holds.
-chosen : {test : Bool} (n at : ℕ) → cond test (Some n) None ≡ Some at → (test ≡ true) × (n ≡ at)
-chosen {true} n at is = (refl, cc)
-chosen {false} n at is = (cc, cc)
+chosen : (n at : ℕ) (test : Bool) → cond test (Some n) None ≡ Some at → (test ≡ true) × (n ≡ at)
+chosen n at true is = (refl, cc)
+chosen n at false is = (cc, cc)
 
-not_chosen : {test : Bool} (n : ℕ) → cond test (Some n) None ≡ None → test ≡ false
-not_chosen {true} n is = cc
-not_chosen {false} n is = refl
+not_chosen : (n : ℕ) (test : Bool) → cond test (Some n) None ≡ None → test ≡ false
+not_chosen n true is = cc
+not_chosen n false is = refl
 
 -- Nothing is kept of a stream,
 pub none_kept : (id : ℕ) (kept : List (ℕ × Came)) → position (is_of id) kept ≡ None
     → kept_on id kept ≡ []
 none_kept id kept none =
-    let fails = ltb-false _ _ (not_chosen _ none) in
+    let fails = ltb-false _ _ (not_chosen _ _ none) in
     let all = take_all (position_or_len (is_of id) kept) kept (omega (arith, fails)) in
     ap (kept_on id) (sym all) ∙ none_before id kept
 
@@ -50,7 +50,7 @@ pub first_kept : (id : ℕ) (kept : List (ℕ × Came)) (at : ℕ) (one : ℕ ×
     → position (is_of id) kept ≡ Some at → one ≡ slice_index_or kept at one
     → TakesFirstKept id kept (remove kept at) one.1
 first_kept id kept at one found is =
-    let (there, same) = chosen _ at found in
+    let (there, same) = chosen _ at _ found in
     let within = ltb-true _ _ there in
     let first : kept ≡ take at kept ++ slice_index_or kept at one ∷ drop (at + 1) kept =
     subst (λ (n : ℕ). kept ≡ take n kept ++ slice_index_or kept n one ∷ drop (n + 1) kept) same

@@ -57,10 +57,10 @@ requests_none {values} client ids range represents none =
     }
 
 -- The connection is up as before once a stream is opened.
-opens_still : {log : Log} (list : List Field) (end : Bool) (id : ℕ)
+opens_still : (list : List Field) (end : Bool) (id : ℕ) (log : Log)
     → (with_call log (Open list end) (Number id)).failed ≡ log.failed
 unfolding with_call
-opens_still {log} list end id = items_failed log (Open list end) (Number id)
+opens_still list end id log = items_failed log (Open list end) (Number id)
 
 -- What was given of the messages is the beginning of them.
 yields_first : {Z : Type 0} (start : IntoIter Message Z) (given : List Message)
@@ -120,7 +120,7 @@ module _ {values : Values} {messages : List SentMessage} {old : End} (new : End)
               ∙ accepted_here id (at_once message) so.end.accepted)
         ];
         up = ap (λ (one : Log). one.failed) log
-            ∙ opens_still message.head (is_head_alone message) id ∙ so.up;
+            ∙ opens_still message.head (is_head_alone message) id before ∙ so.up;
         unused = ap (λ (one : Log). one.input) log
             ∙ (Keeps-call before act (Number id)).input ∙ so.unused;
         ungiven = ap (λ (one : Log). one.given) log
