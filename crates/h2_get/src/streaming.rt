@@ -101,8 +101,7 @@ fn stream_with_hint<F: Files + Clock, S: Read + WriteParts + OpenStream, W: Writ
     ensures why { IfErr result (λ ending. (ending.why ≡ None) ⊎ ((values : Values) (log : Log)
         → ConnRepresents values fetch.new.client.end.conn log → IsWhy values log ending.why)) }
 {
-    let got = stream_over(files, alloc, options, fetch, link, has_progress, out, err);
-    match got {
+    match stream_over(files, alloc, options, fetch, link, has_progress, out, err) {
         Ok(fetched) => {
             send_held(link);
             Ok(fetched)

@@ -63,6 +63,8 @@ url_alone = record {
   port = None;
   output = None;
   stream = false;
+  timeout = None;
+  verbose = false;
 }
 
 -- rule: engines (own) A URL is asked for with GET

@@ -33,19 +33,23 @@ pub returns-then-is_whole-2-clause-rest : goal.returns-then-is_whole-2-clause-re
 returns-then-is_whole-2-clause-rest g c =
     rw (c.in-Some.is, c.if-is_whole-2.true) (rest_is_none true _ c.args.fetch.now _)
 
-pub returns-in-Ok-pass_body-clause-rest : goal.returns-in-Ok-pass_body-clause-rest
-returns-in-Ok-pass_body-clause-rest g c =
+pub returns-in-Ok-pass_counted-clause-rest : goal.returns-in-Ok-pass_counted-clause-rest
+returns-in-Ok-pass_counted-clause-rest g c =
+    let (written, written_now, passes) = c.in-Ok-pass_counted.ensures.passes in
     rw (c.in-Some.is, c.if-is_whole-2.false)
-    (rest_filed _ _ _ _ _ _ c.in-Ok-pass_body.trailers _ c.in-Ok-pass_body.ensures.passes)
+    (rest_filed _ _ _ _ written written_now c.in-Ok-pass_counted.last.trailers _ passes)
 
-pub returns-in-Err-Link-pass_body-clause-rest : goal.returns-in-Err-Link-pass_body-clause-rest
-returns-in-Err-Link-pass_body-clause-rest g c =
+pub returns-in-Err-Link-pass_counted-clause-rest :
+    goal.returns-in-Err-Link-pass_counted-clause-rest
+returns-in-Err-Link-pass_counted-clause-rest g c =
+    let (written, written_now, passes) =
+    rw c.in-Err-Link-pass_counted.field-0-is at c.in-Err-Link-pass_counted.ensures.passes in
     rw (c.in-Some.is, c.if-is_whole-2.false)
-    (rest_filed_first _ _ _ _ _ _ c.in-Err-Link-pass_body.error _
-    (rw c.in-Err-Link-pass_body.field-0-is at c.in-Err-Link-pass_body.ensures.passes))
+    (rest_filed_first _ _ _ _ written written_now c.in-Err-Link-pass_counted.error _ passes)
 
 pub returns-clause-rest : goal.returns-clause-rest
 returns-clause-rest g c =
+    let (written, written_now, passes) =
+    rw c.in-Err-Output-pass_counted.field-0-is at c.in-Err-Output-pass_counted.ensures.passes in
     rw (c.in-Some.is, c.if-is_whole-2.false)
-    (rest_unfiled _ _ _ _ _ _ _
-    (rw c.in-Err-Output-pass_body.field-0-is at c.in-Err-Output-pass_body.ensures.passes))
+    (rest_unfiled _ _ _ _ written written_now _ passes)
