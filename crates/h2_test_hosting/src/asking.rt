@@ -1,7 +1,7 @@
 //! A request to a handler, and all that it answers.
 
 use h2_handlers::{Cause, Field, FieldList, Handler, Part, Reply};
-use hpack::{Decoder, Encoder};
+use hpack::{Decoder, Encoder, list_size};
 use std::alloc::Global;
 
 /// What a request was answered with.
@@ -19,6 +19,9 @@ pub fn list_of(alloc: Global, rows: &[(&[u8], &[u8])]) -> Option<FieldList> {
     for (name, value) in rows {
         let field = Field::copy_of(alloc, name, value, false).ok()?;
         fields.push(field).ok()?;
+    }
+    if list_size(&fields) >= 1 << 35 {
+        return None;
     }
     let mut block = Vec::new(alloc);
     let mut encoder = Encoder::new(alloc, 0).ok()?;

@@ -150,7 +150,7 @@ fn differs(rt: &HostRuntime, alloc: Global, room: usize) -> Option<usize> {
         if !holds(rt, alloc, row, room) {
             return Some(number);
         }
-        number += 1;
+        number = number.saturating_add(1);
     }
     None
 }

@@ -237,7 +237,14 @@ fn end_fetched<W: Write, E: Write>(
         (W.contents out.new) result }
 {
     if let Err(error) = print_asked(options, fetched, out) {
-        return report(Ending::from(error), err);
+        return report(
+            Ending {
+                error,
+                hint: None,
+                why: None,
+            },
+            err,
+        );
     }
     end_response(options, fetched, err)
 }

@@ -72,7 +72,14 @@ where
             print_rates(options, fetched.body.len(), micros, err);
             status_of_end(printed, err)
         }
-        Err(error) => report(Ending::from(error), err),
+        Err(error) => report(
+            Ending {
+                error,
+                hint: None,
+                why: None,
+            },
+            err,
+        ),
     }
 }
 
@@ -90,6 +97,13 @@ fn status_of_end<E: Write>(ended: Result<(), LinkError>, err: &mut E) -> Status
 {
     match ended {
         Ok(()) => Status::Good,
-        Err(error) => report(Ending::from(error), err),
+        Err(error) => report(
+            Ending {
+                error,
+                hint: None,
+                why: None,
+            },
+            err,
+        ),
     }
 }
