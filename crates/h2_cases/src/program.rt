@@ -138,7 +138,7 @@ fn run<N: Net + Files + Clock + Copy, R: Read>(
 where
     N::Stream: WriteParts,
 {
-    let terminals = Terminals {
+    let terminals = h2_tool::Terminals {
         colored: true,
         has_progress: false,
     };

@@ -1,7 +1,7 @@
 //! The commands over sockets where no connection can be made, or no line printed.
 
 use super::devices::Failing;
-use super::words::words_of;
+use super::words::{NO_TERMINAL, words_of};
 use h2_cli::Status;
 use h2_net::{LinkError, WriteParts, get_location, serve_port, target};
 use h2_tool::run;
@@ -45,7 +45,15 @@ where
 {
     let words = words_of(alloc, line)?;
     let (mut out, mut err) = (Vec::new(alloc), Vec::new(alloc));
-    let ended = run(rt, alloc, &words, false, &mut Failing, &mut out, &mut err);
+    let ended = run(
+        rt,
+        alloc,
+        &words,
+        NO_TERMINAL,
+        &mut Failing,
+        &mut out,
+        &mut err,
+    );
     let is_reported = err.as_slice() == lines.as_bytes();
     Ok(ended == status && is_reported && out.is_empty())
 }
@@ -64,7 +72,7 @@ fn loop_to_a_full_device(rt: HostRuntime) -> Result<(), Fail> {
         &rt,
         rt.alloc(),
         &words,
-        false,
+        NO_TERMINAL,
         &mut Failing,
         &mut out,
         &mut err,

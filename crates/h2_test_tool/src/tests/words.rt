@@ -3,7 +3,7 @@
 use super::devices::Failing;
 use h2_cli::Status;
 use h2_net::WriteParts;
-use h2_tool::{cmd_show, no_words, run};
+use h2_tool::{Terminals, cmd_show, no_words, run};
 use std::alloc::Global;
 use std::fs::Files;
 use std::io::{self, ErrorKind};
@@ -22,6 +22,12 @@ pub(super) fn words_of(alloc: Global, line: &str) -> Result<Vec<String>, Fail> {
     Ok(words)
 }
 
+/// Neither output is a terminal.
+pub(super) const NO_TERMINAL: Terminals = Terminals {
+    colored: false,
+    has_progress: false,
+};
+
 /// How the program ends that can neither read nor write.
 fn end_of<R: Net + Files + Clock + Copy>(rt: &R, alloc: Global, line: &str) -> Result<Status, Fail>
 where
@@ -32,7 +38,7 @@ where
         rt,
         alloc,
         &words,
-        false,
+        NO_TERMINAL,
         &mut Failing,
         &mut Failing,
         &mut Failing,
