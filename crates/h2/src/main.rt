@@ -2,11 +2,22 @@
 #![tactic(auto)]
 
 use h2_tool::Terminals;
+use std::fs::File;
 use std::io::IsTerminal;
 use std::process::ExitCode;
 use std::{env, io};
 
+/// The device without octets.
+const NULL: &str = "/dev/null";
+
 fn main(rt: HostRuntime) -> ExitCode {
+    // A standard stream that was closed at the start gets a file without octets, so that no socket
+    // has its number; what these can't be opened for changes nothing else.
+    let _places = [
+        File::open(&rt, NULL),
+        File::open(&rt, NULL),
+        File::open(&rt, NULL),
+    ];
     let status = match words(&rt) {
         Ok(words) => h2_tool::run(
             &rt,

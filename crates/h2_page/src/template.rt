@@ -121,7 +121,8 @@ main { padding: .4rem 1rem 2rem; }
 .window small { color: var(--faint); font-size: .68rem; display: block; line-height: 1.1; }
 .window.server { text-align: right; }
 .window.server i { margin-left: auto; }
-.window.below i { background: var(--fault); }
+.window i.stream { height: .25rem; margin-top: .1rem; background: var(--hue); }
+.window i.below { background: var(--fault); }
 .hidden { display: none; }
 noscript { display: block; padding: 1rem; }
 </style>
@@ -182,25 +183,66 @@ for (const escaped of document.getElementById('lines').textContent.split('\n')) 
   }
 }
 
-// What each side may still send of DATA on the connection, by the frames so far.
+// What each side may still send of DATA, on the connection and on each stream, by the frames so
+// far. What the other side's SETTINGS give a stream is raised at once, and lowered at the ACK.
 const windows = { client: 65535, server: 65535 }, most = { client: 1, server: 1 };
+const initial = { client: 65535, server: 65535 }, mostOf = { client: 1, server: 1 };
+const streams = { client: new Map(), server: new Map() };
+const unacknowledged = { client: [], server: [] };
+const left = (side, stream) => streams[side].get(stream) ?? initial[side];
+const give = (side, stream, octets) => streams[side].set(stream, left(side, stream) + octets);
+const begin = (side, octets) => {
+  for (const stream of streams[side].keys()) give(side, stream, octets - initial[side]);
+  initial[side] = octets;
+};
+const settings = (side, text) => {
+  if (/ ack$/.test(text)) {
+    const octets = unacknowledged[side].shift() ?? null;
+    if (octets !== null) begin(side, octets);
+    return;
+  }
+  const values = [...text.matchAll(/ (?:4|INITIAL_WINDOW_SIZE)=(\d+)/g)], last = values.at(-1);
+  const octets = last ? Number(last[1]) : null;
+  unacknowledged[other[side]].push(octets);
+  if (octets !== null && octets > initial[other[side]]) begin(other[side], octets);
+};
 for (const row of rows) {
   const words = row.text.split(' ');
   row.kind = words[0];
   row.stream = /^[A-Z_]+[0-9]*$/.test(row.kind) && words.length > 2 ? Number(words[1]) : 0;
-  if (row.kind === 'DATA') windows[row.side] -= Number(words[2]);
-  const add = row.text.match(/^WINDOW_UPDATE 0 4 add=(\d+)/);
-  if (add) windows[other[row.side]] += Number(add[1]);
+  if (row.kind === 'SETTINGS') settings(row.side, row.text);
+  if (row.kind === 'DATA') {
+    windows[row.side] -= Number(words[2]);
+    give(row.side, row.stream, -Number(words[2]));
+  }
+  const add = row.text.match(/^WINDOW_UPDATE \d+ 4 add=(\d+)/);
+  if (add && row.stream === 0) windows[other[row.side]] += Number(add[1]);
+  if (add && row.stream !== 0) give(other[row.side], row.stream, Number(add[1]));
   row.windows = { client: windows.client, server: windows.server };
   for (const side of SIDES) most[side] = Math.max(most[side], windows[side]);
+  if (row.stream === 0 || (row.kind !== 'DATA' && !add)) continue;
+  row.left = { client: left('client', row.stream), server: left('server', row.stream) };
+  for (const side of SIDES) mostOf[side] = Math.max(mostOf[side], row.left[side]);
 }
 
-const bar = (row, side) => {
-  const cell = make('div', 'window ' + side), line = make('i'), size = row.windows[side];
-  cell.classList.toggle('below', size < 0);
-  line.style.width = Math.max(0.5, 100 * Math.max(0, size) / most[side]) + '%';
-  cell.append(line, make('small', '', size.toLocaleString('en')));
-  cell.title = 'the ' + side + ' may send ' + size + ' octets';
+const line = (size, greatest, kind) => {
+  const it = make('i', kind);
+  it.classList.toggle('below', size < 0);
+  it.style.width = Math.max(0.5, 100 * Math.max(0, size) / greatest) + '%';
+  return it;
+};
+const bar = (row, side, moved) => {
+  const cell = make('div', 'window ' + side), size = row.windows[side];
+  if (moved) {
+    cell.append(line(size, most[side], ''), make('small', '', size.toLocaleString('en')));
+    cell.title = 'the ' + side + ' may send ' + size + ' octets';
+  }
+  if (row.left) {
+    const share = row.left[side], name = 'stream ' + row.stream;
+    const text = name + ': ' + share.toLocaleString('en');
+    cell.append(line(share, mostOf[side], 'stream'), make('small', '', text));
+    cell.title += (moved ? ', ' : 'the ' + side + ' may send ') + share + ' on ' + name;
+  }
   return cell;
 };
 
@@ -236,7 +278,7 @@ rows.forEach((row, index) => {
   const moved = SIDES.some(side => row.windows[side] !== before[side]);
   before = row.windows;
   it.append(make('div', 'number', String(index + 1)),
-    moved ? bar(row, 'client') : make('div'), body, moved ? bar(row, 'server') : make('div'));
+    bar(row, 'client', moved), body, bar(row, 'server', moved));
   if (!byStream.has(row.stream)) byStream.set(row.stream, []);
   byStream.get(row.stream).push(it);
   all.append(it);

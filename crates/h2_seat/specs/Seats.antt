@@ -1,6 +1,6 @@
 -- What a step makes of a connection of a host.
-use Rattle.std.specs.Prelude.{◌≡◌, ◌⊎◌, ◌+◌, ◌*◌, ◌-◌, ℕ, Bool, true, false, Option, Some, None}
-use Rattle.std.specs.Prelude.{if◌then◌else◌, max, nat_le, nat_lt, ◌==◌, ◌&&◌, ◌||◌, not, is_some}
+use Rattle.std.specs.Prelude.{◌≡◌, ◌⊎◌, ◌+◌, ◌*◌, ◌-◌, ◌^◌, ℕ, Bool, true, false, Option, Some, None}
+use Rattle.std.specs.Prelude.{if◌then◌else◌, min, max, nat_le, nat_lt, ◌==◌, ◌&&◌, ◌||◌, not, is_some}
 use Rattle.std.specs.Prelude.{length}
 use Rattle.h2_frame.specs.declared.code.Code.TheVariants.{EnhanceYourCalm}
 use Rattle.h2_spec_log.specs.Acts.{Values}
@@ -102,22 +102,51 @@ abbrev pub NotesFlood : Option Flood → (time : ℕ) → (new : Phase) → Type
 NotesFlood (Some flood) time new = new ≡ Ending (whys.Flood flood) time
 NotesFlood None time new = (new ≡ Up) ⊎ (new ≡ Over whys.Ended)
 
+-- Whether the connection has failed, or is over.
+abbrev pub IsFailedOrOver : {H W : Type 0} → Seat H W → Bool → Type 0
+IsFailedOrOver seat answer =
+    (values : Values) (log : Log) → ConnRepresents values seat.handled.server.end.conn log
+    → answer ≡ (is_phase_over seat.phase || is_some log.failed)
+
+-- how many octets of bodies were sent and have come; no more than 2^64 - 1 are counted
+abbrev pub moved_of : {H W : Type 0} → Seat H W → ℕ
+moved_of seat = min (2 ^ 64 - 1) (seat.handled.sent + seat.handled.exchanges.totals.body)
+
 -- where one that ends is once nothing but this may have changed: its time to end is counted anew,
--- where enough octets of bodies were sent since it was counted
--- rule: hosts (own) A connection that ends goes on as long as its answers go
-abbrev pub phase_sent : {H W : Type 0} → Seat H W → Why → (since : ℕ) → Phase
-phase_sent seat why since =
-    if nat_lt (seat.handled.sent - seat.gone) seat.limits.least_closing then Ending why since
+-- where enough octets of bodies were sent or have come since it was counted
+-- rule: hosts (own) A connection that ends goes on as long as bodies move
+abbrev pub phase_moved : {H W : Type 0} → Seat H W → Why → (since : ℕ) → Phase
+phase_moved seat why since =
+    if nat_lt (moved_of seat - seat.moved) seat.limits.least_closing then Ending why since
     else Ending why seat.time
+
+-- how many octets of bodies had moved as its time to end was last counted anew
+-- rule: hosts (own) A connection that ends goes on as long as bodies move
+abbrev pub moved_counted : {H W : Type 0} → Seat H W → ℕ
+moved_counted seat =
+    if nat_lt (moved_of seat - seat.moved) seat.limits.least_closing then seat.moved
+    else moved_of seat
+
+-- Where one that ends, and of which something is left, is after a step: it has not failed and sends
+-- a flood, for which it ends then; or it ends as before.
+-- rule: hosts (own) A connection ends for what is above its budget
+-- rule: hosts (own) A connection that ends goes on as long as bodies move
+abbrev pub NotesEnding : {H W : Type 0} → (failed : Bool) → Option Flood → Seat H W → Why
+    → (since : ℕ) → (new : Phase) → Type 0
+NotesEnding false (Some flood) seat why since new = new ≡ Ending (whys.Flood flood) seat.time
+NotesEnding failed flood seat why since new = new ≡ phase_moved seat why since
 
 -- Where what follows from a step leaves it.
 -- rule: hosts (own) A connection ends for what is above its budget
--- rule: hosts (own) A connection that ends goes on as long as its answers go
+-- rule: hosts (own) A connection that ends goes on as long as bodies move
 abbrev pub NotesPhase : {H W : Type 0} → Phase → (old : Seat H W) → (new : Phase) → Type 0
 NotesPhase Up old new =
     (counts : Counts) × AreCounts old.handled.server.end.conn counts
     × NotesFlood (flood_of old.budget.before counts old.limits.floods) old.time new
-NotesPhase (Ending why since) old new = (new ≡ phase_sent old why since) ⊎ (new ≡ Over why)
+NotesPhase (Ending why since) old new = (new ≡ Over why)
+    ⊎ ((failed : Bool) × (counts : Counts) × IsFailedOrOver old failed
+    × AreCounts old.handled.server.end.conn counts
+    × NotesEnding failed (flood_of old.budget.before counts old.limits.floods) old why since new)
 NotesPhase (Over why) old new = new ≡ Over why
 
 -- A step was made, and then what follows from it.
@@ -141,12 +170,6 @@ pub record SeatSteps {H W : Type 0} (rel : Relations H W) (old : Seat H W) (own 
   pub answers : answer ≡ answer_in new.phase
   pub over : is_phase_over old.phase ≡ true → new.phase ≡ old.phase
   pub acts : is_phase_over old.phase ≡ false → Acts rel old own new
-
--- Whether the connection has failed, or is over.
-abbrev pub IsFailedOrOver : {H W : Type 0} → Seat H W → Bool → Type 0
-IsFailedOrOver seat answer =
-    (values : Values) (log : Log) → ConnRepresents values seat.handled.server.end.conn log
-    → answer ≡ (is_phase_over seat.phase || is_some log.failed)
 
 -- Whether it takes octets: its peer has not ended, none are kept that came before, it is neither
 -- over nor has it failed, and less than 65,536 octets of its output wait.

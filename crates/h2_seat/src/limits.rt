@@ -10,14 +10,14 @@ pub struct SeatLimits {
     /// What it may send in a stretch of time.
     pub floods: FloodLimits,
     /// For the output to go once the connection is to end, in milliseconds: counted anew each time
-    /// that [`SeatLimits::least_closing`] octets of bodies were sent.
+    /// that [`SeatLimits::least_closing`] octets of bodies were sent or have come.
     pub closing: u64,
-    /// How many octets of bodies must be sent in [`SeatLimits::closing`], as long as any are left.
+    /// How many octets of bodies must move in [`SeatLimits::closing`], as long as any are left.
     pub least_closing: u64,
 }
 
 impl Default for SeatLimits {
-    /// The defaults of both, and 5 s to close or for 65,536 octets of answers.
+    /// The defaults of both, and 5 s to close or for 65,536 octets of bodies.
     fn default() -> SeatLimits {
         SeatLimits {
             times: TimeLimits::default(),

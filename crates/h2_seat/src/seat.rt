@@ -45,8 +45,9 @@ pub struct Seat<H, W> {
     pub(crate) budget: Budget,
     pub(crate) time: u64,
     pub(crate) went: u64,
-    /// How many octets of bodies had been sent as its time to end was last counted anew.
-    pub(crate) gone: u64,
+    /// How many octets of bodies had been sent and had come as its time to end was last counted
+    /// anew.
+    pub(crate) moved: u64,
     /// Whether octets came since its last turn.
     pub(crate) took: bool,
     pub(crate) reads: bool,
@@ -89,7 +90,7 @@ impl<W: Drop, H: Handler<Work = W>> Seat<H, W> {
             budget: Budget::new(now),
             time: now,
             went: 0,
-            gone: 0,
+            moved: 0,
             took: false,
             reads: false,
             writes: true,

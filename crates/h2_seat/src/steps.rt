@@ -6,7 +6,7 @@ ghost use Rattle.h2_times.specs.Times.{overdue_of};
 ghost use Rattle.h2_handlers.specs.Exchanges.{relations};
 ghost use Rattle.h2_seat.specs.Seats.{SeatHandles, AreCounts, Acts, IsUpOrStopped, MakesPhase};
 ghost use Rattle.h2_seat.specs.Seats.{NotesPhase, answer_in, is_phase_over, phase_late};
-ghost use Rattle.h2_seat.specs.Seats.{phase_passed, phase_sent};
+ghost use Rattle.h2_seat.specs.Seats.{moved_counted, phase_moved, phase_passed};
 ghost use Rattle.h2_seat.specs.declared.seat.Phase.TheVariants as phases;
 
 use crate::seat::{Phase, Seat};
@@ -25,7 +25,7 @@ const MOST_TOLD: usize = 16;
 impl<W: Drop, H: Handler<Work = W>> Seat<H, W> {
     // contract: hosts (own) A connection ends for what has taken too long
     // contract: hosts (own) A connection ends for what is above its budget
-    // contract: hosts (own) A connection that ends goes on as long as its answers go
+    // contract: hosts (own) A connection that ends goes on as long as bodies move
     // contract: hosts (own) A connection that is refused is over and holds none
     /// Makes a step, and what follows from it; one that is over makes none any more.
     pub(crate) fn act(&mut self, own: Own, octets: &[u8], room: &mut [u8])
@@ -252,10 +252,11 @@ impl<W: Drop, H: Handler<Work = W>> Seat<H, W> {
         let conn = self.handled.conn();
         let frames = conn.place().saturating_sub(conn.held() as u64);
         let opened = frames >= OPENING;
+        let in_block = conn.block_stream().is_some();
         Progress {
             opened,
-            in_frame: opened && (conn.held() > 0 || conn.block_stream().is_some()),
-            frames,
+            in_frame: opened && (conn.held() > 0 || in_block),
+            frames: if in_block { 0 } else { frames },
             reading: self.handled.is_reading(),
             body: self.handled.body(),
             waits: conn.waiting() > 0,
@@ -277,11 +278,7 @@ impl<W: Drop, H: Handler<Work = W>> Seat<H, W> {
         ensures phase { NotesPhase self.old.phase self.old self.new.phase }
     {
         if let Phase::Ending { why, since } = self.phase {
-            if self.handled.is_drained() {
-                self.end(why);
-            } else {
-                self.end_later(why, since);
-            }
+            self.note_ending(why, since);
             return;
         }
         if self.is_over() {
@@ -299,18 +296,43 @@ impl<W: Drop, H: Handler<Work = W>> Seat<H, W> {
         }
     }
 
-    // rule: hosts (own) A connection that ends goes on as long as its answers go
-    /// Counts its time to end anew, where enough octets of bodies were sent since it was counted.
+    // rule: hosts (own) A connection ends for what is above its budget
+    // rule: hosts (own) A connection that ends goes on as long as bodies move
+    /// What follows from a step at one that ends: whether all went, or a budget is passed.
+    fn note_ending(&mut self, why: Why, since: u64)
+        ensures handles { SeatHandles (relations H.heads H.bodies H.trails H.gives H.ends) self.old
+            self.new }
+        ensures phase { self.old.phase ≡ phases.Ending why since
+            → NotesPhase self.old.phase self.old self.new.phase }
+    {
+        if self.handled.is_drained() {
+            self.end(why);
+            return;
+        }
+        let counts = self.counts();
+        let flood = self.budget.above(counts, &self.limits.floods);
+        if let Some(flood) = flood
+            && !self.is_failed()
+        {
+            self.fail(Code::EnhanceYourCalm, Why::Flood(flood));
+            return;
+        }
+        self.end_later(why, since);
+    }
+
+    // rule: hosts (own) A connection that ends goes on as long as bodies move
+    /// Counts its time to end anew, where enough octets of bodies have moved since it was counted.
     fn end_later(&mut self, why: Why, since: u64)
         ensures same { self.new.handled ≡ self.old.handled }
         ensures phase { self.old.phase ≡ phases.Ending why since
-            → self.new.phase ≡ phase_sent self.old why since }
+            → self.new.phase ≡ phase_moved self.old why since }
+        ensures moved { self.new.moved ≡ moved_counted self.old }
     {
-        let sent = self.handled.sent();
-        if sent.saturating_sub(self.gone) < self.limits.least_closing {
+        let moved = self.handled.sent().saturating_add(self.handled.body());
+        if moved.saturating_sub(self.moved) < self.limits.least_closing {
             return;
         }
-        self.gone = sent;
+        self.moved = moved;
         self.phase = Phase::Ending {
             why,
             since: self.time,

@@ -5,7 +5,8 @@
 pub struct TimeLimits {
     /// For the preface and the first frame. Ten times a bad round trip.
     pub opening: u64,
-    /// For a frame that has begun. 16,393 octets in 30 s are 546 octets a second.
+    /// For a frame that has begun, or a head of several frames. 16,393 octets in 30 s are 546
+    /// octets a second.
     pub frame: u64,
     /// For the next [`TimeLimits::least_body`] octets of bodies, while a request isn't complete.
     pub body: u64,

@@ -29,7 +29,8 @@ pub struct Progress {
     pub opened: bool,
     /// Whether a frame has begun.
     pub in_frame: bool,
-    /// How many octets of complete frames have come.
+    /// How many octets of complete frames have come; 0 in a field block, so that a head which is
+    /// never ended is late however often a frame of it comes.
     pub frames: u64,
     /// Whether some request isn't complete.
     pub reading: bool,
