@@ -19,7 +19,8 @@ pub struct Ending {
 }
 
 impl From<LinkError> for Ending {
-    ghost from_gives = { λ error ending. ending ≡ record { error = error; hint = None; why = None } };
+    ghost from_gives = { λ error ending. ending
+        ≡ record { error = error; hint = None; why = None } };
 
     /// An end without a hint.
     fn from(error: LinkError) -> Ending {
@@ -51,7 +52,8 @@ pub fn status_of(error: LinkError) -> Status
 // rule: engines (own) N1 to N7 end a command with their statuses
 // rule (tested): engines (own) A hint says why a connection over a socket has failed
 /// Prints on standard error how a connection has ended, then the hint, and then why it has failed,
-/// where that is known of [`LinkError::Stream`] (N2) and the peer speaks HTTP/2. Answers the status.
+/// where that is known of [`LinkError::Stream`] (N2) and the peer speaks HTTP/2. Answers the
+/// status.
 pub fn report<E: Write>(ending: Ending, err: &mut E) -> Status
     ensures { result ≡ status_with ending.error }
 {

@@ -20,9 +20,9 @@ use std::io::{Read, Write};
 use std::net::{Ipv4Addr, Net, OpenListener, OpenStream, SocketAddr, TcpListener};
 
 // rule: engines (own) h2 serve serves so many connections, one after another
-/// Serves so many connections to a port of 127.0.0.1, one after another, as [`h2_engines::serve_link`] does
-/// with the default [`Config`], and answers the status of the first that ended early, or
-/// [`Status::Good`].
+/// Serves so many connections to a port of 127.0.0.1, one after another, as
+/// [`h2_engines::serve_link`] does with the default [`Config`], and answers the status of the first
+/// that ended early, or [`Status::Good`].
 ///
 /// A connection that ends early has a line on standard error, with a hint where the cause is known,
 /// and the next one is served. Where the port can't be had no connection is served: that is

@@ -1,7 +1,7 @@
 -- What a step makes of a connection of a host.
-use Rattle.std.specs.Prelude.{◌≡◌, ◌⊎◌, ◌+◌, ◌*◌, ◌-◌, ◌^◌, ℕ, Bool, true, false, Option, Some, None}
-use Rattle.std.specs.Prelude.{if◌then◌else◌, min, max, nat_le, nat_lt, ◌==◌, ◌&&◌, ◌||◌, not, is_some}
-use Rattle.std.specs.Prelude.{length}
+use Rattle.std.specs.Prelude.{◌≡◌, ◌⊎◌, ◌+◌, ◌*◌, ◌-◌, ◌^◌, ℕ, Bool, true, false, Option, Some}
+use Rattle.std.specs.Prelude.{None, if◌then◌else◌, min, max, nat_le, nat_lt, ◌==◌, ◌&&◌, ◌||◌, not}
+use Rattle.std.specs.Prelude.{is_some, length}
 use Rattle.h2_frame.specs.declared.code.Code.TheVariants.{EnhanceYourCalm}
 use Rattle.h2_spec_log.specs.Acts.{Values}
 use Rattle.h2_spec_log.specs.Counted.{counted, empty_among, resets_among}

@@ -6,7 +6,8 @@ use h2_test_devices::{Faulty, Full, Pieces};
 use std::alloc::Global;
 use std::io::{ErrorKind, Read, Write};
 
-/// Octets of a client in hexadecimal, the lines that are shown of them in a style, and how they end.
+/// Octets of a client in hexadecimal, the lines that are shown of them in a style, and how they
+/// end.
 struct Stream {
     text: &'static str,
     style: Style,
