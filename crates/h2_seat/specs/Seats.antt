@@ -127,14 +127,17 @@ moved_counted seat =
     if nat_lt (moved_of seat - seat.moved) seat.limits.least_closing then seat.moved
     else moved_of seat
 
--- Where one that ends, and of which something is left, is after a step: it has not failed and sends
--- a flood, for which it ends then; or it ends as before.
+-- Where one that ends, and of which something is left, is after a step: it sends a flood, and ends
+-- for that then, where it has not failed; or else it ends as before.
 -- rule: hosts (own) A connection ends for what is above its budget
 -- rule: hosts (own) A connection that ends goes on as long as bodies move
-abbrev pub NotesEnding : {H W : Type 0} → (failed : Bool) → Option Flood → Seat H W → Why
-    → (since : ℕ) → (new : Phase) → Type 0
-NotesEnding false (Some flood) seat why since new = new ≡ Ending (whys.Flood flood) seat.time
-NotesEnding failed flood seat why since new = new ≡ phase_moved seat why since
+abbrev pub NotesEnding : {H W : Type 0} → Option Flood → Seat H W → Why → (since : ℕ)
+    → (new : Phase) → Type 0
+NotesEnding None seat why since new = new ≡ phase_moved seat why since
+NotesEnding (Some flood) seat why since new =
+    (failed : Bool) × IsFailedOrOver seat failed
+    × (new ≡ (if failed then phase_moved seat why since
+    else Ending (whys.Flood flood) seat.time))
 
 -- Where what follows from a step leaves it.
 -- rule: hosts (own) A connection ends for what is above its budget
@@ -144,9 +147,8 @@ NotesPhase Up old new =
     (counts : Counts) × AreCounts old.handled.server.end.conn counts
     × NotesFlood (flood_of old.budget.before counts old.limits.floods) old.time new
 NotesPhase (Ending why since) old new = (new ≡ Over why)
-    ⊎ ((failed : Bool) × (counts : Counts) × IsFailedOrOver old failed
-    × AreCounts old.handled.server.end.conn counts
-    × NotesEnding failed (flood_of old.budget.before counts old.limits.floods) old why since new)
+    ⊎ ((counts : Counts) × AreCounts old.handled.server.end.conn counts
+    × NotesEnding (flood_of old.budget.before counts old.limits.floods) old why since new)
 NotesPhase (Over why) old new = new ≡ Over why
 
 -- A step was made, and then what follows from it.

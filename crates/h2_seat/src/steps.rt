@@ -1,11 +1,12 @@
 //! The steps of one connection.
 
-ghost use Rattle.std.specs.Prelude.{◌≡◌, ◌+◌, ◌*◌, length, max, true, false};
+ghost use Rattle.std.specs.Prelude.{◌≡◌, ◌+◌, ◌*◌, Some, length, max, true, false};
 ghost use Rattle.h2_host.specs.Parties.{IsRefusal};
 ghost use Rattle.h2_times.specs.Times.{overdue_of};
 ghost use Rattle.h2_handlers.specs.Exchanges.{relations};
 ghost use Rattle.h2_seat.specs.Seats.{SeatHandles, AreCounts, Acts, IsUpOrStopped, MakesPhase};
-ghost use Rattle.h2_seat.specs.Seats.{NotesPhase, answer_in, is_phase_over, phase_late};
+ghost use Rattle.h2_seat.specs.Seats.{NotesEnding, NotesPhase, answer_in, is_phase_over};
+ghost use Rattle.h2_seat.specs.Seats.{phase_late};
 ghost use Rattle.h2_seat.specs.Seats.{moved_counted, phase_moved, phase_passed};
 ghost use Rattle.h2_seat.specs.declared.seat.Phase.TheVariants as phases;
 
@@ -13,7 +14,7 @@ use crate::seat::{Phase, Seat};
 use crate::why::Why;
 use h2_handlers::{Code, Handler};
 use h2_host::{Answer, Bound, Own};
-use h2_times::{Counts, Late, Progress};
+use h2_times::{Counts, Flood, Late, Progress};
 
 /// The octets of the preface and of the head of a frame (RFC 9113, sections 3.4 and 4.1).
 const OPENING: u64 = 33;
@@ -310,14 +311,26 @@ impl<W: Drop, H: Handler<Work = W>> Seat<H, W> {
             return;
         }
         let counts = self.counts();
-        let flood = self.budget.above(counts, &self.limits.floods);
-        if let Some(flood) = flood
-            && !self.is_failed()
-        {
-            self.fail(Code::EnhanceYourCalm, Why::Flood(flood));
+        match self.budget.above(counts, &self.limits.floods) {
+            Some(flood) => self.end_flooding(flood, why, since),
+            None => self.end_later(why, since),
+        }
+    }
+
+    // rule: hosts (own) A connection ends for what is above its budget
+    /// Ends one that ends already for what is a flood, unless it has failed: then nothing more
+    /// comes.
+    fn end_flooding(&mut self, flood: Flood, why: Why, since: u64)
+        ensures handles { SeatHandles (relations H.heads H.bodies H.trails H.gives H.ends) self.old
+            self.new }
+        ensures phase { self.old.phase ≡ phases.Ending why since
+            → NotesEnding (Some flood) self.old why since self.new.phase }
+    {
+        if self.is_failed() {
+            self.end_later(why, since);
             return;
         }
-        self.end_later(why, since);
+        self.fail(Code::EnhanceYourCalm, Why::Flood(flood));
     }
 
     // rule: hosts (own) A connection that ends goes on as long as bodies move
