@@ -1,4 +1,5 @@
 pub mod Answering
+pub mod FoundFiles
 pub mod Heads
 pub mod Lines
 pub mod LogLines

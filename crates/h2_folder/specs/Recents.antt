@@ -8,5 +8,5 @@ use Rattle.h2_folder.specs.declared.recent.RecentFile.{RecentFile}
 pub record IsKept (places : List (Option RecentFile)) (path : List ℕ) (second : ℕ)
     (file : RecentFile) : Type 0 where
   pub there : Contains places (Some file)
-  pub path : string_bytes file.path ≡ path
-  pub second : file.second ≡ second
+  pub same_path : string_bytes file.path ≡ path
+  pub same_second : file.second ≡ second

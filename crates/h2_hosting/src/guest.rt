@@ -48,11 +48,7 @@ impl<'a, P: Drop> Guest<'a, P> {
     /// # Errors
     ///
     /// [`AllocError`] where an allocation was refused.
-    pub fn new(
-        alloc: Global,
-        party: P,
-        leaving: &'a Cell<bool>,
-    ) -> Result<Guest<'a, P>, AllocError>
+    pub fn new(alloc: Global, party: P, leaving: &'a Cell<bool>) -> Result<Guest<'a, P>, AllocError>
         ensures party { IfOk result (λ guest. guest.party.value ≡ party) }
         ensures asked { IfOk result (λ guest. guest.asked ≡ false) }
     {
