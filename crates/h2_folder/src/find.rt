@@ -1,9 +1,9 @@
 //! Which file the names of a path mean, and that it lies in the folder.
 
-ghost use Rattle.std.specs.Prelude.{◌≡◌, ◌≤◌, IfOk};
+ghost use Rattle.std.specs.Prelude.{◌≡◌, ◌≤◌, IfOk, IfSome, string_bytes};
 ghost use Rattle.h2_folder.specs.Answering.{most_at_once};
-ghost use Rattle.h2_folder.specs.FoundFiles.{IsSmallIfRead, ReadsOctets, found_length};
-ghost use Rattle.h2_folder.specs.FoundFiles.{found_modified};
+ghost use Rattle.h2_folder.specs.FoundFiles.{IsCopyOf, IsSmallIfRead, ReadsOctets};
+ghost use Rattle.h2_folder.specs.FoundFiles.{found_length, found_modified};
 ghost use Rattle.h2_folder.specs.Refusals.{missing_at, status_of_missing};
 
 use crate::recent::{MOST_AT_ONCE, Recent, RecentFile};
@@ -124,7 +124,9 @@ pub(crate) fn find<R: Files>(
     }
     let opened = open(files, alloc, root, names, path.as_str())?;
     let found = read_small(alloc, opened)?;
-    keep_copy(recent, alloc, path, now, &found);
+    if let Some(copy) = copy_of(alloc, path, now, &found) {
+        recent.keep(alloc, copy);
+    }
     Ok(found)
 }
 
@@ -133,21 +135,20 @@ fn recent_at<'a>(recent: Option<&'a Recent>, now: u64) -> Option<&'a Recent> {
     if now == 0 { None } else { recent }
 }
 
-/// Keeps a copy of a file that was read in a second; nothing where memory is missing.
-fn keep_copy<F>(recent: &Recent, alloc: Global, path: String, second: u64, found: &Found<F>) {
-    if let Found::Small { octets, modified } = found
-        && let Ok(octets) = Vec::from_slice(alloc, octets)
-    {
-        recent.keep(
-            alloc,
-            RecentFile {
-                path,
-                second,
-                modified: *modified,
-                octets,
-            },
-        );
-    }
+// contract: files (own) What a small file had in a second is answered in that second alone
+/// A copy of a small file with a path, which was read in a second; none where memory is missing.
+fn copy_of<F>(alloc: Global, path: String, second: u64, found: &Found<F>) -> Option<RecentFile>
+    ensures { IfSome result (λ file. IsCopyOf found.now (string_bytes path) second file) }
+{
+    let Found::Small { octets, modified } = found else {
+        return None;
+    };
+    Some(RecentFile {
+        path,
+        second,
+        modified: *modified,
+        octets: Vec::from_slice(alloc, octets).ok()?,
+    })
 }
 
 /// A file that was opened.

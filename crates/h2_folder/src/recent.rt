@@ -2,6 +2,7 @@
 
 ghost use Rattle.std.specs.Prelude.{◌≡◌, ◌≤◌, ◌⊎◌, Contains, IfOk, IfSome, Some, length};
 ghost use Rattle.h2_folder.specs.Answering.{most_at_once};
+ghost use Rattle.h2_folder.specs.FoundFiles.{GivesKept};
 ghost use Rattle.h2_folder.specs.Recents.{IsKept};
 
 use std::alloc::{AllocError, Global};
@@ -64,6 +65,18 @@ impl RecentFiles {
             Some(Some(file)) if file.second == second && file.path.as_str() == path => Some(file),
             _ => None,
         }
+    }
+
+    /// A copy of the octets of the file with a path that was read in a second, and when it was
+    /// modified; none where it isn't kept, or memory is missing.
+    fn copy_at(&self, alloc: Global, path: &str, second: u64) -> Option<(Vec<u8>, u64)>
+        ensures kept { IfSome result (λ found. GivesKept self.now.places.items path.now second
+            found.0.items found.1) }
+        ensures few { IfSome result (λ found. length found.0.items ≤ most_at_once) }
+    {
+        let file = self.at(path, second)?;
+        let octets = file.copy(alloc)?;
+        Some((octets, file.modified))
     }
 
     // contract: files (own) What a small file had in a second is answered in that second alone
@@ -131,11 +144,7 @@ impl Recent {
         ensures { IfSome result (λ found. length found.0.items ≤ most_at_once) }
     {
         match self.files.try_borrow() {
-            Ok(files) => {
-                let file = files.at(path, second)?;
-                let octets = file.copy(alloc)?;
-                Some((octets, file.modified))
-            }
+            Ok(files) => files.copy_at(alloc, path, second),
             Err(_) => None,
         }
     }
