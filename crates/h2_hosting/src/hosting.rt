@@ -79,6 +79,25 @@ struct Sites<'a, 'j, R> {
     recent: &'a Recent,
 }
 
+impl<'a, 'j, R> Sites<'a, 'j, R> {
+    /// Makes handlers for the folder with a path.
+    fn new(
+        rt: &'a R,
+        journal: Option<&'j Journal>,
+        alloc: Global,
+        root: &'a str,
+        recent: &'a Recent,
+    ) -> Sites<'a, 'j, R> {
+        Sites {
+            rt,
+            journal,
+            alloc,
+            root,
+            recent,
+        }
+    }
+}
+
 impl<'a, 'j, R> Makes<Logged<'a, R, &'j Journal, Site<'a, R>>> for Sites<'a, 'j, R> {
     fn make(&self, peer: SocketAddr) -> Logged<'a, R, &'j Journal, Site<'a, R>> {
         let folder = Folder {
@@ -124,13 +143,7 @@ pub fn host_port<'x, R: Net + Files + Clock, W: Write, E: Write>(
     }
     let served = match options.root {
         Some(root) => {
-            let sites = Sites {
-                rt,
-                journal: kept,
-                alloc,
-                root,
-                recent: &recent,
-            };
+            let sites = Sites::new(rt, kept, alloc, root, &recent);
             serve(rt, alloc, options, sites, &journal, out)
         }
         None => {
