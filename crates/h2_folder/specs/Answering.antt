@@ -1,6 +1,7 @@
 -- How a folder answers the head of a request.
 use Rattle.std.specs.Prelude.{◌≡◌, ◌≢◌, ◌≤◌, ◌⊎◌, ◌+◌, ◌-◌, ℕ, Bool, true, false, List, []}
-use Rattle.std.specs.Prelude.{length, take, drop, codes, nat_lt, Option, Some, None, unwrap_or, Result, Ok, Err, get_or}
+use Rattle.std.specs.Prelude.{length, take, drop, codes, nat_lt, Option, Some, None, unwrap_or}
+use Rattle.std.specs.Prelude.{Result, Ok, Err, get_or}
 use Rattle.hpack.specs.FieldLists.{value_of}
 use Rattle.hpack.specs.declared.types.field.Field.{Field}
 use Rattle.h2_message.specs.Messages.{SentMessage}

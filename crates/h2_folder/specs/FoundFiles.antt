@@ -5,7 +5,7 @@ use Rattle.hpack.specs.declared.types.field.Field.{Field}
 use Rattle.h2_message.specs.Values.{message_value}
 use Rattle.h2_folder.specs.Answering.{most_at_once}
 use Rattle.h2_folder.specs.Heads.{short_message}
-use Rattle.h2_folder.specs.Recents.{IsKept}
+use Rattle.h2_folder.specs.Recents.{IsKeptFile}
 use Rattle.h2_folder.specs.declared.answer.Answered.{Answered}
 use Rattle.h2_folder.specs.declared.answer.Answered.TheVariants.{Whole, Parts}
 use Rattle.h2_folder.specs.declared.find.Found.{Found}
@@ -47,7 +47,7 @@ IsCopyOf found path second file = ⊥
 abbrev pub GivesKept : (places : List (Option RecentFile)) → (path : List ℕ) → (second : ℕ)
     → (octets : List ℕ) → (modified : ℕ) → Type 0
 GivesKept places path second octets modified =
-    (file : RecentFile) × IsKept places path second file × (octets ≡ file.octets.items)
+    (file : RecentFile) × IsKeptFile places path second file × (octets ≡ file.octets.items)
     × (modified ≡ file.modified)
 
 -- The answer has this head, and so many octets of a file in parts, from the one with this number

@@ -3,7 +3,7 @@
 ghost use Rattle.std.specs.Prelude.{◌≡◌, ◌≤◌, ◌⊎◌, Contains, IfOk, IfSome, Some, length};
 ghost use Rattle.h2_folder.specs.Answering.{most_at_once};
 ghost use Rattle.h2_folder.specs.FoundFiles.{GivesKept};
-ghost use Rattle.h2_folder.specs.Recents.{IsKept};
+ghost use Rattle.h2_folder.specs.Recents.{IsKeptFile};
 
 use std::alloc::{AllocError, Global};
 use std::cell::RefCell;
@@ -59,7 +59,7 @@ impl RecentFiles {
     /// The file with a path that was read in a second, if it is kept.
     fn at(&self, path: &str, second: u64) -> Option<&RecentFile>
         ensures { IfSome result (λ file.
-            IsKept self.entry.now.places.items path.now second file.now) }
+            IsKeptFile self.entry.now.places.items path.now second file.now) }
     {
         match self.places.get(place_of(path)) {
             Some(Some(file)) if file.second == second && file.path.as_str() == path => Some(file),
