@@ -1,3 +1,4 @@
 mod AnswerLemmas
 mod LineLemmas
 mod LogLemmas
+mod RecentLemmas

@@ -1,9 +1,11 @@
 -- How a folder answers the head of a request.
-use Rattle.std.specs.Prelude.{◌≡◌, ◌≢◌, ◌⊎◌, ◌+◌, ◌-◌, ℕ, Bool, true, false, List, [], length}
-use Rattle.std.specs.Prelude.{codes, nat_lt, Option, Some, None, unwrap_or, Result, Ok, Err, get_or}
+use Rattle.std.specs.Prelude.{◌≡◌, ◌≢◌, ◌≤◌, ◌⊎◌, ◌+◌, ◌-◌, ℕ, Bool, true, false, List, []}
+use Rattle.std.specs.Prelude.{length, take, drop, codes, nat_lt, Option, Some, None, unwrap_or}
+use Rattle.std.specs.Prelude.{Result, Ok, Err, get_or}
 use Rattle.hpack.specs.FieldLists.{value_of}
 use Rattle.hpack.specs.declared.types.field.Field.{Field}
 use Rattle.h2_message.specs.Messages.{SentMessage}
+use Rattle.h2_message.specs.declared.message.Message.{Message}
 use Rattle.h2_message.specs.Values.{message_value}
 use Rattle.h2_files.specs.Conditions.{Asked, file_answer}
 use Rattle.h2_files.specs.Dates.{IsLastModified}
@@ -60,18 +62,36 @@ head_alone head = record { head = head; body = []; trailers = None }
 abbrev pub HasNoOctets : Method → (octets : ℕ) → Type 0
 HasNoOctets method octets = (method ≡ Head) ⊎ (octets ≡ 0)
 
--- The answer has this head, and so many octets of the file after it, from the one with this number
--- on, which is counted from 0: in parts where an answer to GET has some, and else none. Or the file
--- can't be read from there, where that is not its first octet: 500.
+-- the most octets of a file that is read, and answered, at once
+abbrev pub most_at_once : ℕ
+most_at_once = 16384
+
+-- a message with this head, and this body
+abbrev pub with_body : List Field → List ℕ → SentMessage
+with_body head octets = record { head = head; body = octets; trailers = None }
+
+-- The answer to GET is whole: the head, and so many octets, from the one with this number on, of a
+-- small file with so many in all.
+abbrev pub SendsAtOnce : Method → (head : List Field) → (size first octets : ℕ) → Message → Type 0
+SendsAtOnce method head size first octets message =
+    (method ≡ Get) × (octets ≢ 0) × (size ≤ most_at_once)
+    × ((content : List ℕ) × (length content ≡ size)
+    × (message_value message ≡ with_body head (take octets (drop first content))))
+
+-- The answer has this head, and so many octets of the file after it, which has so many in all, from
+-- the one with this number on, which is counted from 0: at once or in parts where an answer to GET
+-- has some, and else none. Or the file can't be read from there, where that is not its first octet:
+-- 500.
 -- rule: files (own) A file's octets are sent from the one that the answer's head states
-abbrev pub SendsFile : {F : Type 0} → Method → (head : List Field) → (first octets : ℕ)
+abbrev pub SendsFile : {F : Type 0} → Method → (head : List Field) → (size first octets : ℕ)
     → (date : Option (List ℕ)) → Answered F → Type 0
-SendsFile method head first octets date (Parts fields sending) =
+SendsFile method head size first octets date (Parts fields sending) =
     (method ≡ Get) × (fields.items ≡ head) × (sending.first ≡ first) × (sending.left ≡ octets)
     × (octets ≢ 0)
-SendsFile method head first octets date (Whole message) =
+SendsFile method head size first octets date (Whole message) =
     (HasNoOctets method octets × (message_value message ≡ head_alone head))
     ⊎ ((first ≢ 0) × (message_value message ≡ short_message 500 date true))
+    ⊎ SendsAtOnce method head size first octets message
 
 -- How a request is answered whose file is there, of this version, with these dates.
 -- rule: HTTP 9.3.2 (own) A folder answers HEAD as GET, without the octets
@@ -82,8 +102,8 @@ AnswersFile answers.PreconditionFailed method version kind date modified answere
 AnswersFile answers.Unsatisfiable method version kind date modified answered =
     IsMessage answered (unsatisfied_message version.length date)
 AnswersFile answer method version kind date modified answered =
-    SendsFile method (file_head answer version kind date modified) (first_octet_of answer)
-    (octets_of_file answer version.length) date answered
+    SendsFile method (file_head answer version kind date modified) version.length
+    (first_octet_of answer) (octets_of_file answer version.length) date answered
 
 -- the type of the file with the last of these names
 abbrev pub kind_of_names : List (List ℕ) → List ℕ

@@ -1,6 +1,6 @@
 //! How a folder answers a request.
 
-ghost use Rattle.std.specs.Prelude.{◌≡◌, ◌≢◌, IfOk, false, option_copied, true};
+ghost use Rattle.std.specs.Prelude.{◌≡◌, ◌≢◌, IfOk, drop, false, option_copied, take, true};
 ghost use Rattle.hpack.specs.FieldLists.{value_of};
 ghost use Rattle.h2_files.specs.Conditions.{file_answer};
 ghost use Rattle.h2_files.specs.Dates.{IsLastModified};
@@ -9,6 +9,8 @@ ghost use Rattle.h2_files.specs.Tags.{validators, validators_of};
 ghost use Rattle.h2_folder.specs.Answering.{AnswersFile, AnswersRequest, AnswersSomeFile};
 ghost use Rattle.h2_folder.specs.Answering.{HasNoOctets, SendsFile, first_octet_of, has_content};
 ghost use Rattle.h2_folder.specs.Answering.{is_weak_at, kind_of_names, octets_of_file, value_in};
+ghost use Rattle.h2_folder.specs.FoundFiles.{IsSmallIfRead, SendsParts, found_length};
+ghost use Rattle.h2_folder.specs.FoundFiles.{found_modified};
 ghost use Rattle.h2_folder.specs.Heads.{file_head};
 ghost use Rattle.h2_folder.specs.Lines.{asked_in};
 ghost use Rattle.h2_folder.specs.Times.{IsDateOf, stated_second};
@@ -18,6 +20,7 @@ use crate::lines::Lines;
 use crate::messages::{
     About, file_head, method_message, octets_of_part, short_message, unsatisfied_message,
 };
+use crate::recent::Recent;
 use crate::sending::Sending;
 use h2_files::{Answer, Method, Version, file_names, media_type};
 use h2_message::{Field, FieldList, Message};
@@ -34,6 +37,8 @@ pub struct Folder<'a, R> {
     pub rt: &'a R,
     /// The path of the folder.
     pub root: &'a str,
+    /// Small files that were read in this second; none: the file system is asked for each request.
+    pub recent: Option<&'a Recent>,
 }
 
 /// How a request is answered.
@@ -70,7 +75,7 @@ impl<'a, R: Files + Clock> Folder<'a, R> {
                 return Ok(Answered::Whole(message));
             }
         };
-        match find(self.rt, alloc, self.root, &names) {
+        match find(self.rt, alloc, self.root, &names, self.recent, now) {
             Ok(found) => answer_at(alloc, method, list, &names, found, now, date),
             Err(missing) => {
                 let message = short_message(alloc, missing.status(), date, has_body)?;
@@ -90,14 +95,15 @@ fn answer_at<F: Read + Seek + Drop>(
     now: u64,
     date: Option<[u8; 29]>,
 ) -> Result<Answered<F>, AllocError>
-    requires { IsDateOf now date }
+    requires date { IsDateOf now date }
+    requires small { IsSmallIfRead found }
     ensures { IfOk result (AnswersSomeFile method (texts names.now) (asked_in list.now)) }
 {
     let version = version_of(alloc, &found, now)?;
     let about = About {
         kind: kind_of(names),
         date,
-        modified: modified_of(found.modified, now),
+        modified: modified_of(found.modified(), now),
     };
     answer_found(alloc, method, list, found, &version, about)
 }
@@ -111,6 +117,8 @@ fn answer_found<F: Read + Seek + Drop>(
     version: &Version,
     about: About<'_>,
 ) -> Result<Answered<F>, AllocError>
+    requires small { IsSmallIfRead found }
+    requires length { found_length found ≡ version.now.length }
     ensures { IfOk result (AnswersFile
         (file_answer (validators_of version.now) method (asked_in list.now)) method
         (validators_of version.now) about.entry.kind.now about.entry.date about.entry.modified) }
@@ -127,7 +135,7 @@ fn answer_found<F: Read + Seek + Drop>(
             let message = unsatisfied_message(alloc, version.length, about.date)?;
             Ok(Answered::Whole(message))
         }
-        _ => send_found(alloc, method, answer, found.file, version, about),
+        _ => send_found(alloc, method, answer, found, version, about),
     }
 }
 
@@ -138,13 +146,15 @@ fn send_found<F: Read + Seek + Drop>(
     alloc: Global,
     method: Method,
     answer: Answer,
-    file: F,
+    found: Found<F>,
     version: &Version,
     about: About<'_>,
 ) -> Result<Answered<F>, AllocError>
+    requires small { IsSmallIfRead found }
+    requires length { found_length found ≡ version.now.length }
     ensures { IfOk result (SendsFile method (file_head answer (validators_of version.now)
-        about.entry.kind.now about.entry.date about.entry.modified) (first_octet_of answer)
-        (octets_of_file answer version.now.length) about.entry.date) }
+        about.entry.kind.now about.entry.date about.entry.modified) version.now.length
+        (first_octet_of answer) (octets_of_file answer version.now.length) about.entry.date) }
 {
     let head = file_head(alloc, answer, version, about)?;
     let count = octets_of_file(answer, version.length);
@@ -155,10 +165,52 @@ fn send_found<F: Read + Seek + Drop>(
             trailers: None,
         }));
     }
-    match Sending::new(file, first_octet_of(answer), count) {
+    let first = first_octet_of(answer);
+    match found {
+        Found::Small { octets, .. } => Ok(Answered::Whole(Message {
+            head,
+            body: part_of(alloc, octets, first, count)?,
+            trailers: None,
+        })),
+        Found::Open { file, .. } => send_parts(alloc, file, head, first, count, about.date),
+    }
+}
+
+// contract: files (own) A file's octets are sent from the one that the answer's head states
+// rule: files (own) A file's octets are sent from the one that the answer's head states
+/// So many octets of all of a file's, from the one with this number on, which is counted from 0;
+/// as many as there are.
+fn part_of(alloc: Global, octets: Vec<u8>, first: u64, count: u64) -> Result<Vec<u8>, AllocError>
+    ensures { IfOk result (λ part. part.items ≡ take count (drop first octets.items)) }
+{
+    let (first, count) = (first as usize, count as usize);
+    if first == 0 {
+        let mut octets = octets;
+        octets.truncate(count);
+        return Ok(octets);
+    }
+    match octets.get(first..) {
+        Some(rest) => Vec::from_slice(alloc, &rest[..count.min(rest.len())]),
+        None => Ok(Vec::new(alloc)),
+    }
+}
+
+/// An answer with a head, and so many octets of a file that was opened, from the one with this
+/// number on; or 500 where the file can't be read from there.
+fn send_parts<F: Read + Seek + Drop>(
+    alloc: Global,
+    file: F,
+    head: Vec<Field>,
+    first: u64,
+    count: u64,
+    date: Option<[u8; 29]>,
+) -> Result<Answered<F>, AllocError>
+    ensures { IfOk result (SendsParts head.items first count date) }
+{
+    match Sending::new(file, first, count) {
         Some(sending) => Ok(Answered::Parts(head, sending)),
         None => {
-            let message = short_message(alloc, 500, about.date, true)?;
+            let message = short_message(alloc, 500, date, true)?;
             Ok(Answered::Whole(message))
         }
     }
@@ -229,10 +281,11 @@ pub fn value_in<'a>(list: &'a FieldList, name: &[u8]) -> &'a [u8]
 /// The version of a file that was found at a time.
 fn version_of<F>(alloc: Global, found: &Found<F>, now: u64) -> Result<Version, AllocError>
     ensures { IfOk result (λ version. validators_of version
-        ≡ validators found.now.length found.now.modified (is_weak_at found.now.modified now)) }
+        ≡ validators (found_length found.now) (found_modified found.now)
+        (is_weak_at (found_modified found.now) now)) }
 {
-    let weak = is_weak(found.modified, now);
-    Version::new(alloc, found.length, found.modified, weak)
+    let modified = found.modified();
+    Version::new(alloc, found.length(), modified, is_weak(modified, now))
 }
 
 /// Whether a file may change once more in the second in which it was modified: clocks of file

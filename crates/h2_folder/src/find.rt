@@ -1,12 +1,16 @@
 //! Which file the names of a path mean, and that it lies in the folder.
 
-ghost use Rattle.std.specs.Prelude.{◌≡◌};
+ghost use Rattle.std.specs.Prelude.{◌≡◌, ◌≤◌, IfOk, IfSome, string_bytes};
+ghost use Rattle.h2_folder.specs.Answering.{most_at_once};
+ghost use Rattle.h2_folder.specs.FoundFiles.{IsCopyOf, IsSmallIfRead, ReadsOctets};
+ghost use Rattle.h2_folder.specs.FoundFiles.{found_length, found_modified};
 ghost use Rattle.h2_folder.specs.Refusals.{missing_at, status_of_missing};
 
+use crate::recent::{MOST_AT_ONCE, Recent, RecentFile};
 use h2_files::path_below;
 use std::alloc::{AllocError, Global};
 use std::fs::{self, Files, Metadata, OpenFile};
-use std::io::{self, ErrorKind};
+use std::io::{self, ErrorKind, Read};
 use std::os::unix::fs::MetadataExt;
 
 /// The error of the system where a process has no descriptor left (EMFILE), which no
@@ -54,27 +58,120 @@ impl From<AllocError> for Missing {
     }
 }
 
-/// A file that was opened.
+/// A file that was found.
 #[derive(Drop)]
-pub(crate) struct Found<F> {
-    pub(crate) file: F,
-    pub(crate) length: u64,
-    /// When it was modified, in seconds after 1970.
-    pub(crate) modified: u64,
+pub(crate) enum Found<F> {
+    /// A small one, which was read.
+    Small {
+        /// Its octets.
+        octets: Vec<u8>,
+        /// When it was modified, in seconds after 1970.
+        modified: u64,
+    },
+    /// One that was opened.
+    Open {
+        /// The file.
+        file: F,
+        /// How many octets it has.
+        length: u64,
+        /// When it was modified, in seconds after 1970.
+        modified: u64,
+    },
 }
 
-/// Opens the file that names mean below a root. Neither it nor a folder on its way is a link, as
-/// far as two looks tell, one before and one after it was opened: the second one sees the file
-/// that was opened.
+impl<F> Found<F> {
+    /// How many octets it has.
+    pub(crate) fn length(&self) -> u64
+        ensures { result ≡ found_length self.now }
+    {
+        match self {
+            Found::Small { octets, .. } => octets.len() as u64,
+            Found::Open { length, .. } => *length,
+        }
+    }
+
+    /// When it was modified, in seconds after 1970.
+    pub(crate) fn modified(&self) -> u64
+        ensures { result ≡ found_modified self.now }
+    {
+        match self {
+            Found::Small { modified, .. } => *modified,
+            Found::Open { modified, .. } => *modified,
+        }
+    }
+}
+
+/// Finds the file that names mean below a root: a small one among those that were read in this
+/// second, if they are kept, or else in the file system. A small one is read, and kept.
 pub(crate) fn find<R: Files>(
     files: &R,
     alloc: Global,
     root: &str,
     names: &[String],
-) -> Result<Found<R::File>, Missing> {
-    let before = walk(files, alloc, root, names)?;
+    recent: Option<&Recent>,
+    now: u64,
+) -> Result<Found<R::File>, Missing>
+    ensures { IfOk result IsSmallIfRead }
+{
     let path = path_below(alloc, root, names)?;
-    let file = match fs::open(files, path.as_str()) {
+    // Where the time isn't known, nothing is kept.
+    let Some(recent) = recent_at(recent, now) else {
+        let opened = open(files, alloc, root, names, path.as_str())?;
+        return read_small(alloc, opened);
+    };
+    if let Some((octets, modified)) = recent.get(alloc, path.as_str(), now) {
+        return Ok(Found::Small { octets, modified });
+    }
+    let opened = open(files, alloc, root, names, path.as_str())?;
+    let found = read_small(alloc, opened)?;
+    if let Some(copy) = copy_of(alloc, path, now, &found) {
+        recent.keep(alloc, copy);
+    }
+    Ok(found)
+}
+
+/// What was read in a second; none where the time isn't known.
+fn recent_at<'a>(recent: Option<&'a Recent>, now: u64) -> Option<&'a Recent> {
+    if now == 0 { None } else { recent }
+}
+
+// contract: files (own) What a small file had in a second is answered in that second alone
+/// A copy of a small file with a path, which was read in a second; none where memory is missing.
+fn copy_of<F>(alloc: Global, path: String, second: u64, found: &Found<F>) -> Option<RecentFile>
+    ensures { IfSome result (λ file. IsCopyOf found.now (string_bytes path) second file) }
+{
+    let Found::Small { octets, modified } = found else {
+        return None;
+    };
+    Some(RecentFile {
+        path,
+        second,
+        modified: *modified,
+        octets: Vec::from_slice(alloc, octets).ok()?,
+    })
+}
+
+/// A file that was opened.
+#[derive(Drop)]
+struct Opened<F> {
+    file: F,
+    length: u64,
+    /// When it was modified, in seconds after 1970.
+    modified: u64,
+}
+
+/// Opens the file that names mean below a root, which has this path. Neither it nor a folder on its
+/// way is a link, as far as two looks tell, one before and one after it was opened: the second one
+/// sees the file that was opened.
+fn open<R: Files>(
+    files: &R,
+    alloc: Global,
+    root: &str,
+    names: &[String],
+    path: &str,
+) -> Result<Opened<R::File>, Missing> {
+    let before = walk(files, alloc, root, names)?;
+    let file = match fs::open(files, path) {
         Ok(file) => file,
         Err(error) => return Err(missing_by(&error)),
     };
@@ -83,11 +180,44 @@ pub(crate) fn find<R: Files>(
     if !is_same(&opened, &before) || !is_same(&opened, &after) {
         return Err(Missing::Forbidden);
     }
-    Ok(Found {
+    Ok(Opened {
         file,
         length: opened.len(),
         modified: u64::try_from(opened.mtime()).unwrap_or(0),
     })
+}
+
+/// Reads a file that was opened, if it is small.
+fn read_small<F: Read + Drop>(alloc: Global, opened: Opened<F>) -> Result<Found<F>, Missing>
+    ensures { IfOk result IsSmallIfRead }
+{
+    let Opened {
+        mut file,
+        length,
+        modified,
+    } = opened;
+    if length > MOST_AT_ONCE {
+        return Ok(Found::Open {
+            file,
+            length,
+            modified,
+        });
+    }
+    let octets = read_octets(alloc, &mut file, length)?;
+    Ok(Found::Small { octets, modified })
+}
+
+/// The next octets of a file, so many: [`Missing::Failed`] where it is shorter than it was.
+fn read_octets<F: Read>(alloc: Global, file: &mut F, count: u64) -> Result<Vec<u8>, Missing>
+    requires { count ≤ most_at_once }
+    ensures { IfOk result (λ octets. ReadsOctets (F.remaining file.old) (F.remaining file.new)
+        count octets.items) }
+{
+    let mut octets = vec![in alloc; 0u8; count as usize]?;
+    match file.read_exact(&mut octets) {
+        Ok(()) => Ok(octets),
+        Err(error) => Err(missing_by(&error)),
+    }
 }
 
 /// What is known of the file that names mean below a root, where each name before the last is a

@@ -12,10 +12,12 @@ mod find;
 mod lines;
 mod log;
 mod messages;
+mod recent;
 mod sending;
 
 pub use answer::{Answered, Folder, value_in};
 pub use find::Missing;
 pub use log::{LogEntry, log_line};
 pub use messages::{About, file_head, short_message};
+pub use recent::{Recent, RecentFile};
 pub use sending::Sending;

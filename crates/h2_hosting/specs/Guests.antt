@@ -27,6 +27,7 @@ abbrev pub GuestSteps : {P : Type 0} → (leaves : P → P → Type 0)
     → (steps : P → Own → List ℕ → Answer → P → Type 0) → (old : Guest P) → Own
     → (octets : List ℕ) → Answer → (new : Guest P) → Type 0
 GuestSteps {P} leaves steps old own octets answer new =
-    ((new.asked ≡ old.asked) × steps old.party own octets answer new.party)
+    ((new.asked ≡ old.asked) × steps old.party.value own octets answer new.party.value)
     ⊎ ((old.asked ≡ false) × (new.asked ≡ true) × IsTimeStep own
-    × ((asked : P) × leaves old.party asked × steps asked own octets answer new.party))
+    × ((asked : P) × leaves old.party.value asked
+    × steps asked own octets answer new.party.value))

@@ -1,11 +1,12 @@
 //! A connection that ends in order once its host is asked to end.
 
-ghost use Rattle.std.specs.Prelude.{◌≡◌, ⊤, false, true};
+ghost use Rattle.std.specs.Prelude.{◌≡◌, ⊤, IfOk, false, true};
 ghost use Rattle.h2_hosting.specs.Guests.{IsTimeStep};
 
 use h2_handlers::Handler;
 use h2_host::{Answer, Own, Party};
 use h2_seat::Seat;
+use std::alloc::{AllocError, Global};
 use std::cell::Cell;
 
 /// A connection that can be asked to end in order.
@@ -33,24 +34,29 @@ impl<W: Drop, H: Handler<Work = W>> Leaves for Seat<H, W> {
 /// A connection that leaves, at the next time that it sees, once all are to.
 #[derive(Drop)]
 pub struct Guest<'a, P> {
-    party: P,
+    /// The connection. It is in a box, since a host moves what it has many of at each step.
+    party: Box<P>,
     /// Whether all are to leave.
     leaving: &'a Cell<bool>,
     /// Whether this one was asked to.
     asked: bool,
 }
 
-impl<'a, P> Guest<'a, P> {
+impl<'a, P: Drop> Guest<'a, P> {
     /// A connection that leaves as soon as the cell says so.
-    pub fn new(party: P, leaving: &'a Cell<bool>) -> Guest<'a, P>
-        ensures party { result.party ≡ party }
-        ensures asked { result.asked ≡ false }
+    ///
+    /// # Errors
+    ///
+    /// [`AllocError`] where an allocation was refused.
+    pub fn new(alloc: Global, party: P, leaving: &'a Cell<bool>) -> Result<Guest<'a, P>, AllocError>
+        ensures party { IfOk result (λ guest. guest.party.value ≡ party) }
+        ensures asked { IfOk result (λ guest. guest.asked ≡ false) }
     {
-        Guest {
-            party,
+        Ok(Guest {
+            party: Box::new(alloc, party)?,
             leaving,
             asked: false,
-        }
+        })
     }
 
     /// Whether it is asked in this step to end.
@@ -71,13 +77,13 @@ impl<'a, P: Party + Leaves> Party for Guest<'a, P> {
     ghost steps = { λ old own octets answer new.
         GuestSteps P.leaves P.steps old own octets answer new };
 
-    ghost held_of = { λ guest. P.held_of guest.party };
+    ghost held_of = { λ guest. P.held_of guest.party.value };
 
-    ghost ready_of = { λ guest. P.ready_of guest.party };
+    ghost ready_of = { λ guest. P.ready_of guest.party.value };
 
-    ghost takes = { λ guest wants. P.takes guest.party wants };
+    ghost takes = { λ guest wants. P.takes guest.party.value wants };
 
-    ghost output_of = { λ guest. P.output_of guest.party };
+    ghost output_of = { λ guest. P.output_of guest.party.value };
 
     // contract: hosts (own) A connection is asked once to end in order, as time passes
     // rule: hosts (own) A connection is asked once to end in order, as time passes

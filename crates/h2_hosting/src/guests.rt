@@ -40,10 +40,9 @@ impl<'a, H: Handler<Work = V>, V: Drop, M: Makes<H>, W: Write> Opens<Guest<'a, S
     for Guests<'a, M, W> {
     fn open(&mut self, alloc: Global, now: u64, peer: SocketAddr) -> Option<Guest<'a, Seat<H, V>>> {
         let handler = self.makes.make(peer);
-        match Seat::new(alloc, Config::default(), self.limits, now, handler) {
-            Ok(seat) => Some(Guest::new(seat, self.leaving)),
-            Err(_) => None, // out of memory: the peer may try again
-        }
+        // Out of memory: the peer may try again.
+        let seat = Seat::new(alloc, Config::default(), self.limits, now, handler).ok()?;
+        Guest::new(alloc, seat, self.leaving).ok()
     }
 
     fn leave(&mut self) {

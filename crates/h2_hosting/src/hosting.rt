@@ -10,7 +10,7 @@ use crate::journal::Journal;
 use crate::logged::Logged;
 use crate::site::Site;
 use h2_cli::{Failure, Hint, Status, write_hint};
-use h2_folder::Folder;
+use h2_folder::{Folder, Recent};
 use h2_handlers::{Echo, Gather, Handler};
 use h2_host::Limits;
 use h2_mio::{Driver, Place};
@@ -75,6 +75,27 @@ struct Sites<'a, 'j, R> {
     journal: Option<&'j Journal>,
     alloc: Global,
     root: &'a str,
+    /// Small files, which all handlers share.
+    recent: &'a Recent,
+}
+
+impl<'a, 'j, R> Sites<'a, 'j, R> {
+    /// Makes handlers for the folder with a path.
+    fn new(
+        rt: &'a R,
+        journal: Option<&'j Journal>,
+        alloc: Global,
+        root: &'a str,
+        recent: &'a Recent,
+    ) -> Sites<'a, 'j, R> {
+        Sites {
+            rt,
+            journal,
+            alloc,
+            root,
+            recent,
+        }
+    }
 }
 
 impl<'a, 'j, R> Makes<Logged<'a, R, &'j Journal, Site<'a, R>>> for Sites<'a, 'j, R> {
@@ -82,6 +103,7 @@ impl<'a, 'j, R> Makes<Logged<'a, R, &'j Journal, Site<'a, R>>> for Sites<'a, 'j,
         let folder = Folder {
             rt: self.rt,
             root: self.root,
+            recent: Some(self.recent),
         };
         Logged {
             clock: self.rt,
@@ -113,6 +135,7 @@ pub fn host_port<'x, R: Net + Files + Clock, W: Write, E: Write>(
 {
     let journal = Journal::new(alloc);
     let kept = journal_if(&journal, options.log);
+    let recent = Recent::new(alloc);
     if let Some(root) = options.root
         && let Err(error) = is_folder(rt, root)
     {
@@ -120,12 +143,7 @@ pub fn host_port<'x, R: Net + Files + Clock, W: Write, E: Write>(
     }
     let served = match options.root {
         Some(root) => {
-            let sites = Sites {
-                rt,
-                journal: kept,
-                alloc,
-                root,
-            };
+            let sites = Sites::new(rt, kept, alloc, root, &recent);
             serve(rt, alloc, options, sites, &journal, out)
         }
         None => {

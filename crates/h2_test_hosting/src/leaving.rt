@@ -58,15 +58,16 @@ impl Party for Counted {
 
 // It leaves as time passes, once the cell says so, and at no other step.
 #[test]
-fn guests_leave(rt: HostRuntime) {
+fn guests_leave(rt: HostRuntime) -> Result<(), Fail> {
     let leaving = Cell::new(false);
-    let mut guest = Guest::new(Counted { left: 0 }, &leaving);
+    let mut guest = Guest::new(rt.alloc(), Counted { left: 0 }, &leaving)?;
     let mut room = [0u8; 1];
     let passed = Own::Passed { now: 1 };
     assert_eq!(rt; guest.step(passed, &[], &mut room), Answer::Goes);
     leaving.set(true);
     assert_eq!(rt; guest.step(Own::Turn, &[], &mut room), Answer::Goes);
     assert_eq!(rt; guest.step(passed, &[], &mut room), Answer::Over);
+    Ok(())
 }
 
 #[test]

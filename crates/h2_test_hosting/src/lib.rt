@@ -1,12 +1,15 @@
 //! Tests of what a host serves, without sockets.
 //!
 //! - `asking`: a request to a handler, and all that it answers. `sites`: a folder's answers, and
-//!   the lines of the log. `leaving`: connections that are asked to leave.
+//!   the lines of the log. `seconds`: its answers within a second, and in the next one. `leaving`:
+//!   connections that are asked to leave.
 #![tactic(auto)]
 
 #[cfg(test)]
 mod asking;
 #[cfg(test)]
 mod leaving;
+#[cfg(test)]
+mod seconds;
 #[cfg(test)]
 mod sites;

@@ -128,7 +128,11 @@ fn make_root(rt: &HostRuntime) -> Result<(), Fail> {
 /// What the folder answers to a row, with room for so many octets at once.
 fn answer_to(rt: &HostRuntime, alloc: Global, row: &Row<'_>, room: usize) -> Option<Answer> {
     let mut site = Site {
-        folder: Folder { rt, root: ROOT },
+        folder: Folder {
+            rt,
+            root: ROOT,
+            recent: None,
+        },
     };
     let list = list_of(alloc, row.0)?;
     let mut room = vec![in alloc; 0u8; room].ok()?;
@@ -164,7 +168,11 @@ fn line_of(rt: &HostRuntime, alloc: Global, path: &[u8]) -> Option<Vec<u8>> {
         alloc,
         peer: SocketAddr::from((Ipv4Addr::LOCALHOST, 1)),
         handler: Site {
-            folder: Folder { rt, root: ROOT },
+            folder: Folder {
+                rt,
+                root: ROOT,
+                recent: None,
+            },
         },
         lost: 0,
     };

@@ -1,0 +1,158 @@
+//! Small files, as they were read in a second.
+
+ghost use Rattle.std.specs.Prelude.{◌≡◌, ◌≤◌, ◌⊎◌, Contains, IfOk, IfSome, Some, length};
+ghost use Rattle.h2_folder.specs.Answering.{most_at_once};
+ghost use Rattle.h2_folder.specs.FoundFiles.{GivesKept};
+ghost use Rattle.h2_folder.specs.Recents.{IsKeptFile};
+
+use std::alloc::{AllocError, Global};
+use std::cell::RefCell;
+
+/// A file of so many octets at most is read, and answered, at once.
+pub(crate) const MOST_AT_ONCE: u64 = 16_384;
+
+/// So many files are kept at most.
+const PLACES: usize = 256;
+
+/// What a hash of no octets is (FNV-1a, of 64 bits).
+const FNV_BASIS: u64 = 0xcbf2_9ce4_8422_2325;
+
+/// What a hash is multiplied by at each octet.
+const FNV_PRIME: u64 = 0x0000_0100_0000_01b3;
+
+/// A small file, as it was read in a second.
+#[derive(Drop)]
+pub struct RecentFile {
+    /// Its path, with that of its folder.
+    pub(crate) path: String,
+    /// The second after 1970 in which it was read.
+    pub(crate) second: u64,
+    /// When it was modified, in seconds after 1970.
+    pub(crate) modified: u64,
+    /// Its octets.
+    pub(crate) octets: Vec<u8>,
+}
+
+impl RecentFile {
+    /// A copy of its octets; none where memory is missing.
+    fn copy(&self, alloc: Global) -> Option<Vec<u8>>
+        ensures same { IfSome result (λ octets. octets.items ≡ self.now.octets.items) }
+        ensures few { IfSome result (λ octets. length octets.items ≤ most_at_once) }
+    {
+        if self.octets.len() as u64 > MOST_AT_ONCE {
+            return None;
+        }
+        Vec::from_slice(alloc, &self.octets).ok()
+    }
+}
+
+/// Files, each in the place of its path, where it takes the place of the one before.
+#[derive(Drop)]
+pub(crate) struct RecentFiles {
+    /// The places; none before a file is kept.
+    places: Vec<Option<RecentFile>>,
+}
+
+impl RecentFiles {
+    // contract: files (own) What a small file had in a second is answered in that second alone
+    // rule: files (own) What a small file had in a second is answered in that second alone
+    /// The file with a path that was read in a second, if it is kept.
+    fn at(&self, path: &str, second: u64) -> Option<&RecentFile>
+        ensures { IfSome result (λ file.
+            IsKeptFile self.entry.now.places.items path.now second file.now) }
+    {
+        match self.places.get(place_of(path)) {
+            Some(Some(file)) if file.second == second && file.path.as_str() == path => Some(file),
+            _ => None,
+        }
+    }
+
+    /// A copy of the octets of the file with a path that was read in a second, and when it was
+    /// modified; none where it isn't kept, or memory is missing.
+    fn copy_at(&self, alloc: Global, path: &str, second: u64) -> Option<(Vec<u8>, u64)>
+        ensures kept { IfSome result (λ found. GivesKept self.now.places.items path.now second
+            found.0.items found.1) }
+        ensures few { IfSome result (λ found. length found.0.items ≤ most_at_once) }
+    {
+        let file = self.at(path, second)?;
+        let octets = file.copy(alloc)?;
+        Some((octets, file.modified))
+    }
+
+    // contract: files (own) What a small file had in a second is answered in that second alone
+    /// Keeps a file in the place of its path; where memory is missing nothing is kept.
+    fn keep(&mut self, alloc: Global, file: RecentFile)
+        ensures { (one : RecentFile) → Contains self.new.places.items (Some one)
+            → (one ≡ file) ⊎ Contains self.old.places.items (Some one) }
+    {
+        if self.places.is_empty() {
+            match empty_places(alloc) {
+                Ok(places) => self.places = places,
+                Err(_) => return,
+            }
+        }
+        if let Some(place) = self.places.get_mut(place_of(file.path.as_str())) {
+            *place = Some(file);
+        }
+    }
+}
+
+/// The places, each of them empty.
+fn empty_places(alloc: Global) -> Result<Vec<Option<RecentFile>>, AllocError>
+    ensures { IfOk result (λ places. (one : RecentFile) → Contains places.items (Some one) → ⊥) }
+{
+    let mut places = Vec::with_capacity(alloc, PLACES)?;
+    for _ in 0..PLACES {
+        places.push(None)?;
+    }
+    Ok(places)
+}
+
+/// The place of a path.
+fn place_of(path: &str) -> usize {
+    let mut hash = FNV_BASIS;
+    for octet in path.as_bytes() {
+        hash = (hash ^ u64::from(*octet)).wrapping_mul(FNV_PRIME);
+    }
+    (hash % PLACES as u64) as usize
+}
+
+/// Small files, as they were read, so that the file system isn't asked for one again within a
+/// second.
+///
+/// It holds 256 files at most, each of 16,384 octets at most: 4 MiB. A file that changes within a
+/// second is seen in the next one. That a file isn't there (404), or may not be read (403), is not
+/// kept.
+#[derive(Drop)]
+pub struct Recent {
+    files: RefCell<RecentFiles>,
+}
+
+impl Recent {
+    /// No files.
+    pub fn new(alloc: Global) -> Recent {
+        Recent {
+            files: RefCell::new(RecentFiles {
+                places: Vec::new(alloc),
+            }),
+        }
+    }
+
+    /// A copy of the octets of the file with a path that was read in a second, and when it was
+    /// modified; none where it isn't kept, or memory is missing.
+    pub(crate) fn get(&self, alloc: Global, path: &str, second: u64) -> Option<(Vec<u8>, u64)>
+        ensures { IfSome result (λ found. length found.0.items ≤ most_at_once) }
+    {
+        match self.files.try_borrow() {
+            Ok(files) => files.copy_at(alloc, path, second),
+            Err(_) => None,
+        }
+    }
+
+    /// Keeps a file; where memory is missing nothing is kept.
+    pub(crate) fn keep(&self, alloc: Global, file: RecentFile) {
+        if let Ok(mut files) = self.files.try_borrow_mut() {
+            files.keep(alloc, file);
+        }
+    }
+}
