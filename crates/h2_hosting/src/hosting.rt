@@ -139,7 +139,7 @@ pub fn host_port<'x, R: Net + Files + Clock, W: Write, E: Write>(
     if let Some(root) = options.root
         && let Err(error) = is_folder(rt, root)
     {
-        return give_up(&error, None, err);
+        return refuse_root(root, &error, err);
     }
     let served = match options.root {
         Some(root) => {
@@ -157,7 +157,7 @@ pub fn host_port<'x, R: Net + Files + Clock, W: Write, E: Write>(
     };
     match served {
         Ok(()) => Status::Good,
-        Err(error) => give_up(&error, hint_of(&error), err),
+        Err(error) => end_early(&error, err),
     }
 }
 
@@ -242,6 +242,40 @@ fn host_limits(connections: usize) -> Limits
     let mut limits = Limits::default();
     limits.connections = connections;
     limits
+}
+
+// rule (tested): hosts (own) A host says which folder, address or input it can't have
+/// Prints on standard error why a folder can't be served, and answers the status.
+fn refuse_root<E: Write>(root: &str, error: &io::Error, err: &mut E) -> Status
+    ensures { IsFailedHost result }
+{
+    let status = give_up(error, None, err);
+    let why = match error.kind() {
+        ErrorKind::NotFound => "there is none",
+        ErrorKind::PermissionDenied => "permission denied",
+        ErrorKind::NotADirectory => "it is no folder",
+        _ => "it can't be looked at",
+    };
+    // There is no place left to report that this write fails.
+    let _ = writeln!(err, "hint: folder {root}: {why}");
+    status
+}
+
+// rule (tested): hosts (own) A host says which folder, address or input it can't have
+/// Prints on standard error why a host ends that was to serve, with a hint where the cause is
+/// known, and answers the status.
+fn end_early<E: Write>(error: &io::Error, err: &mut E) -> Status
+    ensures { IsFailedHost result }
+{
+    let status = give_up(error, hint_of(error), err);
+    let hint = match error.raw_os_error() {
+        Some(NO_PIPE) => "--until-closed waits for a pipe at standard input",
+        _ if error.kind() == ErrorKind::AddrNotAvailable => "the address is none of this machine's",
+        _ => return status,
+    };
+    // There is no place left to report that this write fails.
+    let _ = writeln!(err, "hint: {hint}");
+    status
 }
 
 /// What is likely wrong with the port: nothing where the error is that of a standard input that is

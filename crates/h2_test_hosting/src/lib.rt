@@ -2,11 +2,13 @@
 //!
 //! - `asking`: a request to a handler, and all that it answers. `sites`: a folder's answers, and
 //!   the lines of the log. `seconds`: its answers within a second, and in the next one. `leaving`:
-//!   connections that are asked to leave.
+//!   connections that are asked to leave. `hints`: what a host says that can't begin.
 #![tactic(auto)]
 
 #[cfg(test)]
 mod asking;
+#[cfg(test)]
+mod hints;
 #[cfg(test)]
 mod leaving;
 #[cfg(test)]
