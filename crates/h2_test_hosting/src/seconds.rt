@@ -14,6 +14,7 @@ use std::time::{Clock, Duration};
 const ROOT: &str = "h2_test_hosting_seconds";
 
 /// The file system, and a clock that the test sets.
+#[derive(Drop)]
 struct At<'a, R> {
     rt: &'a R,
     /// The second after 1970.
