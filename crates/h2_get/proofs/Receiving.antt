@@ -49,7 +49,7 @@ body_one id (parts.Head list end) = refl
 body_one id (parts.Body octets end) = append-nil octets.items
 body_one id (parts.Trailers list) = refl
 
-body_and_one : (id : ℕ) (came : List Handed) (part : ResponsePart)
+pub body_and_one : (id : ℕ) (came : List Handed) (part : ResponsePart)
     → body_handed (came ++ handed_of id part ∷ []) ≡ body_handed came ++ body_of_part part
 body_and_one id came part =
     body_append came (handed_of id part ∷ [])
@@ -183,7 +183,7 @@ writes_one id start before after part writes came written =
     (Appends-trans start before after _ _ written writes)
 
 -- The part that ends a response is the last one.
-ends_body : (id : ℕ) (came : List Handed) (part : ResponsePart)
+pub ends_body : (id : ℕ) (came : List Handed) (part : ResponsePart)
     (trailers : Option (Vec Field Global)) → EndsResponse part (fields_in_trailers trailers)
     → EndsBody id (came ++ handed_of id part ∷ []) (fields_in_trailers trailers)
 ends_body id came (parts.Interim list) trailers ends = absurd ends
@@ -285,7 +285,7 @@ follows_no_head id (parts.Trailers list) not came none =
     no_heads came (TrailersHanded id list.items) refl none
 
 -- A part that is one is handed out as one.
-handed_head : (id : ℕ) (part : ResponsePart) (head : ResponseHead) → head_in part ≡ Some head
+pub handed_head : (id : ℕ) (part : ResponsePart) (head : ResponseHead) → head_in part ≡ Some head
     → handed_of id part ≡ HeadHanded id head.list.items head.end
 handed_head id (parts.Interim list) head is = absurd (cc)
 handed_head id (parts.Head list end) head is =
