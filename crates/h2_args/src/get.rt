@@ -167,13 +167,20 @@ aren't printed, nor are trailers without --include. It follows no redirection.
 Without --timeout it waits for a server that stays idle; with it, it gives up so
 many seconds after it began to connect, but while a name is looked up.
 
-Without --output, --stream and --verbose the body is kept until the response is
-complete, and nothing is printed of one that isn't. With any of them the body
-goes out as it comes, with --output into the file, and little of it is kept:
-where the response is reset or cut off, what came before stands in the file or
-was printed. A file is made, or emptied where it is there, once the response's
-head has come, and not where --fail makes it a failure; then no more of the
-response is fetched either. A FILE of - is a file of that name.
+Several URLs are asked for at once, each with the same fields and the same body.
+Their responses are printed in the order of the URLs, each after a line end but
+the first. The one that is printed goes out as it comes, as with --stream; what
+comes of later ones meanwhile is kept. One that is reset, or fails by --fail,
+ends no other; the status is that of the first that failed.
+
+With one URL, and without --output, --stream and --verbose, the body is kept
+until the response is complete, and nothing is printed of one that isn't. With
+any of them the body goes out as it comes, with --output into the file, and
+little of it is kept: where the response is reset or cut off, what came before
+stands in the file or was printed. A file is made, or emptied where it is there,
+once the response's head has come, and not where --fail makes it a failure; then
+no more of the response is fetched either. A FILE of - is a file of that name.
+With several URLs there is no --output.
 
 With --verbose a frame has its line on standard error as it is sent, after `> `,
 or as it has come, after `< `, as h2 show --follow prints it. With --output, and
