@@ -6,14 +6,16 @@ use Rattle.std.proofs.Common.{inr, Vec, Global, length-append}
 use Rattle.std.proofs.KnownBytes.{Appends-trans}
 use Rattle.std.proofs.Math.Seq.{take-append-add}
 use Rattle.std.proofs.lemmas.Bool.{eq-eqb}
+use Rattle.std.proofs.lemmas.List.{length-map, map-append}
 use Rattle.std.specs.Io.KnownBytes.{Appends}
 use Rattle.std.specs.List.{Contains}
 use Rattle.hpack.specs.declared.types.field.Field.{Field}
 use Rattle.h2_spec_log.specs.Acts.{Values, Number, PutOut}
+use Rattle.h2_spec_log.specs.Events.{ResetEvent, UnprocessedEvent}
 use Rattle.h2_laws_pair.specs.Tokens.{at_once}
 use Rattle.h2_ends.specs.EndCalls.{MayAsk, opened_with}
 use Rattle.h2_ends.specs.EndTakes.{EndMayTake}
-use Rattle.h2_ends.specs.Ends.{EndAnswer, EndFailed, EndLog, EndTook, Handed}
+use Rattle.h2_ends.specs.Ends.{EndAnswer, EndFailed, EndLog, EndTook, Handed, Passed}
 use Rattle.h2_link.specs.declared.error.LinkError.{LinkError}
 use Rattle.h2_link.specs.declared.error.LinkError.TheVariants as errors
 use Rattle.h2_engines.specs.Linked.{Traffic}
@@ -24,10 +26,10 @@ use Rattle.h2_engines.proofs.TurnsPassed.{turns_of_answer, turns_of_call, turns_
 use Rattle.h2_fetch.specs.declared.part.ResponsePart.{ResponsePart}
 use Rattle.h2_fetch.specs.declared.several.Came.TheVariants.{Dropped, Part}
 use Rattle.h2_fetch.specs.declared.several.SeveralFetch.{SeveralFetch}
-use Rattle.h2_fetch.specs.Parts.{handed_of, handed_on, is_on}
-use Rattle.h2_fetch.specs.Several.{AnsweredOn, AnswersNextOn, AreComing, Asked, CameSo}
-use Rattle.h2_fetch.specs.Several.{HaveStopped, IsFetchingSeveral, begins, gives_out, kept_on}
-use Rattle.h2_fetch.specs.Several.{pumps, releases, requests, takes}
+use Rattle.h2_fetch.specs.Parts.{handed_of, is_on}
+use Rattle.h2_fetch.specs.Several.{AnsweredOn, AnswersNextOn, AreComing, AskedOn, CameSo, DropOn}
+use Rattle.h2_fetch.specs.Several.{HaveStopped, IsFetchingSeveral, OnStream, PartOn, all_on, as_on}
+use Rattle.h2_fetch.specs.Several.{begins, gives_out, kept_on, pumps, releases, requests, takes}
 use Rattle.h2_get.specs.declared.pass_error.PassError.{PassError}
 use Rattle.h2_get.specs.declared.pass_error.PassError.TheVariants as passes
 use Rattle.h2_get.specs.declared.pass_error.Passed.TheVariants.{Whole}
@@ -36,7 +38,8 @@ use Rattle.h2_get.specs.Receives.{EndsBody, HasNoHead, HeadCame, PassesPart, bod
 use Rattle.h2_get.specs.Receives.{body_of_part, fields_in_trailers, head_in}
 use Rattle.h2_get.specs.Several.{AnswersPartOn, HeadComesOn, HeadOnSo, PartOnSo}
 use Rattle.h2_get.specs.Several.{PassedOnSo, PassesBodyOn, StopsOn, all_stop, answered_more}
-use Rattle.h2_get.specs.Several.{one_is_dropped}
+use Rattle.h2_get.specs.Several.{one_is_dropped, parts_came}
+use Rattle.h2_engines.specs.Fetches.{refused_stream}
 use Rattle.h2_get.proofs.Receiving.{Written, body_and_one, ends_body, handed_head, writes_one}
 
 -- The same was answered of each stream.
@@ -44,7 +47,7 @@ abbrev pub IsSame : (one two : AnsweredOn) → Type 0
 IsSame one two = (i : ℕ) → one i ≡ two i
 
 -- A client fetches still where the same was answered.
-pub coming_same : {values : Values} {start now : Traffic} {asked : List Asked}
+pub coming_same : {values : Values} {start now : Traffic} {asked : List AskedOn}
     {fetch : SeveralFetch} {end : EndLog} {one : AnsweredOn} (two : AnsweredOn) → IsSame one two
     → AreComing values start now asked fetch end one
     → AreComing values start now asked fetch end two
@@ -57,12 +60,12 @@ coming_same {fetch = fetch} two same is =
       up = is.up;
       linked = is.linked;
       parts = λ i there. is.parts i there
-          ∙ ap (λ (first : List Handed). first ++ kept_on i fetch.kept.items) (same i);
+          ∙ ap (λ (first : List OnStream). first ++ kept_on i fetch.kept.items) (same i);
       dropped = is.dropped;
     }
 
 -- So it is where the fetch has ended early.
-stopped_same : {values : Values} {start now : Traffic} {asked : List Asked}
+pub stopped_same : {values : Values} {start now : Traffic} {asked : List AskedOn}
     {fetch : SeveralFetch} {end : EndLog} {one : AnsweredOn} {error : LinkError}
     (two : AnsweredOn) → IsSame one two
     → HaveStopped values start now asked fetch end one error
@@ -74,42 +77,61 @@ stopped_same {fetch = fetch} two same is =
       linked = is.linked;
       lost = is.lost;
       parts = λ i there. is.parts i there
-          ∙ ap (λ (first : List Handed). first ++ (kept_on i fetch.kept.items ++ is.lost i))
+          ∙ ap (λ (first : List OnStream). first ++ (kept_on i fetch.kept.items ++ is.lost i))
           (same i);
       all = is.all;
       so = is.so;
     }
 
-pub stops_same : {values : Values} {start now : Traffic} {asked : List Asked}
+-- The same has come of one stream more.
+more_same : {one : AnsweredOn} (two : AnsweredOn) → IsSame one two → (id : ℕ)
+    (more : List OnStream) → IsSame (answered_more one id more) (answered_more two id more)
+more_same two same id more i =
+    ap (λ (first : List OnStream). first ++ (if id == i then more else [])) (same i)
+
+pub stops_same : {values : Values} {start now : Traffic} {asked : List AskedOn}
     {fetch : SeveralFetch} {id : ℕ} {one : AnsweredOn} {error : LinkError}
     (two : AnsweredOn) → IsSame one two → StopsOn values start now asked fetch id one error
     → StopsOn values start now asked fetch id two error
 stops_same two same (all_stop after stopped) = all_stop after (stopped_same two same stopped)
-stops_same two same (one_is_dropped after code is coming dropped) =
-    one_is_dropped after code is (coming_same two same coming) dropped
+stops_same {id = id} two same (one_is_dropped after code is coming dropped) =
+    one_is_dropped after code is
+    (coming_same (answered_more two id (DropOn code ∷ []))
+    (more_same two same id (DropOn code ∷ [])) coming) dropped
 
--- Parts of a stream that were answered one after another were answered together.
-join_at : (here : Bool) (before first second : List Handed)
+-- What was answered of a stream one after another was answered together.
+join_at : (here : Bool) (before first second : List OnStream)
     → (before ++ (if here then first else [])) ++ (if here then second else [])
     ≡ before ++ (if here then first ++ second else [])
 join_at true before first second = append_assoc before first second
 join_at false before first second = append-nil (before ++ [])
 
-pub joined : (answered : AnsweredOn) (id : ℕ) (first second : List Handed)
+pub joined : (answered : AnsweredOn) (id : ℕ) (first second : List OnStream)
     → IsSame (answered_more (answered_more answered id first) id second)
     (answered_more answered id (first ++ second))
 joined answered id first second i = join_at (id == i) (answered i) first second
 
-pub coming_joined : {values : Values} {start now : Traffic} {asked : List Asked}
+-- So it is of parts.
+pub parts_joined : (answered : AnsweredOn) (id : ℕ) (first second : List Handed)
+    → IsSame (answered_more (answered_more answered id (parts_came first)) id (parts_came second))
+    (answered_more answered id (parts_came (first ++ second)))
+parts_joined answered id first second i =
+    joined answered id (parts_came first) (parts_came second) i
+    ∙ ap (λ (more : List OnStream). answered_more answered id more i)
+    (sym (map-append PartOn first second))
+
+pub coming_joined : {values : Values} {start now : Traffic} {asked : List AskedOn}
     {fetch : SeveralFetch} {end : EndLog} (answered : AnsweredOn) (id : ℕ)
     (first second : List Handed)
     → AreComing values start now asked fetch end
-    (answered_more (answered_more answered id first) id second)
-    → AreComing values start now asked fetch end (answered_more answered id (first ++ second))
+    (answered_more (answered_more answered id (parts_came first)) id (parts_came second))
+    → AreComing values start now asked fetch end
+    (answered_more answered id (parts_came (first ++ second)))
 coming_joined answered id first second =
-    coming_same (answered_more answered id (first ++ second)) (joined answered id first second)
+    coming_same (answered_more answered id (parts_came (first ++ second)))
+    (parts_joined answered id first second)
 
-none_at : (here : Bool) (before : List Handed) → before ≡ before ++ (if here then [] else [])
+none_at : (here : Bool) (before : List OnStream) → before ≡ before ++ (if here then [] else [])
 none_at true before = sym (append-nil before)
 none_at false before = sym (append-nil before)
 
@@ -119,9 +141,9 @@ pub none_answered : (answered : AnsweredOn) (id : ℕ)
 none_answered answered id i = none_at (id == i) (answered i)
 
 -- what was answered of the stream itself
-here_answered : (answered : AnsweredOn) (id : ℕ) (came : List Handed)
-    → answered_more answered id came id ≡ answered id ++ came
-here_answered answered id came = rw (eq-eqb id id refl) refl
+here_answered : (answered : AnsweredOn) (id : ℕ) (more : List OnStream)
+    → answered_more answered id more id ≡ answered id ++ more
+here_answered answered id more = rw (eq-eqb id id refl) refl
 
 -- No more was handed out than turns have passed.
 abbrev IsWithinTurns : EndLog → Type 0
@@ -140,7 +162,7 @@ take_within (EndTook count None) may within =
 take_within (EndTook count (Some one)) may within =
     rw (taken_says may).handed (omega (arith, within, turns_of_take may))
 
-handed_within : {values : Values} {asked : List Asked} {end : EndLog}
+handed_within : {values : Values} {asked : List AskedOn} {end : EndLog}
     → IsFetchingSeveral values asked end → IsWithinTurns end
 unfolding MayAsk
 handed_within (begins range) = omega arith
@@ -158,38 +180,45 @@ handed_within (pumps {end = before} {after = after} was result may) =
 handed_within (gives_out {end = before} was count answer typed may) =
     omega (arith, handed_within was, turns_of_call before.log (PutOut count) answer)
 
-one_at_most : (here : Bool) (one : Handed) → length (if here then one ∷ [] else []) ≤ 1
+one_at_most : (here : Bool) (one : OnStream) → length (if here then one ∷ [] else []) ≤ 1
 one_at_most true one = omega arith
 one_at_most false one = omega arith
 
--- Of a stream no more was handed out than of all.
-on_at_most : (id : ℕ) (handed : List Handed) → length (handed_on id handed) ≤ length handed
-unfolding handed_on
+on_one : (id : ℕ) (one : Handed) → length (as_on id one) ≤ 1
+on_one id (Passed (ResetEvent i code ours)) = one_at_most (i == id) (DropOn code)
+on_one id (Passed (UnprocessedEvent i)) = one_at_most (i == id) (DropOn refused_stream)
+on_one id one = one_at_most (is_on id one) (PartOn one)
+
+-- Of a stream no more has come than was handed out.
+on_at_most : (id : ℕ) (handed : List Handed) → length (all_on id handed) ≤ length handed
+unfolding all_on
 on_at_most id [] = omega arith
 on_at_most id (one ∷ handed) =
     omega (
       arith,
       on_at_most id handed,
-      length-append (handed_on id handed) (if is_on id one then one ∷ [] else []),
-      one_at_most (is_on id one) one,
+      length-append (all_on id handed) (as_on id one),
+      on_one id one,
     )
 
 -- No more was answered of a stream than turns have passed.
-answered_within : {values : Values} {start now : Traffic} {asked : List Asked}
+answered_within : {values : Values} {start now : Traffic} {asked : List AskedOn}
     {fetch : SeveralFetch} {end : EndLog} (answered : AnsweredOn) (id : ℕ) (came : List Handed)
     → Contains fetch.ids.items id
-    → AreComing values start now asked fetch end (answered_more answered id came)
+    → AreComing values start now asked fetch end (answered_more answered id (parts_came came))
     → length came ≤ length end.log.turns
 answered_within {fetch = fetch} {end} answered id came there is =
     let kept = kept_on id fetch.kept.items in
-    let parts : handed_on id end.handed ≡ (answered id ++ came) ++ kept =
+    let parts : all_on id end.handed ≡ (answered id ++ parts_came came) ++ kept =
     is.parts id there
-    ∙ ap (λ (first : List Handed). first ++ kept) (here_answered answered id came) in
+    ∙ ap (λ (first : List OnStream). first ++ kept)
+    (here_answered answered id (parts_came came)) in
     omega (
       arith,
       ap length parts,
-      length-append (answered id ++ came) kept,
-      length-append (answered id) came,
+      length-append (answered id ++ parts_came came) kept,
+      length-append (answered id) (parts_came came),
+      length-map came PartOn,
       on_at_most id end.handed,
       handed_within is.fetching,
     )
@@ -220,11 +249,12 @@ part_stops before now old new id error answers values start asked end answered t
 -- The client fetches still, and these parts, one in each round, have come of a stream, for which
 -- something holds.
 pub record IsPassingOn (P : List Handed → Type 0) (values : Values) (start now : Traffic)
-    (asked : List Asked) (fetch : SeveralFetch) (id : ℕ) (answered : AnsweredOn) (rounds : ℕ)
+    (asked : List AskedOn) (fetch : SeveralFetch) (id : ℕ) (answered : AnsweredOn) (rounds : ℕ)
     : Type 0 where
   pub after : EndLog
   pub came : List Handed
-  pub coming : AreComing values start now asked fetch after (answered_more answered id came)
+  pub coming : AreComing values start now asked fetch after
+      (answered_more answered id (parts_came came))
   pub holds : P came
   pub count : rounds ≡ length came
 
@@ -232,7 +262,7 @@ pub record IsPassingOn (P : List Handed → Type 0) (values : Values) (start now
 abbrev pub PartsOn : (P : List Handed → Type 0) → (before now : Traffic)
     → (old new : SeveralFetch) → (id rounds : ℕ) → Type 0
 PartsOn P before now old new id rounds =
-    (values : Values) (start : Traffic) (asked : List Asked) (end : EndLog)
+    (values : Values) (start : Traffic) (asked : List AskedOn) (end : EndLog)
     (answered : AnsweredOn) → Contains old.ids.items id
     → AreComing values start before asked old end answered
     → IsPassingOn P values start now asked new id answered rounds
@@ -252,11 +282,12 @@ parts_first P now fetch id holds values start asked end answered there is =
 abbrev pub PartsStop : (P : List Handed → Type 0) → (before now : Traffic)
     → (old new : SeveralFetch) → (id : ℕ) → LinkError → Type 0
 PartsStop P before now old new id error =
-    (values : Values) (start : Traffic) (asked : List Asked) (end : EndLog)
+    (values : Values) (start : Traffic) (asked : List AskedOn) (end : EndLog)
     (answered : AnsweredOn) → Contains old.ids.items id
     → AreComing values start before asked old end answered
     → (came : List Handed)
-    × StopsOn values start now asked new id (answered_more answered id came) error × P came
+    × StopsOn values start now asked new id (answered_more answered id (parts_came came)) error
+    × P came
 
 module _ (P : List Handed → Type 0) (before middle now : Traffic) (old self new : SeveralFetch)
     (id rounds : ℕ) (on : PartsOn P before middle old self id rounds) (ids : self.ids ≡ old.ids)
@@ -270,13 +301,12 @@ module _ (P : List Handed → Type 0) (before middle now : Traffic) (old self ne
     parts_one Q part holds answers values start asked end answered there is =
         let go = on values start asked end answered there is in
         let one = handed_of id part in
-        let next = answers values start asked go.after (answered_more answered id go.came)
-        (rw ids there) go.coming in
+        let next = answers values start asked go.after
+        (answered_more answered id (parts_came go.came)) (rw ids there) go.coming in
         record {
           after = next.0;
           came = go.came ++ one ∷ [];
-          coming = coming_same (answered_more answered id (go.came ++ one ∷ []))
-              (joined answered id go.came (one ∷ [])) next.1;
+          coming = coming_joined answered id go.came (one ∷ []) next.1;
           holds = holds go.came go.holds;
           count = omega (arith, go.count, length-append go.came (one ∷ []));
         }
@@ -288,8 +318,8 @@ module _ (P : List Handed → Type 0) (before middle now : Traffic) (old self ne
     parts_stop error answers values start asked end answered there is =
         let go = on values start asked end answered there is in (
           go.came,
-          answers values start asked go.after (answered_more answered id go.came) (rw ids there)
-              go.coming,
+          answers values start asked go.after (answered_more answered id (parts_came go.came))
+              (rw ids there) go.coming,
           go.holds,
         )
 
@@ -307,7 +337,8 @@ no_part_left P before now old new id rounds all ids on values start asked end an
         linked = all_in_part go.coming.linked;
         lost = λ i. [];
         parts = λ i one. go.coming.parts i one
-            ∙ ap (λ (rest : List Handed). answered_more answered id go.came i ++ rest)
+            ∙ ap (λ (rest : List OnStream). answered_more answered id (parts_came go.came) i
+            ++ rest)
             (sym (append-nil (kept_on i new.kept.items)));
         all = λ other i. refl;
         so = inr (omega (arith, all, go.count, within));

@@ -17,9 +17,9 @@ use Rattle.h2_get.specs.declared.pass_error.StreamError.TheVariants as streams
 use Rattle.h2_get.specs.Receives.{body_handed, fields_in_trailers}
 use Rattle.h2_get.specs.Responses.{fails_as_asked, trailers_shown}
 use Rattle.h2_get.specs.Several.{HeadComesOn, HeadOnSo, PassedOnSo, PassesBodyOn, StreamsOn}
-use Rattle.h2_get.specs.Several.{answered_more, ends_all, opening_of}
+use Rattle.h2_get.specs.Several.{answered_more, ends_all, opening_of, parts_came}
 use Rattle.h2_get.specs.Streams.{PrintsHead, shows_head, shows_nothing}
-use Rattle.h2_get.proofs.SeveralParts.{coming_joined, coming_same, joined, none_answered}
+use Rattle.h2_get.proofs.SeveralParts.{coming_joined, coming_same, none_answered, parts_joined}
 use Rattle.h2_get.proofs.SeveralParts.{stops_same}
 
 -- The link has not failed where more responses are printed.
@@ -122,7 +122,7 @@ module _ (words : GetWords) (is_first : Bool) (before middle : Traffic) (old sel
         printed_whole last trailers good goes passes trailing values start asked end answered there
             coming =
             let so = comes values start asked end answered there coming in
-            let next = passes values start asked so.1.0.0 (answered_more answered id so.0)
+            let next = passes values start asked so.1.0.0 (answered_more answered id (parts_came so.0))
             (rw ids there) so.1.0.1 in (
               so.0 ++ next.0,
               (
@@ -153,7 +153,7 @@ module _ (words : GetWords) (is_first : Bool) (before middle : Traffic) (old sel
         unfolding HeadOnSo PassedOnSo
         printed_first error passes values start asked end answered there coming =
             let so = comes values start asked end answered there coming in
-            let next = passes values start asked so.1.0.0 (answered_more answered id so.0)
+            let next = passes values start asked so.1.0.0 (answered_more answered id (parts_came so.0))
             (rw ids there) so.1.0.1 in (
               so.0 ++ next.0,
               (
@@ -162,8 +162,8 @@ module _ (words : GetWords) (is_first : Bool) (before middle : Traffic) (old sel
                 shows_head so.0 next.0 head printed so.1.1 (rw (sym is) prints)
                     (rw no_file next.1.1),
               ),
-              stops_same (answered_more answered id (so.0 ++ next.0))
-                  (joined answered id so.0 next.0) next.1.0,
+              stops_same (answered_more answered id (parts_came (so.0 ++ next.0)))
+                  (parts_joined answered id so.0 next.0) next.1.0,
             )
 
         -- Its trailers could not be printed,
@@ -173,7 +173,7 @@ module _ (words : GetWords) (is_first : Bool) (before middle : Traffic) (old sel
         unfolding HeadOnSo PassedOnSo
         trailers_unprinted last trailers passes values start asked end answered there coming =
             let so = comes values start asked end answered there coming in
-            let next = passes values start asked so.1.0.0 (answered_more answered id so.0)
+            let next = passes values start asked so.1.0.0 (answered_more answered id (parts_came so.0))
             (rw ids there) so.1.0.1 in (
               so.0 ++ next.0,
               tt,
@@ -188,7 +188,7 @@ module _ (words : GetWords) (is_first : Bool) (before middle : Traffic) (old sel
         unfolding HeadOnSo PassedOnSo
         body_unprinted passes values start asked end answered there coming =
             let so = comes values start asked end answered there coming in
-            let next = passes values start asked so.1.0.0 (answered_more answered id so.0)
+            let next = passes values start asked so.1.0.0 (answered_more answered id (parts_came so.0))
             (rw ids there) so.1.0.1 in (
               so.0 ++ next.0,
               tt,

@@ -48,7 +48,7 @@ returns g c =
       | else-loop-place-test w ↦ rw (w.fetch-is, w.link-is, w.out-is, w.results-is)
           (prints_all (asked_by c.args.options.now) _ _ c.args.fetch.now c.loop-place.fetch _ _ _ _
           (sym (take_all c.loop-place.place c.args.fetch.now.ids.items
-          (rw c.streams-place-end.ensures at w.loop-place-test.false))) was.prints)
+          (rw c.streams-place-end.ensures at w.loop-place-test.false))) was.good was.prints)
       | then-loop-place-test+in_ok-push+then-is_last w ↦
           rw (w.fetch-is, w.link-is, w.out-is, w.results-is, w.in_ok-push.ensures.items)
           (prints_last (asked_by c.args.options.now) _ _ _ c.args.fetch.now c.loop-place.fetch _
