@@ -65,7 +65,7 @@ pub get_is_alone : IsAlone get_app
 get_is_alone = record { ready = refl; leaves = refl; free = refl; negates = refl }
 
 -- the first argument of `get` alone is its URL
-only_url : (j : ℕ) (d : Rule) → j < 11
+only_url : (j : ℕ) (d : Rule) → j < 12
     → bytes_eq (slice_index_or get_app.top.rules j d).id (codes "URL") ≡ true → j ≡ 0
 only_url zero d lt same = refl
 only_url (suc zero) d lt same = cc
@@ -78,11 +78,12 @@ only_url (suc (suc (suc (suc (suc (suc (suc zero))))))) d lt same = cc
 only_url (suc (suc (suc (suc (suc (suc (suc (suc zero)))))))) d lt same = cc
 only_url (suc (suc (suc (suc (suc (suc (suc (suc (suc zero))))))))) d lt same = cc
 only_url (suc (suc (suc (suc (suc (suc (suc (suc (suc (suc zero)))))))))) d lt same = cc
-only_url (suc (suc (suc (suc (suc (suc (suc (suc (suc (suc (suc j))))))))))) d lt same =
+only_url (suc (suc (suc (suc (suc (suc (suc (suc (suc (suc (suc zero))))))))))) d lt same = cc
+only_url (suc (suc (suc (suc (suc (suc (suc (suc (suc (suc (suc (suc j)))))))))))) d lt same =
     absurd (omega arith)
 
 -- the seventh argument of `get` alone is its port
-only_get_port : (j : ℕ) (d : Rule) → j < 11
+only_get_port : (j : ℕ) (d : Rule) → j < 12
     → bytes_eq (slice_index_or get_app.top.rules j d).id (codes "port") ≡ true → j ≡ 6
 only_get_port zero d lt same = cc
 only_get_port (suc zero) d lt same = cc
@@ -95,11 +96,12 @@ only_get_port (suc (suc (suc (suc (suc (suc (suc zero))))))) d lt same = cc
 only_get_port (suc (suc (suc (suc (suc (suc (suc (suc zero)))))))) d lt same = cc
 only_get_port (suc (suc (suc (suc (suc (suc (suc (suc (suc zero))))))))) d lt same = cc
 only_get_port (suc (suc (suc (suc (suc (suc (suc (suc (suc (suc zero)))))))))) d lt same = cc
-only_get_port (suc (suc (suc (suc (suc (suc (suc (suc (suc (suc (suc j))))))))))) d lt same =
+only_get_port (suc (suc (suc (suc (suc (suc (suc (suc (suc (suc (suc zero))))))))))) d lt same = cc
+only_get_port (suc (suc (suc (suc (suc (suc (suc (suc (suc (suc (suc (suc j)))))))))))) d lt same =
     absurd (omega arith)
 
 -- the tenth argument of `get` alone is its time-out
-only_timeout : (j : ℕ) (d : Rule) → j < 11
+only_timeout : (j : ℕ) (d : Rule) → j < 12
     → bytes_eq (slice_index_or get_app.top.rules j d).id (codes "timeout") ≡ true → j ≡ 9
 only_timeout zero d lt same = cc
 only_timeout (suc zero) d lt same = cc
@@ -112,7 +114,8 @@ only_timeout (suc (suc (suc (suc (suc (suc (suc zero))))))) d lt same = cc
 only_timeout (suc (suc (suc (suc (suc (suc (suc (suc zero)))))))) d lt same = cc
 only_timeout (suc (suc (suc (suc (suc (suc (suc (suc (suc zero))))))))) d lt same = refl
 only_timeout (suc (suc (suc (suc (suc (suc (suc (suc (suc (suc zero)))))))))) d lt same = cc
-only_timeout (suc (suc (suc (suc (suc (suc (suc (suc (suc (suc (suc j))))))))))) d lt same =
+only_timeout (suc (suc (suc (suc (suc (suc (suc (suc (suc (suc (suc zero))))))))))) d lt same = cc
+only_timeout (suc (suc (suc (suc (suc (suc (suc (suc (suc (suc (suc (suc j)))))))))))) d lt same =
     absurd (omega arith)
 
 pub get_wants_url : IsRequiredAt get_app 0 (required_rule (codes "URL"))

@@ -226,11 +226,16 @@ streaming_app = with_rule (with_rule asking_app (text_option_rule (codes "output
 abbrev pub verbose_rule : Rule
 verbose_rule = record (flag_rule (codes "verbose")) { short = Some 118 }
 
--- the same with `[--timeout SECONDS] [-v]`; the seconds are from 1 to 65,535
+-- more URLs, after the first one
+abbrev pub others_rule : Rule
+others_rule = record (new_rule (codes "URLS")) { value_names = 1; action = Some Append }
+
+-- the same with `[--timeout SECONDS] [-v]` and more URLs; the seconds are from 1 to 65,535
 -- rule: engines (own) serve, get and loop have their words
 abbrev pub get_app : App
-get_app = with_rule (with_rule streaming_app (number_option_rule (codes "timeout") 1 65535))
-    verbose_rule
+get_app = with_rule
+    (with_rule (with_rule streaming_app (number_option_rule (codes "timeout") 1 65535))
+    verbose_rule) others_rule
 
 -- `loop N [--each-way]`; the number is from 0 to 1,048,576
 -- rule: engines (own) serve, get and loop have their words

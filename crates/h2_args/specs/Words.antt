@@ -239,6 +239,7 @@ pub record GetWords : Type 0 where
   pub stream : Bool
   pub timeout : Option ℕ
   pub verbose : Bool
+  pub others : List Text
 
 -- the number that an option's value writes in decimal digits, where it is given
 abbrev pub number_if : Option Text → Option ℕ
@@ -258,6 +259,7 @@ get_words_in rows = record {
   stream = is_set (one_of (codes "stream") rows);
   timeout = number_if (one_of (codes "timeout") rows);
   verbose = is_set (one_of (codes "verbose") rows);
+  others = unwrap_or (all_of (codes "URLS") rows) [];
 }
 
 -- What the words after `get` ask for, if they have no fault.
@@ -279,6 +281,7 @@ asked_by options = record {
   stream = options.stream;
   timeout = options.timeout;
   verbose = options.verbose;
+  others = map (λ url. url.now) options.others.items;
 }
 
 -- the kinds of error that the words after `get` may have

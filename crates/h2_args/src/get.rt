@@ -5,7 +5,7 @@ ghost use Rattle.std.specs.Prelude.{[], string_bytes, unwrap_or};
 ghost use Rattle.clap.specs.Words.{HasKind, all_of, app_of, found_of, rows_of, rule_of};
 ghost use Rattle.h2_args.specs.Commands.{asking_app, flag_rule, get_app, header_rule, include_rule};
 ghost use Rattle.h2_args.specs.Commands.{number_option_rule, streaming_app, text_option_rule};
-ghost use Rattle.h2_args.specs.Commands.{url_and_print_app, verbose_rule};
+ghost use Rattle.h2_args.specs.Commands.{others_rule, url_and_print_app, verbose_rule};
 ghost use Rattle.h2_args.specs.Words.{asked_by, get_faults, get_words_of};
 
 use crate::options::{CommandText, flag_arg, is_set, named_command};
@@ -39,6 +39,8 @@ pub struct GetOptions<'a> {
     pub timeout: Option<u16>,
     /// Whether the frames of both sides are printed on standard error as they come.
     pub verbose: bool,
+    /// More URLs after the first one.
+    pub others: Vec<&'a str>,
 }
 
 // contract: engines (own) serve, get and loop have their words
@@ -64,6 +66,7 @@ pub fn get_args<'a>(alloc: Global, words: &'a [String]) -> Result<GetOptions<'a>
         unreachable!();
     };
     let fields = texts_of(alloc, &matches, HEADER)?;
+    let others = texts_of(alloc, &matches, OTHERS)?;
     Ok(GetOptions {
         url,
         include: is_set(&matches, INCLUDE),
@@ -76,6 +79,7 @@ pub fn get_args<'a>(alloc: Global, words: &'a [String]) -> Result<GetOptions<'a>
         stream: is_set(&matches, STREAM),
         timeout: matches.get_one::<u16>(TIMEOUT),
         verbose: is_set(&matches, VERBOSE),
+        others,
     })
 }
 
@@ -97,6 +101,11 @@ fn texts_of<'a>(
 const URL: &str = "URL";
 
 const URL_HELP: &str = "http://HOST:PORT/PATH?QUERY";
+
+const OTHERS: &str = "URLS";
+
+const OTHERS_HELP: &str = r"More of the same host and port, asked for at once
+over the same connection";
 
 const INCLUDE: &str = "include";
 
@@ -158,13 +167,20 @@ aren't printed, nor are trailers without --include. It follows no redirection.
 Without --timeout it waits for a server that stays idle; with it, it gives up so
 many seconds after it began to connect, but while a name is looked up.
 
-Without --output, --stream and --verbose the body is kept until the response is
-complete, and nothing is printed of one that isn't. With any of them the body
-goes out as it comes, with --output into the file, and little of it is kept:
-where the response is reset or cut off, what came before stands in the file or
-was printed. A file is made, or emptied where it is there, once the response's
-head has come, and not where --fail makes it a failure; then no more of the
-response is fetched either. A FILE of - is a file of that name.
+Several URLs are asked for at once, each with the same fields and the same body.
+Their responses are printed in the order of the URLs, each after a line end but
+the first. The one that is printed goes out as it comes, as with --stream; what
+comes of later ones meanwhile is kept. One that is reset, or fails by --fail,
+ends no other; the status is that of the first that failed.
+
+With one URL, and without --output, --stream and --verbose, the body is kept
+until the response is complete, and nothing is printed of one that isn't. With
+any of them the body goes out as it comes, with --output into the file, and
+little of it is kept: where the response is reset or cut off, what came before
+stands in the file or was printed. A file is made, or emptied where it is there,
+once the response's head has come, and not where --fail makes it a failure; then
+no more of the response is fetched either. A FILE of - is a file of that name.
+With several URLs there is no --output.
 
 With --verbose a frame has its line on standard error as it is sent, after `> `,
 or as it has come, after `< `, as h2 show --follow prints it. With --output, and
@@ -227,6 +243,17 @@ fn text_arg<'a>(
         .help(help)
 }
 
+// The argument of more URLs.
+fn others_arg<'a>(alloc: Global) -> Arg<'a>
+    ensures rule { rule_of result ≡ others_rule }
+    ensures local { result.global ≡ false }
+{
+    Arg::new(alloc, OTHERS)
+        .value_name("URL")
+        .help(OTHERS_HELP)
+        .action(ArgAction::Append)
+}
+
 // The flag for the frames of both sides.
 fn verbose_arg<'a>(alloc: Global) -> Arg<'a>
     ensures rule { rule_of result ≡ verbose_rule }
@@ -276,8 +303,8 @@ fn fetching_command<'a>(alloc: Global) -> Result<Command<'a>, AllocError>
 {
     let text = CommandText {
         called: "h2 get",
-        about: "Fetches a URL, and prints the status and the body",
-        usage: "h2 get [OPTIONS] URL",
+        about: "Fetches URLs, and prints the status and the body of each",
+        usage: "h2 get [OPTIONS] URL [URL]...",
         more: FETCHED_AND_STATUSES,
     };
     named_command(alloc, "get", text)?
@@ -312,5 +339,6 @@ pub(super) fn get_command<'a>(alloc: Global) -> Result<Command<'a>, AllocError>
 {
     streaming_command(alloc)?
         .arg(number_option(alloc, TIMEOUT, "SECONDS", TIMEOUT_HELP))?
-        .arg(verbose_arg(alloc))
+        .arg(verbose_arg(alloc))?
+        .arg(others_arg(alloc))
 }

@@ -1,5 +1,8 @@
 pub mod Appending
 mod Bodies
 mod Receiving
+mod SeveralInOrder
+mod SeveralParts
+mod SeveralPrinting
 mod StreamLemmas
 pub mod examples

@@ -1,19 +1,18 @@
 -- How the parts of a response that come one after another are passed on.
-use Rattle.std.proofs.Common.{◌≡◌, ◌≢◌, ◌<◌, ◌≤◌, ℕ, ◌+◌, ◌-◌, ◌^◌, Bool, true, false, List, []}
+use Rattle.std.proofs.Common.{◌≡◌, ◌<◌, ◌≤◌, ℕ, ◌+◌, ◌-◌, ◌^◌, false, List, []}
 use Rattle.std.proofs.Common.{◌∷◌}
-use Rattle.std.proofs.Common.{◌++◌, length, take, Option, Some, None, Result, Ok, Err, refl, sym}
+use Rattle.std.proofs.Common.{◌++◌, length, take, Option, Some, None, Ok, Err, refl, sym}
 use Rattle.std.proofs.Common.{ap}
 use Rattle.std.proofs.Common.{◌∙◌, subst, arith, append-nil, append_assoc, inr, Vec, Global}
 use Rattle.std.proofs.Common.{length-append}
 use Rattle.std.proofs.KnownBytes.{Appends-nil, Appends-trans}
 use Rattle.std.proofs.Math.Seq.{take-append-add}
 use Rattle.std.specs.Io.KnownBytes.{Appends}
-use Rattle.std.specs.List.{AllByRecursion}
 use Rattle.hpack.specs.declared.types.field.Field.{Field}
 use Rattle.h2_spec_log.specs.Acts.{Values}
 use Rattle.h2_message.specs.Messages.{SentMessage}
 use Rattle.h2_ends.specs.Ends.{EndLog, Handed, InterimHanded, HeadHanded, BodyHanded}
-use Rattle.h2_ends.specs.Ends.{Passed as EventPassed, TrailersHanded}
+use Rattle.h2_ends.specs.Ends.{TrailersHanded}
 use Rattle.h2_link.specs.declared.error.LinkError.{LinkError}
 use Rattle.h2_link.specs.declared.error.LinkError.TheVariants as errors
 use Rattle.h2_engines.specs.Linked.{Traffic}
@@ -25,9 +24,8 @@ use Rattle.h2_fetch.specs.Comings.{AnswersNext, ComesSo, HandsSince, HasStopped,
 use Rattle.h2_fetch.specs.Parts.{handed_of, handed_on}
 use Rattle.h2_get.specs.declared.pass_error.PassError.{PassError}
 use Rattle.h2_get.specs.declared.pass_error.PassError.TheVariants as passes
-use Rattle.h2_get.specs.declared.pass_error.Passed.{Passed}
 use Rattle.h2_get.specs.declared.pass_error.ResponseHead.{ResponseHead}
-use Rattle.h2_get.specs.declared.pass_error.Passed.TheVariants.{GoesOn, Whole}
+use Rattle.h2_get.specs.declared.pass_error.Passed.TheVariants.{Whole}
 use Rattle.h2_get.specs.Receives.{HeadComes, EndsBody, EndsResponse, HasNoHead, HeadComesSo}
 use Rattle.h2_get.specs.Receives.{PassedSo, PassesBody, PassesPart, body_handed, body_of_part}
 use Rattle.h2_get.specs.Receives.{fields_in_trailers, head_in, is_head}
@@ -49,7 +47,7 @@ body_one id (parts.Head list end) = refl
 body_one id (parts.Body octets end) = append-nil octets.items
 body_one id (parts.Trailers list) = refl
 
-body_and_one : (id : ℕ) (came : List Handed) (part : ResponsePart)
+pub body_and_one : (id : ℕ) (came : List Handed) (part : ResponsePart)
     → body_handed (came ++ handed_of id part ∷ []) ≡ body_handed came ++ body_of_part part
 body_and_one id came part =
     body_append came (handed_of id part ∷ [])
@@ -183,7 +181,7 @@ writes_one id start before after part writes came written =
     (Appends-trans start before after _ _ written writes)
 
 -- The part that ends a response is the last one.
-ends_body : (id : ℕ) (came : List Handed) (part : ResponsePart)
+pub ends_body : (id : ℕ) (came : List Handed) (part : ResponsePart)
     (trailers : Option (Vec Field Global)) → EndsResponse part (fields_in_trailers trailers)
     → EndsBody id (came ++ handed_of id part ∷ []) (fields_in_trailers trailers)
 ends_body id came (parts.Interim list) trailers ends = absurd ends
@@ -285,7 +283,7 @@ follows_no_head id (parts.Trailers list) not came none =
     no_heads came (TrailersHanded id list.items) refl none
 
 -- A part that is one is handed out as one.
-handed_head : (id : ℕ) (part : ResponsePart) (head : ResponseHead) → head_in part ≡ Some head
+pub handed_head : (id : ℕ) (part : ResponsePart) (head : ResponseHead) → head_in part ≡ Some head
     → handed_of id part ≡ HeadHanded id head.list.items head.end
 handed_head id (parts.Interim list) head is = absurd (cc)
 handed_head id (parts.Head list end) head is =

@@ -1,20 +1,17 @@
 -- How a response is printed as it comes.
-use Rattle.std.proofs.Common.{◌≡◌, ◌∙◌, ℕ, Bool, true, false, List, [], ◌∷◌, ◌++◌, codes, length}
-use Rattle.std.proofs.Common.{if◌then◌else◌, is_some, option_map, Option, Some, None, Result, Ok}
+use Rattle.std.proofs.Common.{◌≡◌, ◌∙◌, ℕ, Bool, true, false, List, [], ◌++◌}
+use Rattle.std.proofs.Common.{if◌then◌else◌, is_some, Option, None, Ok}
 use Rattle.std.proofs.Common.{Err}
 use Rattle.std.proofs.Common.{Vec, Global, refl, sym, ap, subst, append-nil, append_assoc}
 use Rattle.std.specs.Io.KnownBytes.{Appends}
 use Rattle.std.proofs.KnownBytes.{Appends-nil, Appends-trans}
 use Rattle.hpack.specs.declared.types.field.Field.{Field}
-use Rattle.h2_spec_log.specs.Acts.{Values}
 use Rattle.h2_message.specs.Fields.{status_of}
-use Rattle.h2_message.specs.Messages.{SentMessage}
 use Rattle.h2_ends.specs.Ends.{EndLog, Handed}
 use Rattle.h2_link.specs.declared.error.LinkError.{LinkError}
 use Rattle.h2_engines.specs.Linked.{Traffic}
 use Rattle.h2_engines.specs.declared.fetcher.Fetched.{Fetched}
 use Rattle.h2_fetch.specs.declared.fetch.PartFetch.{PartFetch}
-use Rattle.h2_fetch.specs.Comings.{HandsSince, HasStopped, IsComing}
 use Rattle.h2_fetch.specs.Parts.{handed_on}
 use Rattle.h2_net.specs.Printing.{status_line}
 use Rattle.h2_args.specs.Words.{GetWords}
@@ -25,9 +22,9 @@ use Rattle.h2_get.specs.declared.pass_error.StreamError.TheVariants as streams
 use Rattle.h2_get.specs.Receives.{HeadComes, HeadComesSo, PassedSo, PassesBody, body_handed}
 use Rattle.h2_get.specs.Receives.{fields_in_trailers}
 use Rattle.h2_get.specs.Responses.{PrintsAsked, body_printed, fails_as_asked, fields_printed}
-use Rattle.h2_get.specs.Responses.{rest_printed, trailers_shown}
-use Rattle.h2_get.specs.Streams.{PrintsHead, ShownSo, ShowsFailure, ShowsRest, ShowsSoFar}
-use Rattle.h2_get.specs.Streams.{ShowsWhole, StreamedSo, StreamsResponse, body_shown}
+use Rattle.h2_get.specs.Responses.{trailers_shown}
+use Rattle.h2_get.specs.Streams.{PrintsHead, ShownSo, ShowsRest}
+use Rattle.h2_get.specs.Streams.{StreamedSo, StreamsResponse}
 use Rattle.h2_get.specs.Streams.{shows_head, shows_nothing}
 
 -- Of no octets none are shown.

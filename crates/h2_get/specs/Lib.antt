@@ -3,3 +3,4 @@ pub mod Receives
 pub mod Requests
 pub mod Responses
 pub mod Streams
+pub mod Several

@@ -1,5 +1,5 @@
 -- The body of a response that is written as it comes.
-use Rattle.std.specs.Prelude.{◌≡◌, ◌<◌, ◌-◌, ℕ, ◌+◌, Bool, true, false, List, [], ◌∷◌, ◌++◌}
+use Rattle.std.specs.Prelude.{◌≡◌, ◌<◌, ℕ, Bool, true, false, List, [], ◌∷◌, ◌++◌}
 use Rattle.std.specs.Prelude.{◌==◌, if◌then◌else◌, length, take, option_map, Option, Some, None}
 use Rattle.std.specs.Prelude.{Result, Ok, Err}
 use Rattle.std.specs.List.{AllByRecursion}
@@ -10,10 +10,9 @@ use Rattle.hpack.specs.declared.types.field.Field.{Field}
 use Rattle.h2_spec_log.specs.Acts.{Values}
 use Rattle.h2_spec_log.specs.Events.{Event, DataEvent}
 use Rattle.h2_message.specs.Messages.{SentMessage}
-use Rattle.h2_ends.specs.Ends.{EndLog, Handed, InterimHanded, HeadHanded, BodyHanded}
+use Rattle.h2_ends.specs.Ends.{EndLog, Handed, HeadHanded, BodyHanded}
 use Rattle.h2_ends.specs.Ends.{TrailersHanded}
 use Rattle.h2_link.specs.declared.error.LinkError.{LinkError}
-use Rattle.h2_link.specs.declared.error.LinkError.TheVariants as errors
 use Rattle.h2_engines.specs.Failures.{failures_by}
 use Rattle.h2_engines.specs.Linked.{Traffic}
 use Rattle.h2_fetch.specs.declared.fetch.PartFetch.{PartFetch}

@@ -1,6 +1,6 @@
 -- What is printed of a response that is printed as it comes, by the words after `get`.
-use Rattle.std.specs.Prelude.{◌≡◌, ◌≢◌, ◌⊎◌, ℕ, Bool, true, false, List, [], ◌∷◌, ◌++◌, codes}
-use Rattle.std.specs.Prelude.{if◌then◌else◌, is_some, option_map, Option, Some, None, Result, Ok}
+use Rattle.std.specs.Prelude.{◌≡◌, ◌≢◌, ◌⊎◌, ℕ, Bool, true, false, List, [], ◌++◌, codes}
+use Rattle.std.specs.Prelude.{if◌then◌else◌, is_some, Option, None, Result, Ok}
 use Rattle.std.specs.Prelude.{Err}
 use Rattle.std.specs.Prelude.{Vec, MatchBool}
 use Rattle.std.specs.Global.{Global}
@@ -21,13 +21,11 @@ use Rattle.h2_fetch.specs.Parts.{handed_on}
 use Rattle.h2_net.specs.Fetching.{default_values}
 use Rattle.h2_net.specs.Printing.{IsPhraseOf, status_line}
 use Rattle.h2_args.specs.Words.{GetWords}
-use Rattle.h2_get.specs.declared.pass_error.PassError.{PassError}
-use Rattle.h2_get.specs.declared.pass_error.PassError.TheVariants as passes
 use Rattle.h2_get.specs.declared.pass_error.ResponseHead.{ResponseHead}
 use Rattle.h2_get.specs.declared.pass_error.StreamEnding.{StreamEnding}
 use Rattle.h2_get.specs.declared.pass_error.StreamError.{StreamError}
 use Rattle.h2_get.specs.declared.pass_error.StreamError.TheVariants as streams
-use Rattle.h2_get.specs.Receives.{EndsBody, HasNoHead, HeadCame, PassesBody, body_handed}
+use Rattle.h2_get.specs.Receives.{EndsBody, HasNoHead, HeadCame, body_handed}
 use Rattle.h2_get.specs.Receives.{fields_in_trailers}
 use Rattle.h2_get.specs.Responses.{fails_as_asked, response_lines, trailers_shown}
 

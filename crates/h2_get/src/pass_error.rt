@@ -3,7 +3,7 @@
 ghost use Rattle.std.specs.Prelude.{◌≡◌};
 
 use h2_message::Field;
-use h2_net::{Ending, Hint, LinkError, Why};
+use h2_net::{Ending, Fetched, Hint, LinkError, Why};
 
 /// Why the body of a response was not passed on whole.
 #[derive(Clone, Copy, Debug, PartialEq, Eq)]
@@ -72,6 +72,17 @@ impl StreamEnding {
             why: None,
         }
     }
+}
+
+/// What came of several requests that were made at once over one connection.
+#[derive(Debug, Drop)]
+pub struct SeveralStreamed {
+    /// What came of each, in the order of the requests, up to one that has ended all.
+    pub results: Vec<Result<Fetched, StreamError>>,
+    /// What is likely the cause, where the last of them has ended all, and it is known.
+    pub hint: Option<Hint>,
+    /// Why the connection has failed, if it has.
+    pub why: Option<Why>,
 }
 
 /// The head of a response.

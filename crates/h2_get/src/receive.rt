@@ -46,7 +46,7 @@ pub fn next_head<L: Link>(fetch: &mut PartFetch, link: &mut L) -> Result<Respons
 }
 
 /// The head, if a part of a response is one that isn't interim.
-fn head_in(part: ResponsePart) -> Option<ResponseHead>
+pub(crate) fn head_in(part: ResponsePart) -> Option<ResponseHead>
     ensures { result ≡ head_in part }
 {
     match part {
@@ -113,7 +113,7 @@ pub(crate) fn pass_all<L: Link, W: Write>(
 // rule: engines (own) get -o and --stream write the body as it comes, in order
 /// Writes the octets of a part of a response, if it is one of the body, and says whether the
 /// response is whole with it, and then its trailers.
-fn pass_part<W: Write>(part: ResponsePart, out: &mut W) -> Result<Passed, PassError>
+pub(crate) fn pass_part<W: Write>(part: ResponsePart, out: &mut W) -> Result<Passed, PassError>
     ensures { PassesPart part (W.contents out.old) (W.contents out.new) result }
 {
     match part {

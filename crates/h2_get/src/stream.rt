@@ -67,7 +67,7 @@ pub fn stream_response<F: Files + Clock, L: Link, W: Write, E: Write>(
 }
 
 /// A response with this head, and nothing else.
-fn fetched_with(alloc: Global, head: Vec<Field>) -> Fetched
+pub(crate) fn fetched_with(alloc: Global, head: Vec<Field>) -> Fetched
     ensures head { result.head ≡ head }
     ensures body { result.body.items ≡ [] }
     ensures trailers { result.trailers ≡ None }
@@ -81,7 +81,7 @@ fn fetched_with(alloc: Global, head: Vec<Field>) -> Fetched
 }
 
 /// Prints the head of a response of which nothing else is known.
-fn print_head<W: Write>(
+pub(crate) fn print_head<W: Write>(
     options: &GetOptions<'_>,
     fetched: &Fetched,
     out: &mut W,
@@ -99,7 +99,7 @@ fn print_head<W: Write>(
 }
 
 /// Prints the trailers that follow a body, if it has any, where the options ask for fields.
-fn print_last<W: Write>(
+pub(crate) fn print_last<W: Write>(
     include: bool,
     trailers: &Option<Vec<Field>>,
     out: &mut W,

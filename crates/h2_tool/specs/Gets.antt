@@ -1,10 +1,10 @@
--- How `h2 get` ends, by the words that follow it.
-use Rattle.std.specs.Prelude.{◌≡◌, ◌≢◌, ◌⊎◌, ℕ, Bool, true, false, List, Option, Some, Result, Ok}
+-- How `h2 get` ends with one URL, by the words that follow it.
+use Rattle.std.specs.Prelude.{◌≡◌, ◌≢◌, ◌⊎◌, ℕ, Bool, true, false, List, Option, Result, Ok}
 use Rattle.std.specs.Prelude.{Err, MatchBool, is_some, ◌||◌}
 use Rattle.h2_cli.specs.declared.status.Status.{Status}
 use Rattle.h2_cli.specs.declared.status.Status.TheVariants.{Good, Fault, Usage, Device, Memory}
 use Rattle.h2_message.specs.Messages.{SentMessage}
-use Rattle.h2_args.specs.Words.{GetWords, get_words_of, get_faults}
+use Rattle.h2_args.specs.Words.{GetWords}
 use Rattle.h2_link.specs.declared.error.LinkError.{LinkError}
 use Rattle.h2_engines.specs.declared.fetcher.Fetched.{Fetched}
 use Rattle.h2_net.specs.declared.location.Location.{Location}
@@ -23,7 +23,6 @@ use Rattle.h2_get.specs.Requests.{IsAskable, IsBodyAsked, IsRefusedRequest, begi
 use Rattle.h2_get.specs.Requests.{body_word, request_asked}
 use Rattle.h2_get.specs.Responses.{PrintsAsked, fails_as_asked}
 use Rattle.h2_get.specs.Streams.{StreamsRequest}
-use Rattle.h2_tool.specs.Commands.{EndsByWords}
 
 -- The location that the words name was fetched with the request that they ask for, with this
 -- result, where standard input has these octets.
@@ -216,18 +215,9 @@ AsksSo words message before after status = MatchBool (is_in_parts words)
     ((got : Result Fetched LinkError) × FetchesRequest message got
     × EndsWithFetch words got before after status)
 
--- How words that have no fault end, by whether they ask for the body as it comes.
+-- How words that have no fault and name one URL end, by whether they ask for the body as it comes.
 -- rule: engines (own) serve, get and loop have their words
 abbrev pub GetsOrStreams : GetWords → (remaining before after : Option (List ℕ)) → Status → Type 0
 GetsOrStreams words remaining before after status =
     MatchBool (is_in_parts words) (StreamsSo words remaining before after status)
     (GetsSo words remaining before after status)
-
--- How `h2 get` ends.
--- rule: engines (own) serve, get and loop have their words
-abbrev pub EndsGet : (words : List (List ℕ)) → (remaining before after : Option (List ℕ)) → Status
-    → Type 0
-EndsGet words remaining before after status =
-    ((asked : GetWords) × (get_words_of words ≡ Some asked)
-    × GetsOrStreams asked remaining before after status)
-    ⊎ EndsByWords (get_faults words) before after status

@@ -1,3 +1,4 @@
 pub mod Commands
 pub mod Gets
+pub mod GetsSeveral
 pub mod Rates

@@ -1,6 +1,6 @@
 //! The command `h2 get`.
 
-ghost use Rattle.std.specs.Prelude.{◌≡◌, Ok, Err, if◌then◌else◌, is_ok, map, string_bytes};
+ghost use Rattle.std.specs.Prelude.{◌≡◌, Ok, Err, false, if◌then◌else◌, is_ok, map, string_bytes};
 ghost use Rattle.h2_cli.specs.declared.status.Status.TheVariants.{Device, Fault, Good, Usage};
 ghost use Rattle.h2_net.specs.Endings.{status_with, without_hint};
 ghost use Rattle.h2_args.specs.Words.{asked_by};
@@ -8,9 +8,12 @@ ghost use Rattle.h2_get.specs.Responses.{fails_as_asked};
 ghost use Rattle.h2_get.specs.Streams.{without_stream_hint};
 ghost use Rattle.h2_tool.specs.Commands.{ReadNoInput};
 ghost use Rattle.h2_message.specs.Values.{message_value};
-ghost use Rattle.h2_tool.specs.Gets.{AsksSo, EndsGet, EndsWithFetch, EndsWithStream};
+ghost use Rattle.h2_get.specs.Requests.{reads_input};
+ghost use Rattle.h2_tool.specs.Gets.{AsksSo, EndsWithFetch, EndsWithStream, GetsOrStreams};
 ghost use Rattle.h2_tool.specs.Gets.{RefusesBody, RefusesRequest, RefusesUrl, is_in_parts};
+ghost use Rattle.h2_tool.specs.GetsSeveral.{EndsGet};
 
+use crate::get_several::{get_several, has_others};
 use crate::program::{answer, give_up};
 use crate::show::end_unopened;
 use h2_args::{GetOptions, get_args};
@@ -34,14 +37,15 @@ use std::time::Clock;
 /// Runs `h2 get` with the words after `get`: fetches a URL with the request that the words ask for,
 /// whose body a file or `input` gives where they say so, and prints the status with its phrase, the
 /// fields where the words ask for them, and the body; as it comes, or into a file, where they ask for
-/// that. With `has_progress` a line on standard error says how much of a file has come; with
-/// `--verbose` the frames of both sides stand there. A fetch that fails, or isn't done in the time that they give, has a line on standard error,
-/// and a hint where the cause is known.
+/// that. Several URLs are asked for at once over one connection, and their responses are printed one
+/// after another. With `has_progress` a line on standard error says how much of a file has come; with
+/// `--verbose` the frames of both sides stand there. A fetch that fails, or isn't done in the time
+/// that they give, has a line on standard error, and a hint where the cause is known.
 ///
 /// The status is [`Status::Good`] for a response that has come, whatever its own status is, and for
 /// help; [`Status::Fault`] for a response that the words make a failure; [`Status::Usage`] for
 /// wrong words, a URL that can't be fetched and a request that breaks a rule; and else that of
-/// [`h2_net::status_of`].
+/// [`h2_net::status_of`]. Of several responses it is that of the first that has failed.
 pub fn cmd_get<N: Net + Files + Clock + Copy, R: Read, W: Write, E: Write>(
     net: &N,
     alloc: Global,
@@ -62,22 +66,46 @@ where
         Ok(options) => options,
         Err(error) => return answer(&error, out, err),
     };
+    if has_others(&options) {
+        return get_several(net, alloc, &options, input, out, err);
+    }
+    get_one(net, alloc, &options, has_progress, input, out, err)
+}
+
+// rule: engines (own) The words of get make its request and say what is printed
+// Fetches the URL of the options, if they name one, and prints the response, as they ask.
+fn get_one<N: Net + Files + Clock + Copy, R: Read, W: Write, E: Write>(
+    net: &N,
+    alloc: Global,
+    options: &GetOptions<'_>,
+    has_progress: bool,
+    input: &mut R,
+    out: &mut W,
+    err: &mut E,
+) -> Status
+where
+    N::Stream: WriteParts,
+    ensures ends { GetsOrStreams (asked_by options.now) (R.remaining input.old)
+        (W.contents out.old) (W.contents out.new) result }
+    ensures unread { reads_input (asked_by options.now) ≡ false
+        → R.remaining input.new ≡ R.remaining input.old }
+{
     let location = match location_at(alloc, options.url.as_bytes(), options.port) {
         Ok(location) => location,
         Err(fault) => return refuse_url(fault, options.port, err),
     };
-    let body = match body_of(net, alloc, &options, input) {
+    let body = match body_of(net, alloc, options, input) {
         Ok(body) => body,
-        Err(fault) => return refuse_body(fault, &options, err),
+        Err(fault) => return refuse_body(fault, options, err),
     };
-    let message = match request_of(alloc, &options, &location, body) {
+    let message = match request_of(alloc, options, &location, body) {
         Ok(message) => message,
         Err(fault) => return refuse_request(fault, err),
     };
     ask_in_time(
         net,
         alloc,
-        &options,
+        options,
         &location,
         message,
         has_progress,
@@ -168,7 +196,7 @@ where
 }
 
 // Whether there is a deadline, and it is over.
-fn is_over<C: Clock>(clock: &C, limit: Option<Deadline>) -> bool {
+pub(crate) fn is_over<C: Clock>(clock: &C, limit: Option<Deadline>) -> bool {
     match limit {
         Some(deadline) => deadline.is_over(clock),
         None => false,
@@ -253,7 +281,7 @@ fn end_fetched<W: Write, E: Write>(
 // rule: engines (own) N1 to N7 end a command with their statuses
 // Prints on standard error how a response ends that was printed as it came, if it is a failure or
 // has ended early.
-fn end_stream<E: Write>(
+pub(crate) fn end_stream<E: Write>(
     options: &GetOptions<'_>,
     got: Result<Fetched, StreamEnding>,
     is_late: bool,
@@ -269,7 +297,7 @@ fn end_stream<E: Write>(
 
 // rule: engines (own) N1 to N7 end a command with their statuses
 // Prints on standard error why a response was not printed whole.
-fn end_unstreamed<E: Write>(
+pub(crate) fn end_unstreamed<E: Write>(
     options: &GetOptions<'_>,
     ending: StreamEnding,
     is_late: bool,
@@ -310,7 +338,7 @@ fn end_response<E: Write>(options: &GetOptions<'_>, fetched: &Fetched, err: &mut
 // rule (tested): engines (own) A hint names --port, and says that fields are too many
 // Prints on standard error why a URL can't be fetched, and where it names no port and no word does
 // either, which word could.
-fn refuse_url<E: Write>(fault: TargetFault, port: Option<u16>, err: &mut E) -> Status
+pub(crate) fn refuse_url<E: Write>(fault: TargetFault, port: Option<u16>, err: &mut E) -> Status
     ensures { RefusesUrl fault result }
 {
     if fault == TargetFault::Memory {
@@ -325,7 +353,11 @@ fn refuse_url<E: Write>(fault: TargetFault, port: Option<u16>, err: &mut E) -> S
 
 // rule: engines (own) The words of get make its request and say what is printed
 // Prints on standard error that the body can't be read, and which file it is.
-fn refuse_body<E: Write>(fault: BodyFault, options: &GetOptions<'_>, err: &mut E) -> Status
+pub(crate) fn refuse_body<E: Write>(
+    fault: BodyFault,
+    options: &GetOptions<'_>,
+    err: &mut E,
+) -> Status
     ensures { RefusesBody fault result }
 {
     match fault {
@@ -340,7 +372,7 @@ fn refuse_body<E: Write>(fault: BodyFault, options: &GetOptions<'_>, err: &mut E
 }
 
 // Prints on standard error why no request can be made, with the rule that it would break.
-fn refuse_request<E: Write>(fault: RequestFault, err: &mut E) -> Status
+pub(crate) fn refuse_request<E: Write>(fault: RequestFault, err: &mut E) -> Status
     ensures { RefusesRequest fault result }
 {
     match fault {
@@ -351,7 +383,7 @@ fn refuse_request<E: Write>(fault: RequestFault, err: &mut E) -> Status
 }
 
 // The status after the words were refused on standard error, or that could not be printed.
-fn status_after(printed: io::Result<()>) -> Status
+pub(crate) fn status_after(printed: io::Result<()>) -> Status
     ensures { result ≡ (if is_ok printed then Usage else Device) }
 {
     match printed {

@@ -7,6 +7,7 @@
 
 mod follow;
 mod get;
+mod get_several;
 mod host;
 mod messages;
 mod program;

@@ -5,7 +5,7 @@ ghost use Rattle.clap.specs.Words.{kind_of};
 ghost use Rattle.h2_cli.specs.Status.{failure_status};
 ghost use Rattle.h2_tool.specs.Commands.{AnswersWords, EndsShow, EndsReplay, EndsServe, EndsLoop};
 ghost use Rattle.h2_tool.specs.Commands.{EndsHost, EndsProgram, NamesNoCommand, NamesNoReader};
-ghost use Rattle.h2_tool.specs.Gets.{EndsGet};
+ghost use Rattle.h2_tool.specs.GetsSeveral.{EndsGet};
 
 use crate::get::cmd_get;
 use crate::host::cmd_host;

@@ -18,6 +18,7 @@ url_alone : get_words_of (codes "http://h:1/a" ∷ []) ≡ Some (record {
   stream = false;
   timeout = None;
   verbose = false;
+  others = [];
 })
 unfolding clap_on_literals
 url_alone = refl
@@ -36,6 +37,7 @@ short_words : get_words_of (codes "-i" ∷ codes "-H" ∷ codes "A: b" ∷ codes
       stream = false;
       timeout = None;
       verbose = false;
+      others = [];
     })
 unfolding clap_on_literals
 short_words = refl
@@ -54,12 +56,13 @@ long_words : get_words_of (codes "--include" ∷ codes "--header=a:b" ∷ codes 
       stream = false;
       timeout = None;
       verbose = false;
+      others = [];
     })
 unfolding clap_on_literals
 long_words = refl
 
 parts_words : get_words_of (codes "-o" ∷ codes "a" ∷ codes "--stream" ∷ codes "--timeout=20"
-    ∷ codes "-v" ∷ codes "http://h/" ∷ [])
+    ∷ codes "-v" ∷ codes "http://h/" ∷ codes "http://h/b" ∷ codes "http://h/c" ∷ [])
     ≡ Some (record {
       url = codes "http://h/";
       include = false;
@@ -72,6 +75,7 @@ parts_words : get_words_of (codes "-o" ∷ codes "a" ∷ codes "--stream" ∷ co
       stream = true;
       timeout = Some 20;
       verbose = true;
+      others = codes "http://h/b" ∷ codes "http://h/c" ∷ [];
     })
 unfolding clap_on_literals
 parts_words = refl
@@ -80,7 +84,7 @@ no_url : get_faults (codes "-i" ∷ []) ≡ MissingRequiredArgument ∷ []
 unfolding clap_on_literals
 no_url = refl
 
-two_urls : get_faults (codes "http://h:1/" ∷ codes "http://h:2/" ∷ []) ≡ UnknownArgument ∷ []
+two_urls : get_faults (codes "http://h:1/" ∷ codes "http://h:2/" ∷ []) ≡ []
 unfolding clap_on_literals
 two_urls = refl
 

@@ -65,6 +65,7 @@ url_alone = record {
   stream = false;
   timeout = None;
   verbose = false;
+  others = [];
 }
 
 -- rule: engines (own) A URL is asked for with GET

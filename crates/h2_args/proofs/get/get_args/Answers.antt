@@ -31,10 +31,11 @@ unreachable-requires c =
 same_words : {url url_now : Text} {include include_now : Bool} {fields fields_now : List Text}
     {method method_now body body_now : Option Text} {fail fail_now : Bool}
     {port port_now : Option ℕ} {output output_now : Option Text} {stream stream_now : Bool}
-    {timeout timeout_now : Option ℕ} {verbose verbose_now : Bool} → url ≡ url_now → include ≡ include_now → fields ≡ fields_now
+    {timeout timeout_now : Option ℕ} {verbose verbose_now : Bool}
+    {others others_now : List Text} → url ≡ url_now → include ≡ include_now → fields ≡ fields_now
     → method ≡ method_now → body ≡ body_now → fail ≡ fail_now → port ≡ port_now
     → output ≡ output_now → stream ≡ stream_now → timeout ≡ timeout_now
-    → verbose ≡ verbose_now
+    → verbose ≡ verbose_now → others ≡ others_now
     → ◌≡◌ {A = GetWords} (record {
       url = url;
       include = include;
@@ -47,6 +48,7 @@ same_words : {url url_now : Text} {include include_now : Bool} {fields fields_no
       stream = stream;
       timeout = timeout;
       verbose = verbose;
+      others = others;
     }) (record {
       url = url_now;
       include = include_now;
@@ -59,8 +61,9 @@ same_words : {url url_now : Text} {include include_now : Bool} {fields fields_no
       stream = stream_now;
       timeout = timeout_now;
       verbose = verbose_now;
+      others = others_now;
     })
-same_words a b c d e f g h k l m = λ i. record {
+same_words a b c d e f g h k l m n = λ i. record {
   url = a i;
   include = b i;
   fields = c i;
@@ -72,6 +75,7 @@ same_words a b c d e f g h k l m = λ i. record {
   stream = k i;
   timeout = l i;
   verbose = m i;
+  others = n i;
 }
 
 -- the port is the number that is given, if one is
@@ -127,7 +131,8 @@ returns-clause-ok c =
     c.in_ok-command.ensures refl refl c.in_ok-matches.ensures.matches
     c.in_ok-matches.ensures.kinds ∙ ap Some (same_words url (sym c.is_set.ensures)
     (sym c.in_ok-fields.ensures) method body (sym c.is_set-2.ensures) (sym given.read) output
-    (sym c.is_set-3.ensures) (sym time.read) (sym c.is_set-4.ensures))
+    (sym c.is_set-3.ensures) (sym time.read) (sym c.is_set-4.ensures)
+    (sym c.in_ok-others.ensures))
 
 pub returns-in_err-matches-clause-err : goal.returns-in_err-matches-clause-err
 returns-in_err-matches-clause-err c =

@@ -1,76 +1,33 @@
--- The words, the URL, the body or the request are refused, or the fetch has ended.
-use Rattle.std.proofs.Common.{ℕ, List, subst, inl, inr}
+-- The words are refused, or name one URL, or several.
+use Rattle.std.proofs.Common.{◌∙◌, sym, inl, inr}
 use Rattle.h2_args.specs.Words.{asked_by}
-use Rattle.h2_get.specs.Ports.{IsRefusedAtPort, NamesAtPort}
-use Rattle.h2_tool.specs.Gets.{is_in_parts}
 use Rattle.h2_tool.proofs.WordLemmas.{ends_by_words}
-use Rattle.h2_tool.proofs.GetLemmas.{asks_so, get_asks_nothing, get_has_no_body, get_refuses}
-use Rattle.h2_tool.proofs.GetLemmas.{gets_nothing}
 use Rattle.h2_tool.proofs.get.cmd_get.Goals as goal
 
 pub returns-in-Err-clause-ends : goal.returns-in-Err-clause-ends
 returns-in-Err-clause-ends g c =
     inr (ends_by_words c.in-Err.error _ _ _ c.answer.result c.in-Err.ensures.err c.answer.ensures)
 
-pub returns-in-Err-location_at-clause-ends : goal.returns-in-Err-location_at-clause-ends
-returns-in-Err-location_at-clause-ends g c =
-    let words = asked_by c.in-Ok.options in
+pub returns-then-has_others-clause-ends : goal.returns-then-has_others-clause-ends
+returns-then-has_others-clause-ends g c =
     inl (
-      words,
+      asked_by c.in-Ok.options,
       c.in-Ok.ensures.ok,
-      gets_nothing words _ _ _ c.refuse_url.result (is_in_parts words)
-          (get_refuses words _ _ c.in-Err-location_at.fault c.refuse_url.result
-          (subst (λ (url : List ℕ). IsRefusedAtPort url words.port c.in-Err-location_at.fault)
-          c.as_bytes.ensures.value c.in-Err-location_at.ensures.err) c.refuse_url.ensures),
+      rw (sym c.has_others.ensures ∙ c.if-has_others.true) c.get_several.ensures.ends,
     )
 
-pub returns-in-Err-body_of-clause-ends : goal.returns-in-Err-body_of-clause-ends
-returns-in-Err-body_of-clause-ends g c =
-    let words = asked_by c.in-Ok.options in
-    inl (
-      words,
-      c.in-Ok.ensures.ok,
-      gets_nothing words _ _ _ c.refuse_body.result (is_in_parts words)
-          (get_has_no_body words _ _ c.in-Err-body_of.fault c.refuse_body.result
-          c.in-Err-body_of.ensures.err c.refuse_body.ensures),
-    )
+pub returns-then-has_others-clause-unread : goal.returns-then-has_others-clause-unread
+returns-then-has_others-clause-unread g c = λ none.
+    c.get_several.ensures.unread (none (asked_by c.in-Ok.options) c.in-Ok.ensures.ok)
 
-pub returns-in-Err-body_of-clause-unread : goal.returns-in-Err-body_of-clause-unread
-returns-in-Err-body_of-clause-unread g c = λ none.
-    c.in-Err-body_of.ensures.unread (none (asked_by c.in-Ok.options) c.in-Ok.ensures.ok)
-
-pub returns-in-Err-request_of-clause-ends : goal.returns-in-Err-request_of-clause-ends
-returns-in-Err-request_of-clause-ends g c =
-    let words = asked_by c.in-Ok.options in
-    inl (
-      words,
-      c.in-Ok.ensures.ok,
-      gets_nothing words _ _ _ c.refuse_request.result (is_in_parts words)
-          (get_asks_nothing words _ _ c.in-Ok-location_at.location
-          (subst (λ (url : List ℕ). NamesAtPort url words.port c.in-Ok-location_at.location)
-          c.as_bytes.ensures.value c.in-Ok-location_at.ensures.ok)
-          c.in-Ok-body_of.body.items c.in-Ok-body_of.ensures.body c.in-Err-request_of.fault
-          c.refuse_request.result c.in-Err-request_of.ensures.err c.refuse_request.ensures),
-    )
-
-pub returns-in-Err-request_of-clause-unread : goal.returns-in-Err-request_of-clause-unread
-returns-in-Err-request_of-clause-unread g c = λ none.
-    c.in-Ok-body_of.ensures.unread (none (asked_by c.in-Ok.options) c.in-Ok.ensures.ok)
-
--- The request was made.
 pub returns-clause-ends : goal.returns-clause-ends
 returns-clause-ends g c =
-    let words = asked_by c.in-Ok.options in
     inl (
-      words,
+      asked_by c.in-Ok.options,
       c.in-Ok.ensures.ok,
-      asks_so words _ _ _ c.ask_in_time.result c.in-Ok-location_at.location
-          (subst (λ (url : List ℕ). NamesAtPort url words.port c.in-Ok-location_at.location)
-          c.as_bytes.ensures.value c.in-Ok-location_at.ensures.ok)
-          c.in-Ok-body_of.body.items c.in-Ok-body_of.ensures.body c.in-Ok-request_of.ensures.asked _
-          c.in-Ok-request_of.ensures.ok c.ask_in_time.ensures,
+      rw (sym c.has_others.ensures ∙ c.if-has_others.false) c.get_one.ensures.ends,
     )
 
 pub returns-clause-unread : goal.returns-clause-unread
 returns-clause-unread g c = λ none.
-    c.in-Ok-body_of.ensures.unread (none (asked_by c.in-Ok.options) c.in-Ok.ensures.ok)
+    c.get_one.ensures.unread (none (asked_by c.in-Ok.options) c.in-Ok.ensures.ok)

@@ -2,7 +2,7 @@
 -- command have a fault.
 use Rattle.std.proofs.Common.{◌≡◌, ◌∷◌, ℕ, List, codes, map, refl, string_bytes, subst, rules}
 use Rattle.h2_tool.specs.Commands.{EndsHost, EndsLoop, EndsReplay, EndsShow}
-use Rattle.h2_tool.specs.Gets.{EndsGet}
+use Rattle.h2_tool.specs.GetsSeveral.{EndsGet}
 use Rattle.h2_tool.proofs.ProgramLemmas.{never_pass}
 use Rattle.h2_tool.proofs.WordLemmas.{program_fails}
 use Rattle.h2_tool.proofs.program.run.Goals as goal

@@ -1,0 +1,139 @@
+//! Several locations of one host and port that are fetched at once over one connection and printed
+//! one after another.
+
+ghost use Rattle.std.specs.Prelude.{◌≡◌, ◌⊎◌, IfErr, IfOk, None, map};
+ghost use Rattle.h2_spec_log.specs.Acts.{Values};
+ghost use Rattle.h2_spec_log.specs.Log.{Log};
+ghost use Rattle.h2_conn.specs.Conn.{ConnRepresents};
+ghost use Rattle.h2_conn.specs.Why.{IsWhy};
+ghost use Rattle.h2_message.specs.Values.{message_value};
+ghost use Rattle.h2_fetch.specs.Several.{BeginsSeveral, RefusesOne};
+ghost use Rattle.h2_net.specs.Fetching.{default_values};
+ghost use Rattle.h2_args.specs.Words.{asked_by};
+ghost use Rattle.h2_get.specs.Several.{SeveralOver, StreamsRequests, results_of};
+
+use crate::connect::{connect_to, end_fetch, send_held};
+use crate::pass_error::{SeveralStreamed, StreamEnding, StreamError};
+use crate::several::stream_several;
+use h2_args::GetOptions;
+use h2_engines::{Config, Message};
+use h2_fetch::SeveralFetch;
+use h2_net::{Fetched, LinkError, Location, StreamLink, WriteParts};
+use h2_watch::WatchedLink;
+use std::alloc::{AllocError, Global};
+use std::io::{Read, Write};
+use std::net::{Net, OpenStream};
+
+// contract: engines (own) Several responses are printed in the order of their URLs
+// rule: engines (own) Several responses are printed in the order of their URLs
+// rule: engines (own) get -v shows the frames of both sides as they come
+/// Makes several requests at once over a new connection to the host and the port of a location, and
+/// prints their responses as [`stream_several`] does; and on `err` the frames of both sides, where
+/// the options ask for them. The options name no file.
+///
+/// # Errors
+///
+/// [`StreamError::Link`] where no connection can be made (N1), where the fields of one of the
+/// requests are too many (N7), and when out of memory (N3). What has ended a response stands with
+/// the others. The hint says what is likely the cause of [`h2_net::LinkError::Device`] (N1) and
+/// [`h2_net::LinkError::Stream`] (N2).
+pub fn stream_locations<N: Net, W: Write, E: Write>(
+    net: &N,
+    alloc: Global,
+    options: &GetOptions<'_>,
+    location: &Location,
+    messages: Vec<Message>,
+    out: &mut W,
+    err: &mut E,
+) -> Result<SeveralStreamed, StreamEnding>
+where
+    N::Stream: WriteParts,
+    requires { (asked_by options.now).output ≡ None }
+    ensures { StreamsRequests (asked_by options.now) (map message_value messages.items)
+        (W.contents out.old) (W.contents out.new) (results_of result) }
+{
+    let mut link = match connect_to(net, alloc, location) {
+        Ok(link) => link,
+        Err(ending) => return Err(StreamEnding::of_link(ending)),
+    };
+    let mut fetch = match begin_several(alloc, messages) {
+        Ok(fetch) => fetch,
+        Err(error) => return Err(StreamEnding::of_error(StreamError::Link(error))),
+    };
+    match several_over(alloc, options, &mut fetch, &mut link, out, err) {
+        Ok(results) => Ok(end_several(&fetch, &mut link, results)),
+        Err(_) => Err(StreamEnding::of_error(StreamError::Link(LinkError::Memory))),
+    }
+}
+
+/// A fetch of several responses with a client of the default values.
+fn begin_several(alloc: Global, messages: Vec<Message>) -> Result<SeveralFetch, LinkError>
+    ensures ok { IfOk result (BeginsSeveral default_values (map message_value messages.items)) }
+    ensures refused { IfErr result (RefusesOne default_values
+        (map message_value messages.items)) }
+{
+    SeveralFetch::new(alloc, Config::default(), messages)
+}
+
+// rule: engines (own) get -v shows the frames of both sides as they come
+/// Prints the responses that a fetch answers one after another; and on `err` the frames of both
+/// sides, where the options ask for them.
+fn several_over<S: Read + WriteParts + OpenStream, W: Write, E: Write>(
+    alloc: Global,
+    options: &GetOptions<'_>,
+    fetch: &mut SeveralFetch,
+    link: &mut StreamLink<S>,
+    out: &mut W,
+    err: &mut E,
+) -> Result<Vec<Result<Fetched, StreamError>>, AllocError>
+    requires new { link.old.failures ≡ 0 }
+    requires no_file { (asked_by options.now).output ≡ None }
+    ensures { IfOk result (λ results. SeveralOver (asked_by options.now) fetch.old fetch.new
+        (W.contents out.old) (W.contents out.new) results.items) }
+{
+    if !options.verbose {
+        return stream_several(alloc, options, fetch, link, out);
+    }
+    let mut watched = WatchedLink::new(alloc, link, err);
+    stream_several(alloc, options, fetch, &mut watched, out)
+}
+
+/// What came of several requests, and sends all that is held for them. Where the fetch has ended
+/// early the hint says what is likely the cause, and then why the connection has failed.
+fn end_several<S: Read + WriteParts + OpenStream>(
+    fetch: &SeveralFetch,
+    link: &mut StreamLink<S>,
+    results: Vec<Result<Fetched, StreamError>>,
+) -> SeveralStreamed
+    ensures results { result.results ≡ results }
+    ensures why { (result.why ≡ None) ⊎ ((values : Values) (log : Log)
+        → ConnRepresents values fetch.now.client.end.conn log → IsWhy values log result.why) }
+{
+    match end_of(&results) {
+        Some(error) => {
+            let ending = end_fetch(link, error, fetch.conn().why());
+            SeveralStreamed {
+                results,
+                hint: ending.hint,
+                why: ending.why,
+            }
+        }
+        None => {
+            send_held(link);
+            SeveralStreamed {
+                results,
+                hint: None,
+                why: None,
+            }
+        }
+    }
+}
+
+/// The error with which a fetch has ended early, if it has: that of its last response.
+fn end_of(results: &[Result<Fetched, StreamError>]) -> Option<LinkError> {
+    match results.last() {
+        Some(Err(StreamError::Link(LinkError::Reset(_)))) => None,
+        Some(Err(StreamError::Link(error))) => Some(*error),
+        _ => None,
+    }
+}
