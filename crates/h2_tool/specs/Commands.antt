@@ -133,7 +133,8 @@ pub data ShowsFile (options : ShowOptions) (remaining left before after : Option
       → left ≡ remaining → ShowsFile options remaining left before after status
 
 -- How showing the octets of both sides ends: of readers whose octets are known, and a writer whose
--- contents are, before and after. `Usage` comes only where an input was to be hexadecimal, and isn't.
+-- contents are, before and after. `Usage` comes only where an input was to be hexadecimal, and
+-- isn't.
 -- rule: sides (own) The client's input is shown whole, and then the server's
 abbrev pub SidesSo : ShowOptions → (client server before after : Option (List ℕ)) → Status → Type 0
 SidesSo options client server before after Good =
@@ -193,8 +194,8 @@ pub record ShowsAsAsked (colored : Bool) (words : List (List ℕ))
   pub so : ShowsAsked asked remaining left before after status
 
 -- How `h2 show` ends without `--follow`: of a reader whose octets are known, `remaining` of which
--- `left` are not read, and a writer whose contents are, before and after. Words that give no options
--- read nothing.
+-- `left` are not read, and a writer whose contents are, before and after. Words that give no
+-- options read nothing.
 -- rule: show (own) The words choose the end and hexadecimal
 abbrev pub EndsShowOne : (colored : Bool) → (words : List (List ℕ))
     → (remaining left : Option (List ℕ)) → (before after : Option (List ℕ)) → Status → Type 0
@@ -210,7 +211,8 @@ PrintsBoth options text before after status =
     (lines : List ℕ) × FollowsText options.max_frame text status lines
     × Appends before after lines
 
--- What was appended to the output is the lines of both sides of a text up to a line that is refused.
+-- What was appended to the output is the lines of both sides of a text up to a line that is
+-- refused.
 -- rule: follow (own) A line that is not of tshark's text ends all, with its number
 abbrev pub PrintsToBadLine : FollowOptions → (text : List ℕ) → (before after : Option (List ℕ))
     → Type 0
@@ -218,9 +220,9 @@ PrintsToBadLine options text before after =
     (hint : Option FollowHint) × (lines : List ℕ)
     × FollowsToBadLine options.max_frame text hint lines × Appends before after lines
 
--- How showing both sides of a text ends under these options: of a reader whose octets are known, and
--- a writer whose contents are, before and after. `Usage` comes only where a line isn't of tshark's
--- text.
+-- How showing both sides of a text ends under these options: of a reader whose octets are known,
+-- and a writer whose contents are, before and after. `Usage` comes only where a line isn't of
+-- tshark's text.
 -- rule: follow (own) The status is 0 only where both sides are good to their ends
 abbrev pub FollowsSo : FollowOptions → (remaining before after : Option (List ℕ)) → Status → Type 0
 FollowsSo options remaining before after Good =

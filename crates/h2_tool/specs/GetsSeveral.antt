@@ -105,8 +105,8 @@ AsksNone words remaining before after status =
     × (after ≡ before))
 
 -- The locations that the URLs name, of one host and port, were asked for at once, each with the
--- request that the words ask for, all with one body; and their responses were printed in the order of
--- the URLs, with these results.
+-- request that the words ask for, all with one body; and their responses were printed in the order
+-- of the URLs, with these results.
 -- rule: engines (own) Several responses are printed in the order of their URLs
 pub record SeveralAsked (words : GetWords) (remaining before after : Option (List ℕ))
     (results : Result (List (Result Fetched StreamError)) StreamError) : Type 0 where
@@ -136,8 +136,8 @@ first_failed [] = Good
 first_failed (Good ∷ statuses) = first_failed statuses
 first_failed (status ∷ statuses) = status
 
--- the status of several responses: that of the first that has failed; or of what has ended all before
--- one came
+-- the status of several responses: that of the first that has failed; or of what has ended all
+-- before one came
 -- rule: engines (own) Several responses are printed in the order of their URLs
 abbrev pub status_of_several : GetWords → Result (List (Result Fetched StreamError)) StreamError
     → Status

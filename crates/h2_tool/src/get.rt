@@ -36,11 +36,12 @@ use std::time::Clock;
 // rule: engines (own) The words of get make its request and say what is printed
 /// Runs `h2 get` with the words after `get`: fetches a URL with the request that the words ask for,
 /// whose body a file or `input` gives where they say so, and prints the status with its phrase, the
-/// fields where the words ask for them, and the body; as it comes, or into a file, where they ask for
-/// that. Several URLs are asked for at once over one connection, and their responses are printed one
-/// after another. With `has_progress` a line on standard error says how much of a file has come; with
-/// `--verbose` the frames of both sides stand there. A fetch that fails, or isn't done in the time
-/// that they give, has a line on standard error, and a hint where the cause is known.
+/// fields where the words ask for them, and the body; as it comes, or into a file, where they ask
+/// for that. Several URLs are asked for at once over one connection, and their responses are
+/// printed one after another. With `has_progress` a line on standard error says how much of a file
+/// has come; with `--verbose` the frames of both sides stand there. A fetch that fails, or isn't
+/// done in the time that they give, has a line on standard error, and a hint where the cause is
+/// known.
 ///
 /// The status is [`Status::Good`] for a response that has come, whatever its own status is, and for
 /// help; [`Status::Fault`] for a response that the words make a failure; [`Status::Usage`] for
@@ -231,9 +232,9 @@ fn end_get<W: Write, E: Write>(
 
 // rule: engines (own) N1 to N7 end a command with their statuses
 // rule (tested): engines (own) A hint names --port, and says that fields are too many
-// Prints on standard error how a fetch has ended early, with the hint that is known: for N6 the name
-// of its code, and for N1 that the time is over, where it is. A request that breaks no rule is refused
-// only since its fields are too many.
+// Prints on standard error how a fetch has ended early, with the hint that is known: for N6 the
+// name of its code, and for N1 that the time is over, where it is. A request that breaks no rule is
+// refused only since its fields are too many.
 fn report_fetch<E: Write>(ending: Ending, is_late: bool, err: &mut E) -> Status
     ensures { result ≡ status_with ending.error }
 {

@@ -52,8 +52,8 @@ pub fn run<N: Net + Files + Clock + Copy, R: Read, W: Write, E: Write>(
 where
     N::Stream: WriteParts,
     ensures show { (others : List (List ℕ)) → map string_bytes words.now ≡ codes "show" ∷ others
-        → EndsShow terminals.colored others (R.remaining input.old) (R.remaining input.new) (W.contents out.old)
-        (W.contents out.new) result }
+        → EndsShow terminals.colored others (R.remaining input.old) (R.remaining input.new)
+        (W.contents out.old) (W.contents out.new) result }
     ensures replay { (others : List (List ℕ)) → map string_bytes words.now ≡ codes "replay" ∷ others
         → EndsReplay others (R.remaining input.old) (R.remaining input.new) (W.contents out.old)
         (W.contents out.new) result }

@@ -43,8 +43,8 @@ where
 
 /// Runs `h2 loop` with the words after `loop`: posts octets from a client to a server, both in this
 /// process, over one TCP connection, and prints how many were sent and how many came back. With
-/// `--each-way` it prints on standard error how many megabytes that is, and how many seconds it took
-/// by the clock, if that can be read.
+/// `--each-way` it prints on standard error how many megabytes that is, and how many seconds it
+/// took by the clock, if that can be read.
 ///
 /// The status is [`Status::Good`] where the response has come, and for help; [`Status::Usage`] for
 /// wrong words; and else that of [`h2_net::status_of`].
