@@ -6,6 +6,7 @@ use h2_frame::Code;
 use h2_net::{
     Ending, Fetched, Hint, LinkError, get_over, phrase, print_response, report, status_of, target,
 };
+use h2_test_devices::RESPONSE;
 use std::alloc::{AllocError, Global};
 use std::test::Fail;
 
