@@ -4,6 +4,7 @@ pub mod Heads
 pub mod Lines
 pub mod LogLines
 pub mod Parting
+pub mod PlainAnswers
 pub mod Recents
 pub mod Refusals
 pub mod Times
