@@ -21,7 +21,7 @@ use Rattle.h2_folder.specs.Answering.{AnswersFile, AnswersMethod, AnswersSomeFil
 use Rattle.h2_folder.specs.Answering.{has_content, is_weak_at, kind_of_names, with_body}
 use Rattle.h2_folder.specs.Heads.{file_head}
 use Rattle.h2_folder.specs.Lines.{no_asked}
-use Rattle.h2_folder.specs.PlainAnswers.{IsPlainAnswer}
+use Rattle.h2_folder.specs.Recents.{IsPlainAnswer}
 use Rattle.h2_folder.specs.Refusals.{status_of_missing}
 use Rattle.h2_folder.specs.Times.{IsDateOf, stated_second}
 use Rattle.h2_folder.specs.declared.answer.Answered.{Answered}
@@ -72,26 +72,15 @@ refused_path method m read asked fault answered is refused short =
     subst (λ (o : Option Method). AnswersMethod o read asked answered) (sym is)
     (refused_if m read asked fault answered refused short)
 
--- A file that is not there, or not sent, is answered with the status of the reason.
-pub missing_file : {F : Type 0} (method : Option Method) (m : Method)
-    (read : Result (List (List ℕ)) PathFault) (names : List (List ℕ)) (asked : Asked)
-    (missing : Missing) (answered : Answered F) → method ≡ Some m → read ≡ Ok names
-    → IsShortAnswer (status_of_missing missing) (has_content m) answered
-    → AnswersMethod method read asked answered
-missing_file method m read names asked missing answered is named short =
-    subst (λ (o : Option Method). AnswersMethod o read asked answered) (sym is)
-    (subst (λ (r : Result (List (List ℕ)) PathFault). AnswersMethod (Some m) r asked answered)
-    (sym named) (inl (missing, short)))
-
--- A file that was found is answered by its length and its times.
-pub found_file : {F : Type 0} (method : Option Method) (m : Method)
+-- A path that names a file is answered as its names are.
+pub named_file : {F : Type 0} (method : Option Method) (m : Method)
     (read : Result (List (List ℕ)) PathFault) (names : List (List ℕ)) (asked : Asked)
     (answered : Answered F) → method ≡ Some m → read ≡ Ok names
-    → AnswersSomeFile m names asked answered → AnswersMethod method read asked answered
-found_file method m read names asked answered is named found =
+    → AnswersMethod (Some m) (Ok names) asked answered → AnswersMethod method read asked answered
+named_file method m read names asked answered is named answers =
     subst (λ (o : Option Method). AnswersMethod o read asked answered) (sym is)
     (subst (λ (r : Result (List (List ℕ)) PathFault). AnswersMethod (Some m) r asked answered)
-    (sym named) (inr found))
+    (sym named) answers)
 
 -- A file is answered so as a version of it is, by its length and its times.
 pub some_file : {F : Type 0} (method : Method) (names : List (List ℕ)) (asked : Asked)
@@ -134,8 +123,7 @@ plain_file {F} names asked second modified message plain answer =
     let stated = answer.head.1 in
     let sent : message_value message
     ≡ with_body (file_head answers.Whole version kind date stated) (take size (drop 0 octets)) =
-    rw (answer.head.4, answer.alone, take_all size octets (le_refl size)) refl in
-    (
+    rw (answer.head.4, answer.alone, take_all size octets (le_refl size)) refl in (
       size,
       modified,
       second,

@@ -3,15 +3,13 @@ use Rattle.std.specs.Prelude.{◌≡◌, ◌≢◌, ◌≤◌, ⊤, ℕ, true, L
 use Rattle.std.specs.Io.KnownBytes.{Consumes}
 use Rattle.hpack.specs.declared.types.field.Field.{Field}
 use Rattle.h2_message.specs.Values.{message_value}
-use Rattle.h2_files.specs.Paths.{texts}
 use Rattle.h2_folder.specs.Answering.{most_at_once}
 use Rattle.h2_folder.specs.Heads.{short_message}
-use Rattle.h2_folder.specs.Recents.{IsKeptFile}
+use Rattle.h2_folder.specs.Recents.{IsKeptFile, KeptFile}
 use Rattle.h2_folder.specs.declared.answer.Answered.{Answered}
 use Rattle.h2_folder.specs.declared.answer.Answered.TheVariants.{Whole, Parts}
 use Rattle.h2_folder.specs.declared.find.Found.{Found}
 use Rattle.h2_folder.specs.declared.find.Found.TheVariants.{Small, Open}
-use Rattle.h2_folder.specs.declared.recent.RecentFile.{RecentFile}
 
 -- how many octets it has
 abbrev pub found_length : {F : Type 0} → Found F → ℕ
@@ -36,20 +34,20 @@ ReadsOctets known_before known_after count octets =
 
 -- The file is a copy of one that was read, with these names, in this second.
 -- rule: files (own) What a small file had in a second is answered in that second alone
-abbrev pub IsCopyOf : {F : Type 0} → Found F → (names : List (List ℕ)) → (second : ℕ) → RecentFile
+abbrev pub IsCopyOf : {F : Type 0} → Found F → (names : List (List ℕ)) → (second : ℕ) → KeptFile
     → Type 0
 IsCopyOf (Small octets modified) names second file =
-    (texts file.names.items ≡ names) × (file.second ≡ second) × (file.modified ≡ modified)
-    × (file.octets.items ≡ octets.items)
+    (file.names ≡ names) × (file.second ≡ second) × (file.modified ≡ modified)
+    × (file.octets ≡ octets.items)
 IsCopyOf found names second file = ⊥
 
 -- These are the octets of a file that is kept, with these names, of this second, and when it was
 -- modified.
 -- rule: files (own) What a small file had in a second is answered in that second alone
-abbrev pub GivesKept : (places : List (Option RecentFile)) → (names : List (List ℕ)) → (second : ℕ)
+abbrev pub GivesKept : (places : List (Option KeptFile)) → (names : List (List ℕ)) → (second : ℕ)
     → (octets : List ℕ) → (modified : ℕ) → Type 0
 GivesKept places names second octets modified =
-    (file : RecentFile) × IsKeptFile places names second file × (octets ≡ file.octets.items)
+    (file : KeptFile) × IsKeptFile places names second file × (octets ≡ file.octets)
     × (modified ≡ file.modified)
 
 -- The answer has this head, and so many octets of a file in parts, from the one with this number

@@ -4,7 +4,6 @@ pub mod Heads
 pub mod Lines
 pub mod LogLines
 pub mod Parting
-pub mod PlainAnswers
 pub mod Recents
 pub mod Refusals
 pub mod Times

@@ -15,7 +15,7 @@ ghost use Rattle.h2_folder.specs.FoundFiles.{IsSmallIfRead, SendsParts, found_le
 ghost use Rattle.h2_folder.specs.FoundFiles.{found_modified};
 ghost use Rattle.h2_folder.specs.Heads.{file_head};
 ghost use Rattle.h2_folder.specs.Lines.{asked_in};
-ghost use Rattle.h2_folder.specs.PlainAnswers.{IsPlainHead};
+ghost use Rattle.h2_folder.specs.Recents.{IsPlainHead};
 ghost use Rattle.h2_folder.specs.Times.{IsDateOf, stated_second};
 
 use crate::find::{Found, find, recent_at};

@@ -1,13 +1,15 @@
 //! Small files, as they were read in a second.
 
-ghost use Rattle.std.specs.Prelude.{◌≡◌, ◌≤◌, ◌⊎◌, Contains, IfOk, IfSome, Some, length, true};
+ghost use Rattle.std.specs.Prelude.{◌≡◌, ◌≤◌, ◌⊎◌, ℕ, Contains, IfOk, IfSome, Some, length, true};
 ghost use Rattle.h2_files.specs.Paths.{texts};
 ghost use Rattle.h2_folder.specs.Answering.{most_at_once};
-ghost use Rattle.h2_folder.specs.PlainAnswers.{IsPlainAnswer, IsPlainHead};
+ghost use Rattle.h2_folder.specs.FoundFiles.{GivesKept};
+ghost use Rattle.h2_folder.specs.Recents.{IsKeptFile, IsPlainAnswer, KeptFile};
 
 use h2_message::{Field, Message};
 use std::alloc::{AllocError, Global};
 use std::cell::RefCell;
+use std::marker::Model;
 
 /// A file of so many octets at most is read, and answered, at once.
 pub(crate) const MOST_AT_ONCE: u64 = 16_384;
@@ -34,14 +36,51 @@ pub struct RecentFile {
     pub(crate) octets: Vec<u8>,
     /// The head of the answer to a GET of it without conditions, in that second.
     pub(crate) head: Vec<Field>,
-    pub(crate) ghost answers: { IsPlainHead (texts names.items) second modified
-        (length octets.items) head.items },
+}
+
+impl Model for RecentFile {
+    ghost use Rattle.std.specs.Prelude.{length};
+    ghost use Rattle.h2_files.specs.Paths.{texts};
+    ghost use Rattle.h2_folder.specs.Recents.{IsPlainHead, KeptFile};
+
+    ghost Value = { KeptFile };
+
+    ghost view = { λ file. record {
+      names = texts file.names.items;
+      second = file.second;
+      modified = file.modified;
+      octets = file.octets.items;
+    } };
+
+    ghost invariant = { λ file. IsPlainHead (texts file.names.items) file.second file.modified
+        (length file.octets.items) file.head.items };
 }
 
 impl RecentFile {
+    // rule: files (own) What a small file had in a second is answered in that second alone
+    /// Whether it has these names, and was read in this second.
+    fn is_of(&self, names: &[String], second: u64) -> bool
+        ensures names { result ≡ true → self.now.names ≡ texts names.now }
+        ensures second { result ≡ true → self.now.second ≡ second }
+    {
+        self.second == second && are_same(&self.names, names)
+    }
+
+    /// The place of its names.
+    fn place(&self) -> usize {
+        place_of(&self.names)
+    }
+
+    /// When it was modified, in seconds after 1970.
+    fn modified(&self) -> u64
+        ensures { result ≡ self.now.modified }
+    {
+        self.modified
+    }
+
     /// A copy of its octets; none where memory is missing.
     fn copy(&self, alloc: Global) -> Option<Vec<u8>>
-        ensures same { IfSome result (λ octets. octets.items ≡ self.now.octets.items) }
+        ensures same { IfSome result (λ octets. octets.items ≡ self.now.octets) }
         ensures few { IfSome result (λ octets. length octets.items ≤ most_at_once) }
     {
         if self.octets.len() as u64 > MOST_AT_ONCE {
@@ -53,15 +92,14 @@ impl RecentFile {
     /// A copy of the answer to a GET of it without conditions; none where it has no octets, or
     /// memory is missing.
     fn answer(&self, alloc: Global) -> Option<Message>
-        ensures { IfSome result (IsPlainAnswer (texts self.now.names.items) self.now.second
-            self.now.modified) }
+        ensures { IfSome result (IsPlainAnswer self.now.names self.now.second self.now.modified) }
     {
-        if self.octets.is_empty() {
+        if self.octets.is_empty() || self.octets.len() as u64 > MOST_AT_ONCE {
             return None;
         }
         Some(Message {
-            body: self.copy(alloc)?,
             head: copy_fields(alloc, &self.head).ok()?,
+            body: Vec::from_slice(alloc, &self.octets).ok()?,
             trailers: None,
         })
     }
@@ -87,9 +125,6 @@ pub(crate) struct RecentFiles {
 }
 
 impl RecentFiles {
-    ghost use Rattle.h2_folder.specs.FoundFiles.{GivesKept};
-    ghost use Rattle.h2_folder.specs.Recents.{IsKeptFile};
-
     // contract: files (own) What a small file had in a second is answered in that second alone
     // rule: files (own) What a small file had in a second is answered in that second alone
     /// The file with these names that was read in a second, if it is kept.
@@ -98,7 +133,7 @@ impl RecentFiles {
             (texts names.now) second file.now) }
     {
         match self.places.get(place_of(names)) {
-            Some(Some(file)) if file.second == second && are_same(&file.names, names) => Some(file),
+            Some(Some(file)) if file.is_of(names, second) => Some(file),
             _ => None,
         }
     }
@@ -112,7 +147,7 @@ impl RecentFiles {
     {
         let file = self.at(names, second)?;
         let octets = file.copy(alloc)?;
-        Some((octets, file.modified))
+        Some((octets, file.modified()))
     }
 
     // contract: files (own) What a small file had in a second is answered in that second alone
@@ -129,7 +164,7 @@ impl RecentFiles {
     // contract: files (own) What a small file had in a second is answered in that second alone
     /// Keeps a file in the place of its names; where memory is missing nothing is kept.
     fn keep(&mut self, alloc: Global, file: RecentFile)
-        ensures { (one : RecentFile) → Contains self.new.places.items (Some one)
+        ensures { (one : KeptFile) → Contains self.new.places.items (Some one)
             → (one ≡ file) ⊎ Contains self.old.places.items (Some one) }
     {
         if self.places.is_empty() {
@@ -138,7 +173,7 @@ impl RecentFiles {
                 Err(_) => return,
             }
         }
-        if let Some(place) = self.places.get_mut(place_of(&file.names)) {
+        if let Some(place) = self.places.get_mut(file.place()) {
             *place = Some(file);
         }
     }
@@ -146,7 +181,7 @@ impl RecentFiles {
 
 /// The places, each of them empty.
 fn empty_places(alloc: Global) -> Result<Vec<Option<RecentFile>>, AllocError>
-    ensures { IfOk result (λ places. (one : RecentFile) → Contains places.items (Some one) → ⊥) }
+    ensures { IfOk result (λ places. (one : KeptFile) → Contains places.items (Some one) → ⊥) }
 {
     let mut places = Vec::with_capacity(alloc, PLACES)?;
     for _ in 0..PLACES {
