@@ -1,8 +1,7 @@
 -- Answers to requests whose path has no file, and to those whose path has one.
 use Rattle.std.proofs.Common.{◌≡◌, ◌∙◌, ℕ, List, Option, Some, Result, Ok, Err, ap, sym, subst}
-use Rattle.std.proofs.Common.{inl, inr, refl, length, take, drop}
+use Rattle.std.proofs.Common.{inl, inr, refl, length, take, drop, le_refl}
 use Rattle.std.proofs.lemmas.List.{take_all}
-use Rattle.std.proofs.lemmas.Nat.{le_refl}
 use Rattle.h2_message.specs.declared.message.Message.{Message}
 use Rattle.h2_message.specs.Messages.{SentMessage}
 use Rattle.h2_message.specs.Values.{message_value}
@@ -109,12 +108,11 @@ some_file method names asked length modified now version kind date stated answer
       ),
     )
 
--- The answer to a GET without conditions is that of a file with these names: its head, and all its
--- octets, at once.
-pub plain_file : {F : Type 0} (names : List (List ℕ)) (asked : Asked) (second modified : ℕ)
+-- the same of a GET
+plain_get : {F : Type 0} (names : List (List ℕ)) (asked : Asked) (second modified : ℕ)
     (message : Message) → asked ≡ no_asked → IsPlainAnswer names second modified message
-    → AnswersSomeFile {F} Get names asked (Whole message)
-plain_file {F} names asked second modified message plain answer =
+    → AnswersSomeFile {F = F} Get names asked (Whole message)
+plain_get {F} names asked second modified message plain answer =
     let octets = message.body.items in
     let size = length octets in
     let version = validators size modified (is_weak_at modified second) in
@@ -132,8 +130,18 @@ plain_file {F} names asked second modified message plain answer =
       (
         answer.head.2,
         answer.head.3,
-        subst (λ (a : Asked). AnswersFile {F} (file_answer version Get a) Get version kind date
+        subst (λ (a : Asked). AnswersFile {F = F} (file_answer version Get a) Get version kind date
             stated (Whole message)) (sym plain)
             (inr (inr (refl, answer.some, answer.few, (octets, refl, sent)))),
       ),
     )
+
+-- The answer to a GET without conditions is that of a file with these names: its head, and all its
+-- octets, at once.
+pub plain_file : {F : Type 0} (method : Method) (names : List (List ℕ)) (asked : Asked)
+    (second modified : ℕ) (message : Message) → method ≡ Get → asked ≡ no_asked
+    → IsPlainAnswer names second modified message
+    → AnswersSomeFile {F = F} method names asked (Whole message)
+plain_file {F} method names asked second modified message get plain answer =
+    subst (λ (m : Method). AnswersSomeFile {F = F} m names asked (Whole message)) (sym get)
+    (plain_get names asked second modified message plain answer)

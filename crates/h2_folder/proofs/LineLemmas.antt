@@ -32,18 +32,18 @@ pub plain_first : (fields : List Field) (field : Field) (others : List Field)
     → fields ≡ field ∷ others → is_condition field.name ≡ false
     → asked_in fields ≡ asked_in others
 plain_first fields field others first plain =
-    let matches = or_parts _ _ plain in
-    let unmodified = or_parts _ _ matches.1 in
-    let none = or_parts _ _ unmodified.1 in
-    let modified = or_parts _ _ none.1 in
-    let ranges = or_parts _ _ modified.1 in
+    let five = or_parts _ _ plain in
+    let four = or_parts _ _ five.0 in
+    let three = or_parts _ _ four.0 in
+    let two = or_parts _ _ three.0 in
+    let one = or_parts _ _ two.0 in
     rw (
-      joined_first None (codes "if-match") fields field others first matches.0,
-      joined_first None (codes "if-unmodified-since") fields field others first unmodified.0,
-      joined_first None (codes "if-none-match") fields field others first none.0,
-      joined_first None (codes "if-modified-since") fields field others first modified.0,
-      joined_first None (codes "range") fields field others first ranges.0,
-      joined_first None (codes "if-range") fields field others first ranges.1,
+      joined_first None (codes "if-match") fields field others first one.0,
+      joined_first None (codes "if-unmodified-since") fields field others first one.1,
+      joined_first None (codes "if-none-match") fields field others first two.1,
+      joined_first None (codes "if-modified-since") fields field others first three.1,
+      joined_first None (codes "range") fields field others first four.1,
+      joined_first None (codes "if-range") fields field others first five.1,
     ) refl
 
 -- Among no fields there are no conditions.

@@ -1,7 +1,7 @@
 //! How a folder answers a request.
 
 ghost use Rattle.std.specs.Prelude.{◌≡◌, ◌≢◌, IfOk, IfSome, Ok, Some, drop, false};
-ghost use Rattle.std.specs.Prelude.{option_copied, take, true};
+ghost use Rattle.std.specs.Prelude.{length, option_copied, take, true};
 ghost use Rattle.hpack.specs.FieldLists.{value_of};
 ghost use Rattle.h2_files.specs.Conditions.{file_answer};
 ghost use Rattle.h2_files.specs.Dates.{IsLastModified};
@@ -99,7 +99,8 @@ impl<'a, R: Files + Clock> Folder<'a, R> {
         match find(self.rt, alloc, self.root, names, self.recent, now) {
             Ok(found) => answer_at(alloc, method, list, names, found, now, date),
             Err(missing) => {
-                let message = short_message(alloc, missing.status(), date, has_content(method))?;
+                let has_body = has_content(method);
+                let message = short_message(alloc, missing.status(), date, has_body)?;
                 Ok(Answered::Whole(message))
             }
         }
@@ -130,21 +131,24 @@ fn kept_answer<F>(
     Some(Answered::Whole(message))
 }
 
-/// The head of the answer to a GET without conditions, of a file that was found in a second.
-pub(crate) fn plain_head<F>(
+/// The head of the answer to a GET without conditions, at a second, of a small file with these names
+/// and octets, which was modified in a second.
+pub(crate) fn plain_head(
     alloc: Global,
     names: &[String],
     second: u64,
-    found: &Found<F>,
+    modified: u64,
+    octets: &[u8],
 ) -> Result<Vec<Field>, AllocError>
-    ensures { IfOk result (λ head. IsPlainHead (texts names.now) second (found_modified found.now)
-        (found_length found.now) head.items) }
+    ensures { IfOk result (λ head. IsPlainHead (texts names.now) second modified
+        (length octets.now) head.items) }
 {
-    let version = version_of(alloc, found, second)?;
+    let length = octets.len() as u64;
+    let version = Version::new(alloc, length, modified, is_weak(modified, second))?;
     let about = About {
         kind: kind_of(names),
         date: date_in(second),
-        modified: modified_of(found.modified(), second),
+        modified: modified_of(modified, second),
     };
     file_head(alloc, Answer::Whole, &version, about)
 }

@@ -140,15 +140,35 @@ pub(crate) fn recent_at<'a>(recent: Option<&'a Recent>, now: u64) -> Option<&'a 
 fn copy_of<F>(alloc: Global, names: &[String], second: u64, found: &Found<F>) -> Option<RecentFile>
     ensures { IfSome result (λ file. IsCopyOf found.now (texts names.now) second file) }
 {
-    let Found::Small { octets, modified } = found else {
-        return None;
-    };
-    Some(RecentFile {
-        names: copy_names(alloc, names).ok()?,
+    match found {
+        Found::Small { octets, modified } => {
+            kept_file(alloc, names, second, *modified, octets).ok()
+        }
+        Found::Open { .. } => None,
+    }
+}
+
+// contract: files (own) What a small file had in a second is answered in that second alone
+/// A small file that was read in a second, with copies of its names and of its octets.
+fn kept_file(
+    alloc: Global,
+    names: &[String],
+    second: u64,
+    modified: u64,
+    octets: &[u8],
+) -> Result<RecentFile, AllocError>
+    ensures { IfOk result (λ file. (file.names ≡ texts names.now) × (file.second ≡ second)
+        × (file.modified ≡ modified) × (file.octets ≡ octets.now)) }
+{
+    let head = plain_head(alloc, names, second, modified, octets)?;
+    let copies = copy_names(alloc, names)?;
+    let copy = Vec::from_slice(alloc, octets)?;
+    Ok(RecentFile {
+        names: copies,
         second,
-        modified: *modified,
-        octets: Vec::from_slice(alloc, octets).ok()?,
-        head: plain_head(alloc, names, second, found).ok()?,
+        modified,
+        octets: copy,
+        head,
     })
 }
 

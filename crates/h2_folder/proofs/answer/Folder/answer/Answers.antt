@@ -14,7 +14,7 @@ use Rattle.h2_folder.proofs.answer.Folder.answer.Goals as goal
 pub returns-in_ok-message-in-Err : goal.returns-in_ok-message-in-Err
 returns-in_ok-message-in-Err g c =
     let list = c.args.list.now in
-    let date = c.date_in-in-Err.result in
+    let date = c.date_in-date.result in
     let fault = c.in-Err.fault in
     let method : file_method (value_in (codes ":method") list) ≡ Some c.in-Some.method =
     ap file_method (sym c.value_in-name.ensures) ∙ sym c.of.ensures ∙ c.in-Some.is in
@@ -22,9 +22,9 @@ returns-in_ok-message-in-Err g c =
     subst (λ path. IsFaultOrMemory fault (names_of path)) c.value_in-path.ensures
     c.in-Err.ensures.exact in
     let short = c.in_ok-message-in-Err.ensures
-    ∙ ap (λ (s : ℕ). short_message s date c.has_content.result) c.status.ensures
+    ∙ ap (λ (s : ℕ). short_message s date c.has_content-has_body.result) c.status.ensures
     ∙ ap (λ (b : Bool). short_message (status_of_fault fault) date b)
-    c.has_content.ensures in
+    c.has_content-has_body.ensures in
     refused_path _ c.in-Some.method _ _ fault _ method refused (date, short)
 
 pub returns-in-Ok : goal.returns-in-Ok

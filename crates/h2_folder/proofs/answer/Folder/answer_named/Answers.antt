@@ -5,13 +5,13 @@ use Rattle.h2_folder.specs.Heads.{short_message}
 use Rattle.h2_folder.specs.Refusals.{status_of_missing}
 use Rattle.h2_folder.proofs.answer.Folder.answer_named.Goals as goal
 
-pub returns-in_ok-message : goal.returns-in_ok-message
-returns-in_ok-message g c =
-    let date = c.date_in.result in
+pub returns-in_ok-message-in-Err : goal.returns-in_ok-message-in-Err
+returns-in_ok-message-in-Err g c =
+    let date = c.date_in-date.result in
     let missing = c.in-Err.missing in
-    let short = c.in_ok-message.ensures
-    ∙ ap (λ (s : ℕ). short_message s date c.has_content.result) c.status.ensures
-    ∙ ap (λ (b : Bool). short_message (status_of_missing missing) date b) c.has_content.ensures in
+    let short = c.in_ok-message-in-Err.ensures
+    ∙ ap (λ (s : ℕ). short_message s date c.has_content-has_body.result) c.status.ensures
+    ∙ ap (λ (b : Bool). short_message (status_of_missing missing) date b) c.has_content-has_body.ensures in
     inl (missing, (date, short))
 
 pub returns-in-Ok : goal.returns-in-Ok
