@@ -109,10 +109,10 @@ some_file method names asked length modified now version kind date stated answer
     )
 
 -- the same of a GET
-plain_get : {F : Type 0} (names : List (List ℕ)) (asked : Asked) (second modified : ℕ)
+plain_get : (F : Type 0) (names : List (List ℕ)) (asked : Asked) (second modified : ℕ)
     (message : Message) → asked ≡ no_asked → IsPlainAnswer names second modified message
     → AnswersSomeFile {F = F} Get names asked (Whole message)
-plain_get {F} names asked second modified message plain answer =
+plain_get F names asked second modified message plain answer =
     let octets = message.body.items in
     let size = length octets in
     let version = validators size modified (is_weak_at modified second) in
@@ -138,10 +138,10 @@ plain_get {F} names asked second modified message plain answer =
 
 -- The answer to a GET without conditions is that of a file with these names: its head, and all its
 -- octets, at once.
-pub plain_file : {F : Type 0} (method : Method) (names : List (List ℕ)) (asked : Asked)
+pub plain_file : (F : Type 0) (method : Method) (names : List (List ℕ)) (asked : Asked)
     (second modified : ℕ) (message : Message) → method ≡ Get → asked ≡ no_asked
     → IsPlainAnswer names second modified message
     → AnswersSomeFile {F = F} method names asked (Whole message)
-plain_file {F} method names asked second modified message get plain answer =
+plain_file F method names asked second modified message get plain answer =
     subst (λ (m : Method). AnswersSomeFile {F = F} m names asked (Whole message)) (sym get)
-    (plain_get names asked second modified message plain answer)
+    (plain_get F names asked second modified message plain answer)

@@ -8,6 +8,6 @@ use Rattle.h2_folder.proofs.answer.kept_answer.Goals as goal
 pub returns : goal.returns
 returns g c =
     let plain : c.is_plain.result ≡ true = search rules in
-    plain_file c.args.method (texts c.args.names.now) (asked_in c.args.list.now) c.args.now
+    plain_file _ c.args.method (texts c.args.names.now) (asked_in c.args.list.now) c.args.now
     c.in_ok-message.ensures.0 c.in_ok-message.message c.in-Get.is (c.is_plain.ensures plain)
     c.in_ok-message.ensures.1
