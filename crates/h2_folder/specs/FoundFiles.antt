@@ -1,16 +1,15 @@
 -- Files that were found.
-use Rattle.std.specs.Prelude.{◌≡◌, ◌≢◌, ◌≤◌, ⊤, ℕ, true, List, Option, length, string_bytes}
+use Rattle.std.specs.Prelude.{◌≡◌, ◌≢◌, ◌≤◌, ⊤, ℕ, true, List, Option, length}
 use Rattle.std.specs.Io.KnownBytes.{Consumes}
 use Rattle.hpack.specs.declared.types.field.Field.{Field}
 use Rattle.h2_message.specs.Values.{message_value}
 use Rattle.h2_folder.specs.Answering.{most_at_once}
 use Rattle.h2_folder.specs.Heads.{short_message}
-use Rattle.h2_folder.specs.Recents.{IsKeptFile}
+use Rattle.h2_folder.specs.Recents.{IsKeptFile, KeptFile}
 use Rattle.h2_folder.specs.declared.answer.Answered.{Answered}
 use Rattle.h2_folder.specs.declared.answer.Answered.TheVariants.{Whole, Parts}
 use Rattle.h2_folder.specs.declared.find.Found.{Found}
 use Rattle.h2_folder.specs.declared.find.Found.TheVariants.{Small, Open}
-use Rattle.h2_folder.specs.declared.recent.RecentFile.{RecentFile}
 
 -- how many octets it has
 abbrev pub found_length : {F : Type 0} → Found F → ℕ
@@ -33,21 +32,22 @@ abbrev pub ReadsOctets : (known_before known_after : Option (List ℕ)) → (cou
 ReadsOctets known_before known_after count octets =
     (length octets ≡ count) × Consumes known_before known_after octets
 
--- The file is a copy of one that was read, with this path, in this second.
+-- The file is a copy of one that was read, with these names, in this second.
 -- rule: files (own) What a small file had in a second is answered in that second alone
-abbrev pub IsCopyOf : {F : Type 0} → Found F → (path : List ℕ) → (second : ℕ) → RecentFile → Type 0
-IsCopyOf (Small octets modified) path second file =
-    (string_bytes file.path ≡ path) × (file.second ≡ second) × (file.modified ≡ modified)
-    × (file.octets.items ≡ octets.items)
-IsCopyOf found path second file = ⊥
+abbrev pub IsCopyOf : {F : Type 0} → Found F → (names : List (List ℕ)) → (second : ℕ) → KeptFile
+    → Type 0
+IsCopyOf (Small octets modified) names second file =
+    (file.names ≡ names) × (file.second ≡ second) × (file.modified ≡ modified)
+    × (file.octets ≡ octets.items)
+IsCopyOf found names second file = ⊥
 
--- These are the octets of a file that is kept, with this path, of this second, and when it was
+-- These are the octets of a file that is kept, with these names, of this second, and when it was
 -- modified.
 -- rule: files (own) What a small file had in a second is answered in that second alone
-abbrev pub GivesKept : (places : List (Option RecentFile)) → (path : List ℕ) → (second : ℕ)
+abbrev pub GivesKept : (places : List (Option KeptFile)) → (names : List (List ℕ)) → (second : ℕ)
     → (octets : List ℕ) → (modified : ℕ) → Type 0
-GivesKept places path second octets modified =
-    (file : RecentFile) × IsKeptFile places path second file × (octets ≡ file.octets.items)
+GivesKept places names second octets modified =
+    (file : KeptFile) × IsKeptFile places names second file × (octets ≡ file.octets)
     × (modified ≡ file.modified)
 
 -- The answer has this head, and so many octets of a file in parts, from the one with this number

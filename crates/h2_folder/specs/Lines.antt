@@ -1,6 +1,7 @@
 -- The conditions of a request, each in one field line or in several.
 use Rattle.std.specs.Prelude.{ℕ, List, [], ◌∷◌, ◌++◌, codes, Option, Some, None, option_map}
-use Rattle.std.specs.Prelude.{if◌then◌else◌}
+use Rattle.std.specs.Prelude.{if◌then◌else◌, Bool, ◌||◌}
+use Rattle.std.specs.Str.{bytes_eq}
 use Rattle.hpack.specs.FieldLists.{is_named}
 use Rattle.hpack.specs.declared.types.field.Field.{Field}
 use Rattle.h2_files.specs.Conditions.{Asked}
@@ -35,6 +36,25 @@ asked_in list = record {
   range = joined_value (codes "range") list;
   if_range = joined_value (codes "if-range") list;
 }
+
+-- no conditions, and no range
+abbrev pub no_asked : Asked
+no_asked = record {
+  if_match = None;
+  if_unmodified_since = None;
+  if_none_match = None;
+  if_modified_since = None;
+  range = None;
+  if_range = None;
+}
+
+-- A field with this name is one of them.
+-- rule: files (own) What a small file had in a second is answered in that second alone
+abbrev pub is_condition : (name : List ℕ) → Bool
+is_condition name =
+    bytes_eq name (codes "if-match") || bytes_eq name (codes "if-unmodified-since")
+    || bytes_eq name (codes "if-none-match") || bytes_eq name (codes "if-modified-since")
+    || bytes_eq name (codes "range") || bytes_eq name (codes "if-range")
 
 -- those that are kept
 abbrev pub asked_by_lines : Lines → Asked

@@ -1,22 +1,25 @@
 //! How a folder answers a request.
 
-ghost use Rattle.std.specs.Prelude.{◌≡◌, ◌≢◌, IfOk, drop, false, option_copied, take, true};
+ghost use Rattle.std.specs.Prelude.{◌≡◌, ◌≢◌, IfOk, IfSome, Ok, Some, drop, false};
+ghost use Rattle.std.specs.Prelude.{length, option_copied, take, true};
 ghost use Rattle.hpack.specs.FieldLists.{value_of};
 ghost use Rattle.h2_files.specs.Conditions.{file_answer};
 ghost use Rattle.h2_files.specs.Dates.{IsLastModified};
 ghost use Rattle.h2_files.specs.Paths.{texts};
 ghost use Rattle.h2_files.specs.Tags.{validators, validators_of};
-ghost use Rattle.h2_folder.specs.Answering.{AnswersFile, AnswersRequest, AnswersSomeFile};
+ghost use Rattle.h2_folder.specs.Answering.{AnswersFile, AnswersMethod, AnswersRequest};
+ghost use Rattle.h2_folder.specs.Answering.{AnswersSomeFile};
 ghost use Rattle.h2_folder.specs.Answering.{HasNoOctets, SendsFile, first_octet_of, has_content};
 ghost use Rattle.h2_folder.specs.Answering.{is_weak_at, kind_of_names, octets_of_file, value_in};
 ghost use Rattle.h2_folder.specs.FoundFiles.{IsSmallIfRead, SendsParts, found_length};
 ghost use Rattle.h2_folder.specs.FoundFiles.{found_modified};
 ghost use Rattle.h2_folder.specs.Heads.{file_head};
 ghost use Rattle.h2_folder.specs.Lines.{asked_in};
+ghost use Rattle.h2_folder.specs.Recents.{IsPlainHead};
 ghost use Rattle.h2_folder.specs.Times.{IsDateOf, stated_second};
 
-use crate::find::{Found, find};
-use crate::lines::Lines;
+use crate::find::{Found, find, recent_at};
+use crate::lines::{Lines, is_plain};
 use crate::messages::{
     About, file_head, method_message, octets_of_part, short_message, unsatisfied_message,
 };
@@ -37,7 +40,8 @@ pub struct Folder<'a, R> {
     pub rt: &'a R,
     /// The path of the folder.
     pub root: &'a str,
-    /// Small files that were read in this second; none: the file system is asked for each request.
+    /// Small files of this folder that were read in this second; none: the file system is asked for
+    /// each request.
     pub recent: Option<&'a Recent>,
 }
 
@@ -61,28 +65,92 @@ impl<'a, R: Files + Clock> Folder<'a, R> {
         ensures { IfOk result (AnswersRequest list.now) }
     {
         let now = seconds_now(self.rt);
-        let date = date_in(now);
         let name = value_in(list, b":method");
         let Some(method) = Method::of(name) else {
-            return Ok(Answered::Whole(method_message(alloc, date)?));
+            return Ok(Answered::Whole(method_message(alloc, date_in(now))?));
         };
-        let has_body = has_content(method);
         let path = value_in(list, b":path");
-        let names = match file_names(alloc, path) {
-            Ok(names) => names,
+        match file_names(alloc, path) {
+            Ok(names) => self.answer_named(alloc, method, list, &names, now),
             Err(fault) => {
+                let (date, has_body) = (date_in(now), has_content(method));
                 let message = short_message(alloc, fault.status(), date, has_body)?;
-                return Ok(Answered::Whole(message));
+                Ok(Answered::Whole(message))
             }
-        };
-        match find(self.rt, alloc, self.root, &names, self.recent, now) {
-            Ok(found) => answer_at(alloc, method, list, &names, found, now, date),
+        }
+    }
+
+    /// How a request for the file with these names is answered, at a second.
+    fn answer_named(
+        &self,
+        alloc: Global,
+        method: Method,
+        list: &FieldList,
+        names: &[String],
+        now: u64,
+    ) -> Result<Answered<R::File>, AllocError>
+        ensures { IfOk result
+            (AnswersMethod (Some method) (Ok (texts names.now)) (asked_in list.now)) }
+    {
+        if let Some(kept) = kept_answer(alloc, method, list, names, self.recent, now) {
+            return Ok(kept);
+        }
+        let date = date_in(now);
+        match find(self.rt, alloc, self.root, names, self.recent, now) {
+            Ok(found) => answer_at(alloc, method, list, names, found, now, date),
             Err(missing) => {
+                let has_body = has_content(method);
                 let message = short_message(alloc, missing.status(), date, has_body)?;
                 Ok(Answered::Whole(message))
             }
         }
     }
+}
+
+// contract: files (own) What a small file had in a second is answered in that second alone
+/// How a GET without conditions is answered, of a small file that was read in this second; none for
+/// another request, and where the file isn't kept.
+fn kept_answer<F>(
+    alloc: Global,
+    method: Method,
+    list: &FieldList,
+    names: &[String],
+    recent: Option<&Recent>,
+    now: u64,
+) -> Option<Answered<F>>
+    ensures { IfSome result (AnswersSomeFile method (texts names.now) (asked_in list.now)) }
+{
+    let Method::Get = method else {
+        return None;
+    };
+    let recent = recent_at(recent, now)?;
+    if !is_plain(list) {
+        return None;
+    }
+    let message = recent.answer(alloc, names, now)?;
+    Some(Answered::Whole(message))
+}
+
+/// The head of the answer to a GET without conditions, at a second, of a small file with these names
+/// and octets, which was modified in a second.
+pub(crate) fn plain_head(
+    alloc: Global,
+    names: &[String],
+    second: u64,
+    modified: u64,
+    octets: &[u8],
+) -> Result<Vec<Field>, AllocError>
+    ensures { IfOk result (λ head. IsPlainHead (texts names.now) second modified
+        (length octets.now) head.items) }
+{
+    let length = octets.len() as u64;
+    let version = Version::new(alloc, length, modified, is_weak(modified, second))?;
+    let about = About {
+        kind: kind_of(names),
+        date: date_in(second),
+        modified: modified_of(modified, second),
+    };
+    file_head(alloc, Answer::Whole, &version, about)
 }
 
 /// How a request for a file that is there is answered, at a second with this date.

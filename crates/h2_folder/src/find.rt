@@ -1,11 +1,13 @@
 //! Which file the names of a path mean, and that it lies in the folder.
 
-ghost use Rattle.std.specs.Prelude.{◌≡◌, ◌≤◌, IfOk, IfSome, string_bytes};
+ghost use Rattle.std.specs.Prelude.{◌≡◌, ◌≤◌, IfOk, IfSome};
+ghost use Rattle.h2_files.specs.Paths.{texts};
 ghost use Rattle.h2_folder.specs.Answering.{most_at_once};
 ghost use Rattle.h2_folder.specs.FoundFiles.{IsCopyOf, IsSmallIfRead, ReadsOctets};
 ghost use Rattle.h2_folder.specs.FoundFiles.{found_length, found_modified};
 ghost use Rattle.h2_folder.specs.Refusals.{missing_at, status_of_missing};
 
+use crate::answer::plain_head;
 use crate::recent::{MOST_AT_ONCE, Recent, RecentFile};
 use h2_files::path_below;
 use std::alloc::{AllocError, Global};
@@ -113,42 +115,86 @@ pub(crate) fn find<R: Files>(
 ) -> Result<Found<R::File>, Missing>
     ensures { IfOk result IsSmallIfRead }
 {
-    let path = path_below(alloc, root, names)?;
     // Where the time isn't known, nothing is kept.
     let Some(recent) = recent_at(recent, now) else {
-        let opened = open(files, alloc, root, names, path.as_str())?;
-        return read_small(alloc, opened);
+        return read_new(files, alloc, root, names);
     };
-    if let Some((octets, modified)) = recent.get(alloc, path.as_str(), now) {
+    if let Some((octets, modified)) = recent.get(alloc, names, now) {
         return Ok(Found::Small { octets, modified });
     }
-    let opened = open(files, alloc, root, names, path.as_str())?;
-    let found = read_small(alloc, opened)?;
-    if let Some(copy) = copy_of(alloc, path, now, &found) {
+    let found = read_new(files, alloc, root, names)?;
+    if let Some(copy) = copy_of(alloc, names, now, &found) {
         recent.keep(alloc, copy);
     }
     Ok(found)
 }
 
 /// What was read in a second; none where the time isn't known.
-fn recent_at<'a>(recent: Option<&'a Recent>, now: u64) -> Option<&'a Recent> {
+pub(crate) fn recent_at<'a>(recent: Option<&'a Recent>, now: u64) -> Option<&'a Recent> {
     if now == 0 { None } else { recent }
 }
 
 // contract: files (own) What a small file had in a second is answered in that second alone
-/// A copy of a small file with a path, which was read in a second; none where memory is missing.
-fn copy_of<F>(alloc: Global, path: String, second: u64, found: &Found<F>) -> Option<RecentFile>
-    ensures { IfSome result (λ file. IsCopyOf found.now (string_bytes path) second file) }
+/// A copy of a small file with these names, which was read in a second; none where memory is
+/// missing.
+fn copy_of<F>(alloc: Global, names: &[String], second: u64, found: &Found<F>) -> Option<RecentFile>
+    ensures { IfSome result (λ file. IsCopyOf found.now (texts names.now) second file) }
 {
-    let Found::Small { octets, modified } = found else {
-        return None;
-    };
-    Some(RecentFile {
-        path,
+    match found {
+        Found::Small { octets, modified } => {
+            kept_file(alloc, names, second, *modified, octets).ok()
+        }
+        Found::Open { .. } => None,
+    }
+}
+
+// contract: files (own) What a small file had in a second is answered in that second alone
+/// A small file that was read in a second, with copies of its names and of its octets.
+fn kept_file(
+    alloc: Global,
+    names: &[String],
+    second: u64,
+    modified: u64,
+    octets: &[u8],
+) -> Result<RecentFile, AllocError>
+    ensures { IfOk result (λ file. (file.names ≡ texts names.now) × (file.second ≡ second)
+        × (file.modified ≡ modified) × (file.octets ≡ octets.now)) }
+{
+    let head = plain_head(alloc, names, second, modified, octets)?;
+    let copies = copy_names(alloc, names)?;
+    let copy = Vec::from_slice(alloc, octets)?;
+    Ok(RecentFile {
+        names: copies,
         second,
-        modified: *modified,
-        octets: Vec::from_slice(alloc, octets).ok()?,
+        modified,
+        octets: copy,
+        head,
     })
+}
+
+/// Copies of names.
+fn copy_names(alloc: Global, names: &[String]) -> Result<Vec<String>, AllocError>
+    ensures { IfOk result (λ copies. texts copies.items ≡ texts names.now) }
+{
+    let mut copies = Vec::with_capacity(alloc, names.len())?;
+    for name in names {
+        copies.push(String::from_str(alloc, name.as_str())?)?;
+    }
+    Ok(copies)
+}
+
+/// Opens the file that names mean below a root, and reads it, if it is small.
+fn read_new<R: Files>(
+    files: &R,
+    alloc: Global,
+    root: &str,
+    names: &[String],
+) -> Result<Found<R::File>, Missing>
+    ensures { IfOk result IsSmallIfRead }
+{
+    let path = path_below(alloc, root, names)?;
+    let opened = open(files, alloc, root, names, path.as_str())?;
+    read_small(alloc, opened)
 }
 
 /// A file that was opened.

@@ -1,8 +1,9 @@
 //! The conditions of a request, each in one field line or in several.
 
-ghost use Rattle.std.specs.Prelude.{◌≡◌, IfOk, option_map, option_copied};
+ghost use Rattle.std.specs.Prelude.{◌≡◌, IfOk, option_map, option_copied, true};
 ghost use Rattle.h2_files.specs.Conditions.{asked_of};
-ghost use Rattle.h2_folder.specs.Lines.{asked_by_lines, asked_in, joined_value, with_line};
+ghost use Rattle.h2_folder.specs.Lines.{asked_by_lines, asked_in, is_condition, joined_value};
+ghost use Rattle.h2_folder.specs.Lines.{no_asked, with_line};
 
 use h2_files::Conditions;
 use h2_message::FieldList;
@@ -51,6 +52,32 @@ impl Lines {
             range: lent(&self.range),
         }
     }
+}
+
+// contract: files (own) What a small file had in a second is answered in that second alone
+/// Whether a request has none of the fields that decide which answer it has.
+pub(crate) fn is_plain(list: &FieldList) -> bool
+    ensures { result ≡ true → asked_in list.now ≡ no_asked }
+{
+    for field in list.iter() {
+        if is_condition(field.name) {
+            return false;
+        }
+    }
+    true
+}
+
+// rule: files (own) What a small file had in a second is answered in that second alone
+/// Whether a field with this name decides which answer a request has.
+fn is_condition(name: &[u8]) -> bool
+    ensures { result ≡ is_condition name.now }
+{
+    name == b"if-match".as_slice()
+        || name == b"if-unmodified-since".as_slice()
+        || name == b"if-none-match".as_slice()
+        || name == b"if-modified-since".as_slice()
+        || name == b"range".as_slice()
+        || name == b"if-range".as_slice()
 }
 
 /// A value, lent.

@@ -1,12 +1,15 @@
 //! Small files, as they were read in a second.
 
-ghost use Rattle.std.specs.Prelude.{◌≡◌, ◌≤◌, ◌⊎◌, Contains, IfOk, IfSome, Some, length};
+ghost use Rattle.std.specs.Prelude.{◌≡◌, ◌≤◌, ◌⊎◌, ℕ, Contains, IfOk, IfSome, Some, length, true};
+ghost use Rattle.h2_files.specs.Paths.{texts};
 ghost use Rattle.h2_folder.specs.Answering.{most_at_once};
 ghost use Rattle.h2_folder.specs.FoundFiles.{GivesKept};
-ghost use Rattle.h2_folder.specs.Recents.{IsKeptFile};
+ghost use Rattle.h2_folder.specs.Recents.{IsKeptFile, IsPlainAnswer, KeptFile};
 
+use h2_message::{Field, Message};
 use std::alloc::{AllocError, Global};
 use std::cell::RefCell;
+use std::marker::Model;
 
 /// A file of so many octets at most is read, and answered, at once.
 pub(crate) const MOST_AT_ONCE: u64 = 16_384;
@@ -23,20 +26,61 @@ const FNV_PRIME: u64 = 0x0000_0100_0000_01b3;
 /// A small file, as it was read in a second.
 #[derive(Drop)]
 pub struct RecentFile {
-    /// Its path, with that of its folder.
-    pub(crate) path: String,
+    /// The names of its path below its folder.
+    pub(crate) names: Vec<String>,
     /// The second after 1970 in which it was read.
     pub(crate) second: u64,
     /// When it was modified, in seconds after 1970.
     pub(crate) modified: u64,
     /// Its octets.
     pub(crate) octets: Vec<u8>,
+    /// The head of the answer to a GET of it without conditions, in that second.
+    pub(crate) head: Vec<Field>,
+}
+
+impl Model for RecentFile {
+    ghost use Rattle.std.specs.Prelude.{length};
+    ghost use Rattle.h2_files.specs.Paths.{texts};
+    ghost use Rattle.h2_folder.specs.Recents.{IsPlainHead, KeptFile};
+
+    ghost Value = { KeptFile };
+
+    ghost view = { λ file. record {
+      names = texts file.names.items;
+      second = file.second;
+      modified = file.modified;
+      octets = file.octets.items;
+    } };
+
+    ghost invariant = { λ file. IsPlainHead (texts file.names.items) file.second file.modified
+        (length file.octets.items) file.head.items };
 }
 
 impl RecentFile {
+    // rule: files (own) What a small file had in a second is answered in that second alone
+    /// Whether it has these names, and was read in this second.
+    fn is_of(&self, names: &[String], second: u64) -> bool
+        ensures names { result ≡ true → self.now.names ≡ texts names.now }
+        ensures second { result ≡ true → self.now.second ≡ second }
+    {
+        self.second == second && are_same(&self.names, names)
+    }
+
+    /// The place of its names.
+    fn place(&self) -> usize {
+        place_of(&self.names)
+    }
+
+    /// When it was modified, in seconds after 1970.
+    fn modified(&self) -> u64
+        ensures { result ≡ self.now.modified }
+    {
+        self.modified
+    }
+
     /// A copy of its octets; none where memory is missing.
     fn copy(&self, alloc: Global) -> Option<Vec<u8>>
-        ensures same { IfSome result (λ octets. octets.items ≡ self.now.octets.items) }
+        ensures same { IfSome result (λ octets. octets.items ≡ self.now.octets) }
         ensures few { IfSome result (λ octets. length octets.items ≤ most_at_once) }
     {
         if self.octets.len() as u64 > MOST_AT_ONCE {
@@ -44,9 +88,36 @@ impl RecentFile {
         }
         Vec::from_slice(alloc, &self.octets).ok()
     }
+
+    /// A copy of the answer to a GET of it without conditions; none where it has no octets, or
+    /// memory is missing.
+    fn answer(&self, alloc: Global) -> Option<Message>
+        ensures { IfSome result (IsPlainAnswer self.now.names self.now.second self.now.modified) }
+    {
+        if self.octets.is_empty() || self.octets.len() as u64 > MOST_AT_ONCE {
+            return None;
+        }
+        Some(Message {
+            head: copy_fields(alloc, &self.head).ok()?,
+            body: Vec::from_slice(alloc, &self.octets).ok()?,
+            trailers: None,
+        })
+    }
 }
 
-/// Files, each in the place of its path, where it takes the place of the one before.
+/// Copies of fields.
+fn copy_fields(alloc: Global, fields: &[Field]) -> Result<Vec<Field>, AllocError>
+    ensures { IfOk result (λ copies. copies.items ≡ fields.now) }
+{
+    let mut copies = Vec::with_capacity(alloc, fields.len())?;
+    for field in fields {
+        let (name, value) = (field.name.as_slice(), field.value.as_slice());
+        copies.push(Field::copy_of(alloc, name, value, field.sensitive)?)?;
+    }
+    Ok(copies)
+}
+
+/// Files, each in the place of its names, where it takes the place of the one before.
 #[derive(Drop)]
 pub(crate) struct RecentFiles {
     /// The places; none before a file is kept.
@@ -56,33 +127,44 @@ pub(crate) struct RecentFiles {
 impl RecentFiles {
     // contract: files (own) What a small file had in a second is answered in that second alone
     // rule: files (own) What a small file had in a second is answered in that second alone
-    /// The file with a path that was read in a second, if it is kept.
-    fn at(&self, path: &str, second: u64) -> Option<&RecentFile>
-        ensures { IfSome result (λ file.
-            IsKeptFile self.entry.now.places.items path.now second file.now) }
+    /// The file with these names that was read in a second, if it is kept.
+    fn at(&self, names: &[String], second: u64) -> Option<&RecentFile>
+        ensures { IfSome result (λ file. IsKeptFile self.entry.now.places.items
+            (texts names.now) second file.now) }
     {
-        match self.places.get(place_of(path)) {
-            Some(Some(file)) if file.second == second && file.path.as_str() == path => Some(file),
+        match self.places.get(place_of(names)) {
+            Some(Some(file)) if file.is_of(names, second) => Some(file),
             _ => None,
         }
     }
 
-    /// A copy of the octets of the file with a path that was read in a second, and when it was
+    /// A copy of the octets of the file with these names that was read in a second, and when it was
     /// modified; none where it isn't kept, or memory is missing.
-    fn copy_at(&self, alloc: Global, path: &str, second: u64) -> Option<(Vec<u8>, u64)>
-        ensures kept { IfSome result (λ found. GivesKept self.now.places.items path.now second
-            found.0.items found.1) }
+    fn copy_at(&self, alloc: Global, names: &[String], second: u64) -> Option<(Vec<u8>, u64)>
+        ensures kept { IfSome result (λ found. GivesKept self.now.places.items (texts names.now)
+            second found.0.items found.1) }
         ensures few { IfSome result (λ found. length found.0.items ≤ most_at_once) }
     {
-        let file = self.at(path, second)?;
+        let file = self.at(names, second)?;
         let octets = file.copy(alloc)?;
-        Some((octets, file.modified))
+        Some((octets, file.modified()))
     }
 
     // contract: files (own) What a small file had in a second is answered in that second alone
-    /// Keeps a file in the place of its path; where memory is missing nothing is kept.
+    /// The answer to a GET without conditions of the file with these names that was read in a
+    /// second; none where it isn't kept, has no octets, or memory is missing.
+    fn answer_at(&self, alloc: Global, names: &[String], second: u64) -> Option<Message>
+        ensures { IfSome result (λ message. (modified : ℕ)
+            × IsPlainAnswer (texts names.now) second modified message) }
+    {
+        let file = self.at(names, second)?;
+        file.answer(alloc)
+    }
+
+    // contract: files (own) What a small file had in a second is answered in that second alone
+    /// Keeps a file in the place of its names; where memory is missing nothing is kept.
     fn keep(&mut self, alloc: Global, file: RecentFile)
-        ensures { (one : RecentFile) → Contains self.new.places.items (Some one)
+        ensures { (one : KeptFile) → Contains self.new.places.items (Some one)
             → (one ≡ file) ⊎ Contains self.old.places.items (Some one) }
     {
         if self.places.is_empty() {
@@ -91,7 +173,7 @@ impl RecentFiles {
                 Err(_) => return,
             }
         }
-        if let Some(place) = self.places.get_mut(place_of(file.path.as_str())) {
+        if let Some(place) = self.places.get_mut(file.place()) {
             *place = Some(file);
         }
     }
@@ -99,7 +181,7 @@ impl RecentFiles {
 
 /// The places, each of them empty.
 fn empty_places(alloc: Global) -> Result<Vec<Option<RecentFile>>, AllocError>
-    ensures { IfOk result (λ places. (one : RecentFile) → Contains places.items (Some one) → ⊥) }
+    ensures { IfOk result (λ places. (one : KeptFile) → Contains places.items (Some one) → ⊥) }
 {
     let mut places = Vec::with_capacity(alloc, PLACES)?;
     for _ in 0..PLACES {
@@ -108,17 +190,40 @@ fn empty_places(alloc: Global) -> Result<Vec<Option<RecentFile>>, AllocError>
     Ok(places)
 }
 
-/// The place of a path.
-fn place_of(path: &str) -> usize {
+/// Whether names are the same.
+fn are_same(names: &[String], others: &[String]) -> bool
+    ensures { result ≡ true → texts names.now ≡ texts others.now }
+{
+    if names.len() != others.len() {
+        return false;
+    }
+    for place in 0..names.len() {
+        if names[place].as_str() != others[place].as_str() {
+            return false;
+        }
+    }
+    true
+}
+
+/// The place of names.
+fn place_of(names: &[String]) -> usize {
     let mut hash = FNV_BASIS;
-    for octet in path.as_bytes() {
-        hash = (hash ^ u64::from(*octet)).wrapping_mul(FNV_PRIME);
+    for name in names {
+        for octet in name.as_bytes() {
+            hash = hash_on(hash, *octet);
+        }
+        hash = hash_on(hash, 0);
     }
     (hash % PLACES as u64) as usize
 }
 
-/// Small files, as they were read, so that the file system isn't asked for one again within a
-/// second.
+/// A hash with one more octet.
+fn hash_on(hash: u64, octet: u8) -> u64 {
+    (hash ^ u64::from(octet)).wrapping_mul(FNV_PRIME)
+}
+
+/// Small files of one folder, as they were read, so that the file system isn't asked for one again
+/// within a second, nor the head of its answer made again.
 ///
 /// It holds 256 files at most, each of 16,384 octets at most: 4 MiB. A file that changes within a
 /// second is seen in the next one. That a file isn't there (404), or may not be read (403), is not
@@ -138,13 +243,26 @@ impl Recent {
         }
     }
 
-    /// A copy of the octets of the file with a path that was read in a second, and when it was
+    /// A copy of the octets of the file with these names that was read in a second, and when it was
     /// modified; none where it isn't kept, or memory is missing.
-    pub(crate) fn get(&self, alloc: Global, path: &str, second: u64) -> Option<(Vec<u8>, u64)>
+    pub(crate) fn get(&self, alloc: Global, names: &[String], second: u64) -> Option<(Vec<u8>, u64)>
         ensures { IfSome result (λ found. length found.0.items ≤ most_at_once) }
     {
         match self.files.try_borrow() {
-            Ok(files) => files.copy_at(alloc, path, second),
+            Ok(files) => files.copy_at(alloc, names, second),
+            Err(_) => None,
+        }
+    }
+
+    // contract: files (own) What a small file had in a second is answered in that second alone
+    /// The answer to a GET without conditions of the file with these names that was read in a
+    /// second; none where it isn't kept, has no octets, or memory is missing.
+    pub(crate) fn answer(&self, alloc: Global, names: &[String], second: u64) -> Option<Message>
+        ensures { IfSome result (λ message. (modified : ℕ)
+            × IsPlainAnswer (texts names.now) second modified message) }
+    {
+        match self.files.try_borrow() {
+            Ok(files) => files.answer_at(alloc, names, second),
             Err(_) => None,
         }
     }

@@ -9,6 +9,8 @@ use std::alloc::Global;
 pub struct Answer {
     /// The status.
     pub status: Vec<u8>,
+    /// The entity tag; nothing where there is none.
+    pub tag: Vec<u8>,
     /// The octets of the body.
     pub body: Vec<u8>,
 }
@@ -43,10 +45,12 @@ pub fn ask<W: Drop, H: Handler<Work = W>>(
     let answer = match reply {
         Reply::Whole(message) => Answer {
             status: status_of(alloc, &message.head)?,
+            tag: tag_of(alloc, &message.head)?,
             body: message.body,
         },
         Reply::Parts(head) => Answer {
             status: status_of(alloc, &head)?,
+            tag: tag_of(alloc, &head)?,
             body: body_of(alloc, handler, &mut work, room)?,
         },
         _ => return None,
@@ -80,4 +84,14 @@ fn body_of<W: Drop, H: Handler<Work = W>>(
 fn status_of(alloc: Global, head: &[Field]) -> Option<Vec<u8>> {
     let field = head.first()?;
     Vec::from_slice(alloc, field.value.as_slice()).ok()
+}
+
+/// The value of the field `etag`; nothing where there is none.
+fn tag_of(alloc: Global, head: &[Field]) -> Option<Vec<u8>> {
+    for field in head {
+        if field.name.as_slice() == b"etag".as_slice() {
+            return Vec::from_slice(alloc, field.value.as_slice()).ok();
+        }
+    }
+    Some(Vec::new(alloc))
 }

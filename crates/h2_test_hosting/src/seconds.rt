@@ -1,6 +1,6 @@
 //! A folder's answers within a second, and in the next one.
 
-use crate::asking::{ask, list_of};
+use crate::asking::{Answer, ask, list_of};
 use h2_folder::{Folder, Recent};
 use h2_hosting::Site;
 use std::alloc::{Allocator, Global};
@@ -77,13 +77,13 @@ impl<'a, R: Files> Files for At<'a, R> {
     }
 }
 
-/// The body of the answer to a GET of a file at once, with a range where there is one.
-fn body_at<R: Files + Clock>(
+/// The answer to a GET of a file at once, with one more field where there is one.
+fn answer_at<R: Files + Clock>(
     rt: &R,
     alloc: Global,
     recent: &Recent,
-    range: Option<&[u8]>,
-) -> Option<Vec<u8>> {
+    field: Option<(&[u8], &[u8])>,
+) -> Option<Answer> {
     let mut site = Site {
         folder: Folder {
             rt,
@@ -92,16 +92,29 @@ fn body_at<R: Files + Clock>(
         },
     };
     let get: [(&[u8], &[u8]); 2] = [(b":method", b"GET"), (b":path", b"/")];
-    let list = match range {
-        Some(range) => list_of(alloc, &[get[0], get[1], (b"range", range)])?,
+    let list = match field {
+        Some(field) => list_of(alloc, &[get[0], get[1], field])?,
         None => list_of(alloc, &get)?,
     };
     // Nothing is given in parts: there is no room for them.
-    let answer = ask(alloc, &mut site, &list, &mut [])?;
-    Some(answer.body)
+    ask(alloc, &mut site, &list, &mut [])
 }
 
-/// Whether that body is this one.
+/// Whether that answer has this status and this body.
+fn is_answer<R: Files + Clock>(
+    rt: &R,
+    alloc: Global,
+    recent: &Recent,
+    field: Option<(&[u8], &[u8])>,
+    wanted: (&[u8], &[u8]),
+) -> bool {
+    match answer_at(rt, alloc, recent, field) {
+        Some(answer) => answer.status.as_slice() == wanted.0 && answer.body.as_slice() == wanted.1,
+        None => false,
+    }
+}
+
+/// Whether the body of the answer to a GET, with a range where there is one, is this one.
 fn is_body<R: Files + Clock>(
     rt: &R,
     alloc: Global,
@@ -109,15 +122,25 @@ fn is_body<R: Files + Clock>(
     range: Option<&[u8]>,
     wanted: &[u8],
 ) -> bool {
-    match body_at(rt, alloc, recent, range) {
-        Some(body) => body.as_slice() == wanted,
-        None => false,
+    match range {
+        Some(range) => is_answer(rt, alloc, recent, Some((b"range", range)), (b"206", wanted)),
+        None => is_answer(rt, alloc, recent, None, (b"200", wanted)),
     }
 }
 
+/// Whether a GET with the tag of the file has 304, without a body.
+fn is_not_modified<R: Files + Clock>(rt: &R, alloc: Global, recent: &Recent) -> bool {
+    let Some(first) = answer_at(rt, alloc, recent, None) else {
+        return false;
+    };
+    let tag: (&[u8], &[u8]) = (b"if-none-match", first.tag.as_slice());
+    !first.tag.is_empty() && is_answer(rt, alloc, recent, Some(tag), (b"304", b""))
+}
+
 // rule: files (own) What a small file had in a second is answered in that second alone
-// A small file is answered whole, or a part of it; one that has changed as it was, within the
-// second, and as it is in the next one, and where the time isn't known.
+// A small file is answered whole, or a part of it, or as not modified, whether it is kept or not;
+// one that has changed as it was, within the second, and as it is in the next one, and where the
+// time isn't known.
 #[test]
 fn a_small_file(rt: HostRuntime) -> Result<(), Fail> {
     let _ = fs::remove_dir_all(&rt, ROOT); // of an earlier run
@@ -135,6 +158,8 @@ fn a_small_file(rt: HostRuntime) -> Result<(), Fail> {
     let recent = Recent::new(alloc);
     assert!(rt; is_body(&at, alloc, &recent, None, b"before\n"));
     assert!(rt; is_body(&at, alloc, &recent, Some(b"bytes=2-4"), b"for"));
+    assert!(rt; is_not_modified(&at, alloc, &recent));
+    assert!(rt; is_body(&at, alloc, &recent, None, b"before\n"));
     fs::write(
         &rt,
         "h2_test_hosting_seconds/index.html",

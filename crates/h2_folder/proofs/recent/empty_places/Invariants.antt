@@ -1,7 +1,7 @@
 -- No place so far holds a file.
 use Rattle.std.proofs.Common.{Contains, Some}
-use Rattle.h2_folder.specs.declared.recent.RecentFile.{RecentFile}
+use Rattle.h2_folder.specs.Recents.{KeptFile}
 use Rattle.h2_folder.proofs.recent.empty_places.Given as goal
 
 abbrev pub invariant-loop : goal.invariant-loop
-invariant-loop l = (one : RecentFile) → Contains l.places.items (Some one) → ⊥
+invariant-loop l = (one : KeptFile) → Contains l.places.items (Some one) → ⊥

@@ -3,17 +3,16 @@ use Rattle.std.proofs.lemmas.Result.{IfOk-weaker}
 use Rattle.h2_files.specs.Faults.{status_of_fault}
 use Rattle.h2_files.specs.Methods.{file_method}
 use Rattle.h2_files.specs.Paths.{names_of, texts, IsFaultOrMemory}
-use Rattle.h2_folder.specs.Answering.{AnswersSomeFile, value_in}
+use Rattle.h2_folder.specs.Answering.{AnswersMethod, value_in}
 use Rattle.h2_folder.specs.Heads.{short_message}
 use Rattle.h2_folder.specs.Lines.{asked_in}
-use Rattle.h2_folder.specs.Refusals.{status_of_missing}
-use Rattle.h2_folder.proofs.AnswerLemmas.{found_file, missing_file, refused_path}
+use Rattle.h2_folder.proofs.AnswerLemmas.{named_file, refused_path}
 use Rattle.std.specs.Prelude.{Ok}
 use Rattle.std.proofs.Common.{subst}
 use Rattle.h2_folder.proofs.answer.Folder.answer.Goals as goal
 
-pub returns-in-Err : goal.returns-in-Err
-returns-in-Err g c =
+pub returns-in_ok-message-in-Err : goal.returns-in_ok-message-in-Err
+returns-in_ok-message-in-Err g c =
     let list = c.args.list.now in
     let date = c.date_in-date.result in
     let fault = c.in-Err.fault in
@@ -28,34 +27,17 @@ returns-in-Err g c =
     c.has_content-has_body.ensures in
     refused_path _ c.in-Some.method _ _ fault _ method refused (date, short)
 
-pub returns : goal.returns
-returns g c =
-    let list = c.args.list.now in
-    let date = c.date_in-date.result in
-    let missing = c.in-Err-find.missing in
-    let method : file_method (value_in (codes ":method") list) ≡ Some c.in-Some.method =
-    ap file_method (sym c.value_in-name.ensures) ∙ sym c.of.ensures ∙ c.in-Some.is in
-    let named : names_of (value_in (codes ":path") list) ≡ Ok (texts c.in-Ok.names.items) =
-    ap names_of (sym c.value_in-path.ensures) ∙ c.in-Ok.ensures.exact in
-    let short = c.in_ok-message-in-Err-find.ensures
-    ∙ ap (λ (s : ℕ). short_message s date c.has_content-has_body.result)
-    c.status-in-Err-find.ensures
-    ∙ ap (λ (b : Bool). short_message (status_of_missing missing) date b)
-    c.has_content-has_body.ensures in
-    missing_file _ c.in-Some.method _ _ _ missing _ method named (date, short)
-
-pub returns-in-Ok-find : goal.returns-in-Ok-find
-returns-in-Ok-find g c =
+pub returns-in-Ok : goal.returns-in-Ok
+returns-in-Ok g c =
     let list = c.args.list.now in
     let items = texts c.in-Ok.names.items in
     let method : file_method (value_in (codes ":method") list) ≡ Some c.in-Some.method =
     ap file_method (sym c.value_in-name.ensures) ∙ sym c.of.ensures ∙ c.in-Some.is in
     let named : names_of (value_in (codes ":path") list) ≡ Ok items =
     ap names_of (sym c.value_in-path.ensures) ∙ c.in-Ok.ensures.exact in
-    let same : texts c.deref-in-Ok-find.result.now ≡ items =
-    ap texts c.deref-in-Ok-find.ensures.value in
-    IfOk-weaker c.answer_at.result _ _ (λ answered found. found_file
+    let same : texts c.deref.result.now ≡ items = ap texts c.deref.ensures.value in
+    IfOk-weaker c.answer_named.result _ _ (λ answered answers. named_file
     (file_method (value_in (codes ":method") list)) c.in-Some.method
     (names_of (value_in (codes ":path") list)) items (asked_in list) answered method named
-    (subst (λ (names : List (List ℕ)). AnswersSomeFile c.in-Some.method names (asked_in list)
-    answered) same found)) c.answer_at.ensures
+    (subst (λ (names : List (List ℕ)). AnswersMethod (Some c.in-Some.method) (Ok names)
+    (asked_in list) answered) same answers)) c.answer_named.ensures

@@ -16,7 +16,7 @@ returns-in-Some c = λ one found.
       | else-is_empty w ↦ subst (λ (files : RecentFiles).
           Contains files.places.items (Some one)) w.self-is there
     ] in
-    elim (kept_or_put c.if-is_empty.self.places.items c.place_of.result c.args.file one found) [
+    elim (kept_or_put c.if-is_empty.self.places.items c.place.result c.args.file one found) [
       | inl same ↦ inl same
       | inr there ↦ inr (before there)
     ]
