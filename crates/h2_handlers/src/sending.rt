@@ -16,8 +16,9 @@ const SHARE: usize = 16_384;
 
 impl<W: Drop, H: Handler<Work = W>> Handled<H, W> {
     /// Sends in one turn: gives credit back for what the handler has used, gives the answers that
-    /// waited for the output, asks the handler for one part of a response, and sends a share of
-    /// each body that was given whole. The room is where a part is put together.
+    /// waited for the output, sends a share of each body that was given whole, and asks the handler
+    /// for one part of a response. The share goes first: a part may fill the output and use up the
+    /// window of the connection, turn after turn. The room is where a part is put together.
     ///
     /// # Errors
     ///
@@ -33,8 +34,8 @@ impl<W: Drop, H: Handler<Work = W>> Handled<H, W> {
         }
         self.release()?;
         self.give_waiting()?;
-        self.ask(room)?;
         self.pump()?;
+        self.ask(room)?;
         self.settle();
         Ok(())
     }

@@ -10,16 +10,16 @@ pub returns-in_err-give_waiting-clause-handles : goal.returns-in_err-give_waitin
 returns-in_err-give_waiting-clause-handles g c =
     then_handles c.release.ensures c.give_waiting.ensures
 
-pub returns-in_err-ask-clause-handles : goal.returns-in_err-ask-clause-handles
-returns-in_err-ask-clause-handles g c =
-    then_handles (then_handles c.release.ensures c.give_waiting.ensures) c.ask.ensures.handles
-
 pub returns-in_err-pump-clause-handles : goal.returns-in_err-pump-clause-handles
 returns-in_err-pump-clause-handles g c =
+    then_handles (then_handles c.release.ensures c.give_waiting.ensures) c.pump.ensures
+
+pub returns-in_err-ask-clause-handles : goal.returns-in_err-ask-clause-handles
+returns-in_err-ask-clause-handles g c =
     then_handles (then_handles (then_handles c.release.ensures c.give_waiting.ensures)
-    c.ask.ensures.handles) c.pump.ensures
+    c.pump.ensures) c.ask.ensures.handles
 
 pub returns-clause-handles : goal.returns-clause-handles
 returns-clause-handles g c =
     then_handles (then_handles (then_handles (then_handles c.release.ensures
-    c.give_waiting.ensures) c.ask.ensures.handles) c.pump.ensures) c.settle.ensures
+    c.give_waiting.ensures) c.pump.ensures) c.ask.ensures.handles) c.settle.ensures
