@@ -170,8 +170,10 @@ many seconds after it began to connect, but while a name is looked up.
 Several URLs are asked for at once, each with the same fields and the same body.
 Their responses are printed in the order of the URLs, each after a line end but
 the first. The one that is printed goes out as it comes, as with --stream; what
-comes of later ones meanwhile is kept. One that is reset, or fails by --fail,
-ends no other; the status is that of the first that failed.
+comes of later ones meanwhile is kept, which is little: the windows of all
+streams are 65535 octets together. One that is reset, or fails by --fail, ends
+no other, and a hint names its URL; the status is that of the first that failed.
+At most 100 URLs are taken, all of one host and one port.
 
 With one URL, and without --output, --stream and --verbose, the body is kept
 until the response is complete, and nothing is printed of one that isn't. With

@@ -8,7 +8,8 @@ use Rattle.h2_ends.specs.Represents.{EndRepresents}
 use Rattle.h2_link.specs.declared.error.LinkError.{LinkError}
 use Rattle.h2_engines.specs.Linked.{Traffic, IsLinked, IsLinkedInPart}
 use Rattle.h2_engines.specs.ServerSteps.{IsSameOfMessages, error_with}
-use Rattle.h2_fetch.specs.Sends.{Asking, HasAsked}
+use Rattle.h2_fetch.specs.declared.sending.Credit.{Credit}
+use Rattle.h2_fetch.specs.Sends.{AllowsCredit, Asking, HasAsked}
 use Rattle.h2_fetch.specs.Several.{StopsAllFor}
 
 -- These octets were read, in a turn at least, or no more can be.
@@ -30,11 +31,11 @@ pub record ReadOver (values : Values) (asking : Asking) (start now : Traffic) (b
   pub so : ReadSo start now before after octets result
 
 -- Whatever has happened at a client that is up and has used all that it has read.
-abbrev pub ReadsOver : (before now : Traffic) → (old new : End) → (octets : List ℕ)
+abbrev pub ReadsOver : Credit → (before now : Traffic) → (old new : End) → (octets : List ℕ)
     → Result (Unit {0}) LinkError → Type 0
-ReadsOver before now old new octets result =
+ReadsOver credit before now old new octets result =
     (values : Values) (asking : Asking) (start : Traffic) (end : EndLog)
-    → EndRepresents values old end → HasAsked values asking end
+    → EndRepresents values old end → HasAsked values asking end → AllowsCredit credit asking
     → IsLinked start before end.log [] → end.log.failed ≡ None
     → ReadOver values asking start now end new octets result
 

@@ -1,8 +1,16 @@
 -- What a client that has made requests sends over a link, whatever has happened at it.
-use Rattle.std.specs.Prelude.{◌<◌, List, ℕ, length, None, Result, Err, OnOk, ◌≡◌}
-use Rattle.h2_spec_log.specs.Acts.{Values}
+use Rattle.std.specs.Prelude.{◌≡◌, ◌≢◌, ◌⊎◌, ◌<◌, List, ℕ, length, None, Result, Ok, Err, OnOk}
+use Rattle.h2_spec_log.specs.declared.refusal.Refusal.{Refusal}
+use Rattle.h2_spec_log.specs.declared.refusal.Refusal.TheVariants.{OutputFull}
+use Rattle.h2_spec_log.specs.Acts.{Values, Answer, Done, Refused, IsTypedAct, Release}
+use Rattle.h2_spec_log.specs.Log.{owed}
+use Rattle.h2_spec_log.specs.LogCalls.{MayAnswer, with_call}
 use Rattle.h2_message.specs.Messages.{SentMessage}
 use Rattle.h2_ends.specs.declared.end.End.{End}
+use Rattle.h2_ends.specs.declared.refusal.EndRefusal.{EndRefusal}
+use Rattle.h2_ends.specs.declared.refusal.EndRefusal.TheVariants.{Conn}
+use Rattle.h2_ends.specs.EndCalls.{MayPump, MayReleaseAll}
+use Rattle.h2_ends.specs.EndTakes.{end_with_log}
 use Rattle.h2_ends.specs.Ends.{EndLog}
 use Rattle.h2_ends.specs.Represents.{EndRepresents}
 use Rattle.h2_link.specs.declared.error.LinkError.{LinkError}
@@ -12,6 +20,8 @@ use Rattle.h2_engines.specs.Failures.{IsOutOfMemory}
 use Rattle.h2_engines.specs.Linked.{Traffic, HasGiven, HasStalled, IsLinked}
 use Rattle.h2_engines.specs.Machines.{WritesOut}
 use Rattle.h2_engines.specs.ServerSteps.{IsSameOfMessages, TookBy}
+use Rattle.h2_fetch.specs.declared.sending.Credit.{Credit}
+use Rattle.h2_fetch.specs.declared.sending.Credit.TheVariants.{All, On}
 use Rattle.h2_fetch.specs.Several.{AskedOn, IsFetchingSeveral}
 
 -- what a client has asked for: it makes one request, or several
@@ -23,6 +33,64 @@ pub data Asking : Type 0 where
 abbrev pub HasAsked : Values → Asking → EndLog → Type 0
 HasAsked values (AsksOne message) end = IsFetching values message end
 HasAsked values (AsksSeveral asked) end = IsFetchingSeveral values asked end
+
+-- Whose credit may be given back on one stream alone: that of several requests.
+abbrev pub AllowsCredit : Credit → Asking → Type 0
+AllowsCredit (On id) (AsksOne message) = ⊥
+AllowsCredit credit asking = Unit {0}
+
+-- how a call that releases credit on a stream is answered
+abbrev pub released_by : Result (Unit {0}) EndRefusal → Answer → Type 0
+released_by (Ok done) answer = answer ≡ Done
+released_by (Err (Conn refusal)) answer = answer ≡ Refused refusal
+released_by (Err refusal) answer = ⊥
+
+-- All that is owed on a stream is released, by one call, unless it is refused; no call is made
+-- where nothing is owed there.
+-- rule: engines (own) A response that is waited for has its window, and no other
+pub data ReleasesOn (end : EndLog) (id : ℕ) (result : Result (Unit {0}) EndRefusal) (after : EndLog)
+    : Type 0 where
+  owes_none : owed end.log id ≡ 0 → result ≡ Ok tt → after ≡ end → ReleasesOn end id result after
+  releases_owed : (answer : Answer) → owed end.log id ≢ 0
+      → IsTypedAct (Release id (owed end.log id))
+      → MayAnswer end.log (Release id (owed end.log id)) answer → released_by result answer
+      → after ≡ end_with_log end (with_call end.log (Release id (owed end.log id)) answer)
+      → ReleasesOn end id result after
+
+-- what giving credit back may have made of a client
+-- rule: engines (own) A response that is waited for has its window, and no other
+abbrev pub MayGiveBack : Credit → EndLog → Result (Unit {0}) EndRefusal → EndLog → Type 0
+MayGiveBack All end result after = MayReleaseAll end result after
+MayGiveBack (On id) end result after = ReleasesOn end id result after
+
+abbrev pub GivesBack : Credit → (old new : End) → Result (Unit {0}) EndRefusal → Type 0
+GivesBack credit old new result =
+    (values : Values) (end : EndLog) → EndRepresents values old end
+    → (after : EndLog) × MayGiveBack credit end result after × EndRepresents values new after
+
+-- What a client has sent: while the connection is up this credit was given back, and what could be
+-- sent was, but for what a full output holds back, or as far as there was memory; once it has
+-- failed, nothing.
+pub data HasSentBack (credit : Credit) (before after : EndLog) : Result (Unit {0}) LinkError
+    → Type 0 where
+  sends_nothing : before.log.failed ≢ None → after ≡ before
+      → HasSentBack credit before after (Ok tt)
+  sends_more : (middle : EndLog) (released : Result (Unit {0}) EndRefusal) (sent : ℕ)
+      → before.log.failed ≡ None → MayGiveBack credit before released middle
+      → (released ≡ Ok tt) ⊎ (released ≡ Err (Conn OutputFull))
+      → MayPump middle (Ok sent) after → HasSentBack credit before after (Ok tt)
+  gives_none_back : (released : Result (Unit {0}) EndRefusal) (error : LinkError)
+      → error ≡ errors.Memory → before.log.failed ≡ None
+      → MayGiveBack credit before released after → HasSentBack credit before after (Err error)
+  pumps_no_more : (middle : EndLog) (released : Result (Unit {0}) EndRefusal)
+      (sent : Result ℕ EndRefusal) (error : LinkError) → error ≡ errors.Memory
+      → before.log.failed ≡ None → MayGiveBack credit before released middle
+      → MayPump middle sent after → HasSentBack credit before after (Err error)
+
+abbrev pub SendsCredit : Credit → (old new : End) → Result (Unit {0}) LinkError → Type 0
+SendsCredit credit old new result =
+    (values : Values) (end : EndLog) → EndRepresents values old end
+    → (after : EndLog) × EndRepresents values new after × HasSentBack credit end after result
 
 -- What waits is written, or as far as that went, in a turn at least.
 abbrev pub WritesOver : (before now : Traffic) → (old new : End) → Result (Unit {0}) LinkError
@@ -40,8 +108,8 @@ StopsSending now end (Err errors.Memory) = IsOutOfMemory end.log
 StopsSending now end (Err errors.NoProgress) = HasStalled now end
 StopsSending now end result = Unit {0}
 
--- All that is owed was given back, what could go of the request was sent, and all of that was
--- written, or as far as it went.
+-- Credit was given back, what could go of the request was sent, and all of that was written, or as
+-- far as it went.
 pub record SentOver (values : Values) (asking : Asking) (start now : Traffic)
     (before : EndLog) (new : End) (unused : List ℕ) (result : Result (Unit {0}) LinkError) : Type 0
   where
@@ -54,10 +122,10 @@ pub record SentOver (values : Values) (asking : Asking) (start now : Traffic)
     pub turns : OnOk result (length before.log.turns < length after.log.turns)
     pub why : StopsSending now after result
 
-abbrev pub SendsAllOver : (before now : Traffic) → (old new : End) → Result (Unit {0}) LinkError
-    → Type 0
-SendsAllOver before now old new result =
+abbrev pub SendsAllOver : Credit → (before now : Traffic) → (old new : End)
+    → Result (Unit {0}) LinkError → Type 0
+SendsAllOver credit before now old new result =
     (values : Values) (asking : Asking) (start : Traffic) (end : EndLog) (unused : List ℕ)
-    → EndRepresents values old end → HasAsked values asking end
+    → EndRepresents values old end → HasAsked values asking end → AllowsCredit credit asking
     → IsLinked start before end.log unused → end.log.failed ≡ None
     → SentOver values asking start now end new unused result

@@ -4,14 +4,14 @@ use Rattle.std.specs.Prelude.{Some, None, Result, Ok, Err}
 use Rattle.std.specs.List.{Contains}
 use Rattle.h2_spec_log.specs.declared.role.Role.TheVariants.{Client}
 use Rattle.h2_spec_log.specs.declared.refusal.Refusal.TheVariants.{ListTooLarge}
-use Rattle.h2_spec_log.specs.Acts.{Values, AreInRange, Answer, IsTypedAct, PutOut}
+use Rattle.h2_spec_log.specs.Acts.{Values, AreInRange, Answer, IsTypedAct, PutOut, Release}
 use Rattle.h2_spec_log.specs.Events.{ResetEvent, UnprocessedEvent}
 use Rattle.h2_spec_log.specs.LogCalls.{MayAnswer, with_call}
 use Rattle.h2_message.specs.Messages.{SentMessage}
 use Rattle.h2_laws_pair.specs.Tokens.{at_once}
 use Rattle.h2_ends.specs.declared.refusal.EndRefusal.{EndRefusal}
 use Rattle.h2_ends.specs.declared.refusal.EndRefusal.TheVariants.{BadMessage, Conn}
-use Rattle.h2_ends.specs.Ends.{EndLog, EndAnswer, Handed, Passed, said_for}
+use Rattle.h2_ends.specs.Ends.{EndLog, EndAnswer, Handed, InterimHanded, Passed, said_for}
 use Rattle.h2_ends.specs.EndTakes.{EndMayTake, end_with_log}
 use Rattle.h2_ends.specs.EndCalls.{MayRequest, MayPump, MayReleaseAll}
 use Rattle.h2_ends.specs.Represents.{EndRepresents, new_end_log}
@@ -45,6 +45,11 @@ pub data IsFetchingSeveral (values : Values) : List AskedOn → EndLog → Type 
   releases : {asked : List AskedOn} {end after : EndLog} → IsFetchingSeveral values asked end
       → (result : Result (Unit {0}) EndRefusal) → MayReleaseAll end result after
       → IsFetchingSeveral values asked after
+  releases_on : {asked : List AskedOn} {end : EndLog} → IsFetchingSeveral values asked end
+      → (id count : ℕ) (answer : Answer) → IsTypedAct (Release id count)
+      → MayAnswer end.log (Release id count) answer
+      → IsFetchingSeveral values asked
+      (end_with_log end (with_call end.log (Release id count) answer))
   pumps : {asked : List AskedOn} {end after : EndLog} → IsFetchingSeveral values asked end
       → (result : Result ℕ EndRefusal) → MayPump end result after
       → IsFetchingSeveral values asked after
@@ -64,8 +69,9 @@ pub data OnStream : Type 0 where
   PartOn : (handed : Handed) → OnStream
   DropOn : (code : ℕ) → OnStream
 
--- what was handed out, where it has come on a stream
+-- what was handed out, where it has come on a stream; interim responses are dropped
 abbrev pub as_on : ℕ → Handed → List OnStream
+as_on i (InterimHanded id list) = []
 as_on i (Passed (ResetEvent id code ours)) = if id == i then DropOn code ∷ [] else []
 as_on i (Passed (UnprocessedEvent id)) = if id == i then DropOn refused_stream ∷ [] else []
 as_on i handed = if is_on i handed then PartOn handed ∷ [] else []

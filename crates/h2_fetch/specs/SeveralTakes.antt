@@ -23,9 +23,10 @@ use Rattle.h2_fetch.specs.declared.several.Came.TheVariants.{Part, Dropped}
 use Rattle.h2_fetch.specs.Parts.{handed_of}
 use Rattle.h2_fetch.specs.Several.{error_of_request}
 
--- the stream of what was handed out, where that is a part of a message, or no more comes on it
+-- the stream of what was handed out, where that is a part of a final response, or no more comes on
+-- it
 abbrev pub stream_of_handed : Handed → Option ℕ
-stream_of_handed (InterimHanded id list) = Some id
+stream_of_handed (InterimHanded id list) = None
 stream_of_handed (HeadHanded id list end) = Some id
 stream_of_handed (BodyHanded id octets end) = Some id
 stream_of_handed (TrailersHanded id list) = Some id

@@ -91,12 +91,12 @@ fn came_of(
     }
 }
 
-/// The stream of what was handed out, where that is a part of a message, or no more comes on it.
+/// The stream of what was handed out, where that is a part of a final response, or no more comes on
+/// it.
 fn stream_of_handed(event: EndEvent<&FieldList, &[u8]>) -> Option<u32>
     ensures { result ≡ stream_of_handed (event_handed event.entry) }
 {
     match event {
-        EndEvent::Interim { id, .. } => Some(id),
         EndEvent::Head { id, .. } => Some(id),
         EndEvent::Body { id, .. } => Some(id),
         EndEvent::Trailers { id, .. } => Some(id),

@@ -12,7 +12,7 @@ ghost use Rattle.h2_fetch.specs.Takes.{TakesPartOnce, part_in};
 use crate::errors::{error_of_refusal, unless_failed};
 use crate::part::{ResponsePart, part_of};
 use crate::reading::read_piece;
-use crate::sending::end_early;
+use crate::sending::{Credit, end_early};
 use h2_ends::{Client, Code, Config, Conn, EndEvent, EndRefusal, Message, Refusal};
 use h2_link::{Link, LinkError};
 use std::alloc::Global;
@@ -159,7 +159,7 @@ impl PartFetch {
         ensures stream { self.new.id ≡ self.old.id }
     {
         self.used = 0;
-        read_piece(&mut self.client, &mut self.input, link)
+        read_piece(&mut self.client, Credit::All, &mut self.input, link)
     }
 
     /// How a fetch ends that can't go on. Where the connection has failed, all that waits is

@@ -5,28 +5,30 @@ ghost use Rattle.h2_engines.specs.Failures.{CutsOffAtEnd, failures_at_end};
 ghost use Rattle.h2_engines.specs.Linked.{traffic};
 ghost use Rattle.h2_fetch.specs.Reads.{ReadsOver};
 
-use crate::sending::send_all;
+use crate::sending::{Credit, send_all};
 use h2_ends::Client;
 use h2_link::{Link, LinkError};
 
 /// How many octets are read at a time, at most.
 const PIECE: usize = 16_384;
 
-/// Sends what could go, and reads a piece in the place of the one before, all of which was used.
+/// Gives this credit back, sends what could go, and reads a piece in the place of the one before,
+/// all of which was used.
 pub(crate) fn read_piece<L: Link>(
     client: &mut Client,
+    credit: Credit,
     input: &mut Vec<u8>,
     link: &mut L,
 ) -> Result<(), LinkError>
     requires { L.faults link.old < 2 ^ 64 - 1 }
-    ensures reads { ReadsOver
+    ensures reads { ReadsOver credit
         (traffic (L.given link.old) (L.taken link.old) (L.stalled link.old))
         (traffic (L.given link.new) (L.taken link.new) (L.stalled link.new))
         client.old.end client.new.end input.new.items result }
     ensures cut_off { CutsOffAtEnd result (L.ended link.new) }
     ensures failures { L.faults link.new ≡ failures_at_end (L.faults link.old) result }
 {
-    send_all(client, link)?;
+    send_all(client, credit, link)?;
     input.clear();
     input.resize(PIECE, 0)?;
     let count = link.read(input)?;

@@ -5,9 +5,8 @@ ghost use Rattle.h2_engines.specs.Failures.{EndsWriting, IsOfCall, IsOfClient, f
 ghost use Rattle.h2_engines.specs.Failures.{failures_by};
 ghost use Rattle.h2_engines.specs.Linked.{traffic};
 ghost use Rattle.h2_engines.specs.ServerSteps.{PumpsSome};
-ghost use Rattle.h2_engines.specs.WithoutLink.{SendsWaiting};
 ghost use Rattle.h2_fetch.specs.Reads.{EndsOver};
-ghost use Rattle.h2_fetch.specs.Sends.{SendsAllOver, WritesOver};
+ghost use Rattle.h2_fetch.specs.Sends.{GivesBack, SendsAllOver, SendsCredit, WritesOver};
 
 use crate::errors::unless_refused;
 use h2_ends::{Client, EndRefusal, Refusal};
@@ -15,12 +14,25 @@ use h2_engines::write_waiting;
 use h2_frame::limits::FULL_OUTPUT;
 use h2_link::{Link, LinkError};
 
+/// Which credit is given back before a read.
+#[derive(Clone, Copy, Debug)]
+pub(crate) enum Credit {
+    /// All that is owed.
+    All,
+    /// What is owed on this stream.
+    On(u32),
+}
+
 // rule: engines (own) Over a link credit is returned and what could be sent is sent
-/// Gives back all that is owed, sends what waits of the requests, and writes all of that, until
-/// nothing more could go.
-pub(crate) fn send_all<L: Link>(client: &mut Client, link: &mut L) -> Result<(), LinkError>
+/// Gives back what is owed, sends what waits of the requests, and writes all of that, until nothing
+/// more could go.
+pub(crate) fn send_all<L: Link>(
+    client: &mut Client,
+    credit: Credit,
+    link: &mut L,
+) -> Result<(), LinkError>
     requires { L.faults link.old < 2 ^ 64 - 1 }
-    ensures sends { SendsAllOver
+    ensures sends { SendsAllOver credit
         (traffic (L.given link.old) (L.taken link.old) (L.stalled link.old))
         (traffic (L.given link.new) (L.taken link.new) (L.stalled link.new))
         client.old.end client.new.end result }
@@ -28,7 +40,7 @@ pub(crate) fn send_all<L: Link>(client: &mut Client, link: &mut L) -> Result<(),
     ensures err { IfErr result EndsWriting }
 {
     for _ in 0..u64::MAX {
-        send_waiting(client)?;
+        send_waiting(client, credit)?;
         let is_full = client.conn().waiting() >= FULL_OUTPUT;
         write_out(client, link)?;
         if !is_full {
@@ -39,19 +51,37 @@ pub(crate) fn send_all<L: Link>(client: &mut Client, link: &mut L) -> Result<(),
 }
 
 // rule: engines (own) Over a link credit is returned and what could be sent is sent
-/// Gives back all that is owed and sends what waits of the requests, while the connection is up.
-/// What a full output holds back is given back later.
-fn send_waiting(client: &mut Client) -> Result<(), LinkError>
-    ensures sends { SendsWaiting client.old.end client.new.end result }
+/// Gives back what is owed and sends what waits of the requests, while the connection is up. What a
+/// full output holds back is given back later.
+fn send_waiting(client: &mut Client, credit: Credit) -> Result<(), LinkError>
+    ensures sends { SendsCredit credit client.old.end client.new.end result }
     ensures err { IfErr result IsOfCall }
 {
     if client.conn().failed().is_some() {
         return Ok(());
     }
-    let released = client.release_all();
+    let released = give_back(client, credit);
     match released {
         Ok(()) | Err(EndRefusal::Conn(Refusal::OutputFull)) => pump(client),
         _ => unless_refused(released),
+    }
+}
+
+// rule: engines (own) A response that is waited for has its window, and no other
+/// Gives back what is owed: all of it, or that of one stream.
+fn give_back(client: &mut Client, credit: Credit) -> Result<(), EndRefusal>
+    ensures { GivesBack credit client.old.end client.new.end result }
+{
+    match credit {
+        Credit::All => client.release_all(),
+        Credit::On(id) => {
+            let owed = client.conn().owed(id);
+            if owed == 0 {
+                return Ok(());
+            }
+            client.release(id, owed)?;
+            Ok(())
+        }
     }
 }
 

@@ -11,7 +11,7 @@ use crate::coming::{CameNext, take_came};
 use crate::kept::{keep, take_kept};
 use crate::part::ResponsePart;
 use crate::reading::read_piece;
-use crate::sending::end_early;
+use crate::sending::{Credit, end_early};
 use h2_ends::{Client, Config, Conn, Message};
 use h2_link::{Link, LinkError};
 use std::alloc::Global;
@@ -29,7 +29,12 @@ pub enum Came {
 
 /// A client that makes several requests at once over a link, and answers the response of each part
 /// by part, of whichever stream is asked for. What comes of the others meanwhile is kept until it
-/// is asked for.
+/// is asked for: no more of a body than a stream's window, since that is opened again only for the
+/// stream that is asked for. Interim responses are dropped.
+///
+/// The connection's window is 65,535 octets, and what is kept takes its part of that. So with `n`
+/// requests, the windows of streams ([`Config::initial_window`]) are to be 65,535 / `n` octets at
+/// most: else what is kept may take all of it, and nothing more comes.
 #[derive(Drop)]
 pub struct SeveralFetch {
     pub(crate) alloc: Global,
@@ -105,8 +110,8 @@ impl SeveralFetch {
 
     // contract: engines (own) Responses of several requests are what is handed out, each in order
     // rule: engines (own) Responses of several requests are what is handed out, each in order
-    /// The next part of the response on a stream of its requests. Where none is there, all that is
-    /// owed is released, what waits is written, and then the link is read. Nothing is to be asked
+    /// The next part of the response on a stream of its requests. Where none is there, what is owed
+    /// on that stream is released, what waits is written, and then the link is read. Nothing is to be asked
     /// for after the part with which the response is whole, or after [`Came::Dropped`]. A link that
     /// has failed isn't used any more.
     ///
@@ -145,7 +150,7 @@ impl SeveralFetch {
         for _ in 0..u64::MAX {
             match self.take_next(id) {
                 Ok(Some(came)) => return Ok(came),
-                Ok(None) => self.refill(link)?,
+                Ok(None) => self.refill(id, link)?,
                 Err(error) => return Err(end_early(&mut self.client, link, error)),
             }
         }
@@ -179,8 +184,8 @@ impl SeveralFetch {
         Err(LinkError::NoProgress)
     }
 
-    /// Sends what could go, and reads a piece.
-    fn refill<L: Link>(&mut self, link: &mut L) -> Result<(), LinkError>
+    /// Gives back what is owed on a stream, sends what could go, and reads a piece.
+    fn refill<L: Link>(&mut self, id: u32, link: &mut L) -> Result<(), LinkError>
         requires { L.faults link.old < 2 ^ 64 - 1 }
         ensures fills { FillsSeveral
             (traffic (L.given link.old) (L.taken link.old) (L.stalled link.old))
@@ -192,6 +197,7 @@ impl SeveralFetch {
         ensures kept { self.new.kept ≡ self.old.kept }
     {
         self.used = 0;
-        read_piece(&mut self.client, &mut self.input, link)
+        let credit = Credit::On(id);
+        read_piece(&mut self.client, credit, &mut self.input, link)
     }
 }

@@ -252,6 +252,17 @@ abbrev pub results_of : Result SeveralStreamed StreamEnding
 results_of (Ok several) = Ok several.results.items
 results_of (Err ending) = Err ending.error
 
+-- the window of each of so many streams: its share of the connection's (RFC 9113, section 6.9.2),
+-- so that what comes of one that nobody waits for never takes what another needs
+-- rule: engines (own) A response that is waited for has its window, and no other
+abbrev pub window_among : (streams : ℕ) → ℕ
+window_among streams = if streams == 0 then 65535 else max 1 (65535 / streams)
+
+-- the values of a client that makes so many requests
+-- rule: engines (own) A response that is waited for has its window, and no other
+abbrev pub several_values : (requests : ℕ) → Values
+several_values requests = record default_values { initial_window = window_among requests }
+
 -- The requests were made at once over a new connection, and their responses were printed one after
 -- another, however that has ended; or no connection could be made, or one of the requests was not
 -- accepted, and nothing was printed. Out of memory for what came of them says nothing.
@@ -261,10 +272,12 @@ pub data StreamsRequests (words : GetWords) (messages : List SentMessage)
     → Type 0 where
   none_connected : (error : LinkError) → (error ≡ errors.Device) ⊎ (error ≡ errors.Memory)
       → after ≡ before → StreamsRequests words messages before after (Err (streams.Link error))
-  one_refused : (error : LinkError) → RefusesOne default_values messages error → after ≡ before
+  one_refused : (error : LinkError) → RefusesOne (several_values (length messages)) messages error
+      → after ≡ before
       → StreamsRequests words messages before after (Err (streams.Link error))
   are_streamed : (asked : List AskedOn) (start now : Traffic) (fetch : SeveralFetch)
       (results : List (Result Fetched StreamError)) → map (λ one. one.1) asked ≡ messages
-      → StreamedSeveral words default_values start now asked fetch before after results
+      → StreamedSeveral words (several_values (length messages)) start now asked fetch before after
+      results
       → StreamsRequests words messages before after (Ok results)
   results_lost : StreamsRequests words messages before after (Err (streams.Link errors.Memory))

@@ -1,22 +1,23 @@
 //! Several locations of one host and port that are fetched at once over one connection and printed
 //! one after another.
 
-ghost use Rattle.std.specs.Prelude.{◌≡◌, ◌⊎◌, IfErr, IfOk, None, map};
+ghost use Rattle.std.specs.Prelude.{◌≡◌, ◌⊎◌, IfErr, IfOk, None, length, map};
 ghost use Rattle.h2_spec_log.specs.Acts.{Values};
 ghost use Rattle.h2_spec_log.specs.Log.{Log};
 ghost use Rattle.h2_conn.specs.Conn.{ConnRepresents};
 ghost use Rattle.h2_conn.specs.Why.{IsWhy};
 ghost use Rattle.h2_message.specs.Values.{message_value};
 ghost use Rattle.h2_fetch.specs.Several.{BeginsSeveral, RefusesOne};
-ghost use Rattle.h2_net.specs.Fetching.{default_values};
 ghost use Rattle.h2_args.specs.Words.{asked_by};
 ghost use Rattle.h2_get.specs.Several.{SeveralOver, StreamsRequests, results_of};
+ghost use Rattle.h2_get.specs.Several.{several_values, window_among};
 
 use crate::connect::{connect_to, end_fetch, send_held};
 use crate::pass_error::{SeveralStreamed, StreamEnding, StreamError};
 use crate::several::stream_several;
 use h2_args::GetOptions;
 use h2_engines::{Config, Message};
+use h2_frame::limits::{FIRST_TABLE, FIRST_WINDOW, LEAST_MAX_STREAMS};
 use h2_fetch::SeveralFetch;
 use h2_net::{Fetched, LinkError, Location, StreamLink, WriteParts};
 use h2_watch::WatchedLink;
@@ -66,13 +67,32 @@ where
     }
 }
 
-/// A fetch of several responses with a client of the default values.
+// rule: engines (own) A response that is waited for has its window, and no other
+/// A fetch of several responses, each with its share of the connection's window.
 fn begin_several(alloc: Global, messages: Vec<Message>) -> Result<SeveralFetch, LinkError>
-    ensures ok { IfOk result (BeginsSeveral default_values (map message_value messages.items)) }
-    ensures refused { IfErr result (RefusesOne default_values
+    ensures ok { IfOk result (BeginsSeveral (several_values (length messages.items))
+        (map message_value messages.items)) }
+    ensures refused { IfErr result (RefusesOne (several_values (length messages.items))
         (map message_value messages.items)) }
 {
-    SeveralFetch::new(alloc, Config::default(), messages)
+    let Ok(config) = Config::new(FIRST_TABLE, window_among(messages.len()), LEAST_MAX_STREAMS)
+    else {
+        return Err(LinkError::Memory);
+    };
+    SeveralFetch::new(alloc, config, messages)
+}
+
+// rule: engines (own) A response that is waited for has its window, and no other
+/// The window of each of so many streams: its share of the connection's, so that what comes of one
+/// that nobody waits for never takes what another needs.
+fn window_among(streams: usize) -> u32
+    ensures { result ≡ window_among streams }
+{
+    let share = match streams {
+        0 => FIRST_WINDOW as usize,
+        streams => FIRST_WINDOW as usize / streams,
+    };
+    u32::try_from(share.max(1)).unwrap_or(FIRST_WINDOW)
 }
 
 // rule: engines (own) get -v shows the frames of both sides as they come

@@ -1,7 +1,8 @@
 -- How `h2 get` ends with several URLs, which it asks for at once over one connection.
 use Rattle.std.specs.Prelude.{◌≡◌, ◌⊎◌, ◌==◌, ◌&&◌, ℕ, Bool, true, false, List, [], ◌∷◌, map}
 use Rattle.std.specs.Prelude.{Option, Some, None, Result, Ok, Err, MatchBool, if◌then◌else◌}
-use Rattle.std.specs.Prelude.{is_some, string_bytes}
+use Rattle.std.specs.Prelude.{is_some, length, nat_lt, string_bytes}
+use Rattle.core.specs.Char.{to_ascii_lowercase}
 use Rattle.std.specs.List.{AllByRecursion, Contains}
 use Rattle.std.specs.Str.{bytes_eq}
 use Rattle.h2_cli.specs.declared.status.Status.{Status}
@@ -33,6 +34,12 @@ has_some (one ∷ more) = true
 abbrev pub has_others : GetWords → Bool
 has_others words = has_some words.others
 
+-- whether they name more than can be fetched at once: a server is to let a client have so many
+-- streams (RFC 9113, section 6.5.2)
+-- rule: engines (own) Several responses are printed in the order of their URLs
+abbrev pub has_too_many : GetWords → Bool
+has_too_many words = nat_lt 100 (length (words.url ∷ words.others))
+
 -- the URLs that the words name, in order
 -- rule: engines (own) Several responses are printed in the order of their URLs
 abbrev pub urls_of : GetWords → List (List ℕ)
@@ -42,11 +49,15 @@ urls_of words = words.url ∷ words.others
 abbrev pub with_url : GetWords → (url : List ℕ) → GetWords
 with_url words url = record words { url = url }
 
+-- a host as it is compared: its case doesn't count (RFC 3986, section 3.2.2)
+abbrev pub host_compared : Location → List ℕ
+host_compared location = map to_ascii_lowercase (string_bytes location.host)
+
 -- whether two locations are of one host and port
 -- rule: engines (own) Several responses are printed in the order of their URLs
 abbrev pub is_same_host : (one other : Location) → Bool
 is_same_host one other =
-    bytes_eq (string_bytes one.host) (string_bytes other.host) && one.port == other.port
+    bytes_eq (host_compared one) (host_compared other) && one.port == other.port
 
 -- These are the locations that URLs name, in order, where the words give this port.
 -- rule: engines (own) Several responses are printed in the order of their URLs
@@ -94,15 +105,15 @@ IsRefusedForOne words body given fault = (location : Location) × Contains given
     × IsRefusedRequest words body location fault
 
 -- How `get` ends before it asks for any of several URLs: one of them, the body or one of the
--- requests is refused, as that of one URL would be; or the words name a file for the body, or two
--- hosts, which has a line on standard error.
+-- requests is refused, as that of one URL would be; or the words name a file for the body, too many
+-- URLs, or two hosts, which has a line on standard error.
 -- rule: engines (own) Several responses are printed in the order of their URLs
 abbrev pub AsksNone : GetWords → (remaining before after : Option (List ℕ)) → Status → Type 0
 AsksNone words remaining before after status =
     ((url : List ℕ) × Contains (urls_of words) url
     × AsksNothing (with_url words url) remaining before after status)
-    ⊎ (((is_some words.output ≡ true) ⊎ HasOtherHost words) × EndsByRefusal status
-    × (after ≡ before))
+    ⊎ (((is_some words.output ≡ true) ⊎ ((has_too_many words ≡ true) ⊎ HasOtherHost words))
+    × EndsByRefusal status × (after ≡ before))
 
 -- The locations that the URLs name, of one host and port, were asked for at once, each with the
 -- request that the words ask for, all with one body; and their responses were printed in the order
@@ -119,6 +130,7 @@ pub record SeveralAsked (words : GetWords) (remaining before after : Option (Lis
   pub is : IsBodyAsked words remaining body
   pub asked : AllByRecursion (IsAskable words body) (first ∷ others)
   pub no_file : words.output ≡ None
+  pub few : has_too_many words ≡ false
   pub streams : StreamsRequests words (map (request_asked words body) (first ∷ others)) before
       after results
 

@@ -10,8 +10,8 @@ ghost use Rattle.h2_message.specs.Values.{message_value};
 ghost use Rattle.h2_tool.specs.Gets.{EndsByRefusal, RefusesUrl};
 ghost use Rattle.h2_tool.specs.GetsSeveral.{AreSameHost, IsRefusedForOne, IsUnfit, NameInOrder};
 ghost use Rattle.h2_tool.specs.GetsSeveral.{RefusesLocations, SeveralSo, StreamsAll};
-ghost use Rattle.h2_tool.specs.GetsSeveral.{first_failed, has_others, is_same_host, status_of_one};
-ghost use Rattle.h2_tool.specs.GetsSeveral.{status_of_several};
+ghost use Rattle.h2_tool.specs.GetsSeveral.{first_failed, has_others, has_too_many, is_same_host};
+ghost use Rattle.h2_tool.specs.GetsSeveral.{status_of_one, status_of_several};
 
 use crate::get::{
     end_stream, end_unstreamed, is_over, refuse_body, refuse_request, refuse_url, status_after,
@@ -38,6 +38,18 @@ pub(crate) fn has_others(options: &GetOptions<'_>) -> bool
     !options.others.is_empty()
 }
 
+/// So many URLs can be fetched at once: a server is to let a client have so many streams (RFC 9113,
+/// section 6.5.2).
+const MAX_URLS: usize = 100;
+
+// rule: engines (own) Several responses are printed in the order of their URLs
+/// Whether the options name more URLs than can be fetched at once.
+fn has_too_many(options: &GetOptions<'_>) -> bool
+    ensures { result ≡ has_too_many (asked_by options.now) }
+{
+    options.others.len() >= MAX_URLS
+}
+
 // rule: engines (own) Several responses are printed in the order of their URLs
 /// Asks for the URLs of the options at once over one connection, each with the request that they
 /// ask for, and prints the responses as they come, in the order of the URLs. What fails has a line
@@ -59,6 +71,9 @@ where
 {
     if options.output.is_some() {
         return refuse_words("-o takes one URL", err);
+    }
+    if has_too_many(options) {
+        return refuse_words("100 URLs can be fetched at once", err);
     }
     let first = match location_at(alloc, options.url.as_bytes(), options.port) {
         Ok(location) => location,
@@ -117,11 +132,12 @@ fn locations_of(
     Ok(locations)
 }
 
-// Whether two locations are of one host and port.
+// Whether two locations are of one host and port. The case of a host doesn't count (RFC 3986,
+// section 3.2.2).
 fn is_same_host(one: &Location, other: &Location) -> bool
     ensures { result ≡ is_same_host one.now other.now }
 {
-    one.host.as_bytes() == other.host.as_bytes() && one.port == other.port
+    one.host.eq_ignore_ascii_case(&other.host) && one.port == other.port
 }
 
 // rule: engines (own) Several responses are printed in the order of their URLs
@@ -253,11 +269,28 @@ fn end_each<E: Write>(
 {
     let SeveralStreamed { results, hint, why } = several;
     let mut status = Status::Good;
+    let mut place = 0usize;
     for got in results {
         let next = end_stream(options, with_cause(got, hint, why), is_late, err);
+        name_failed(options, place, next, err);
         status = first_failed(status, next);
+        place = place.saturating_add(1);
     }
     status
+}
+
+// Names on standard error the URL in this place, where its response has failed.
+fn name_failed<E: Write>(options: &GetOptions<'_>, place: usize, status: Status, err: &mut E) {
+    let url = match place.checked_sub(1) {
+        None => Some(options.url),
+        Some(place) => options.others.get(place).copied(),
+    };
+    match (status, url) {
+        (Status::Good, _) | (_, None) => {}
+        (_, Some(url)) => {
+            let _ = writeln!(err, "hint: the URL was {url}");
+        }
+    }
 }
 
 // What has come of a response, with what is likely the cause where it has ended all.
