@@ -1,10 +1,11 @@
 -- What may happen at a server with its handler, step by step.
-use Rattle.std.specs.Prelude.{◌≡◌, ◌⊎◌, ℕ, Bool, true, false, List, Some, None, Result}
-use Rattle.std.specs.Prelude.{Ok, Err, take, if◌then◌else◌, ◌==◌, length, not}
+use Rattle.std.specs.Prelude.{◌≡◌, ◌⊎◌, ℕ, Bool, true, false, List, [], ◌++◌, Some, None}
+use Rattle.std.specs.Prelude.{Result, Ok, Err, take, drop, if◌then◌else◌, ◌==◌, length, not}
 use Rattle.h2_frame.specs.declared.code.Code.TheVariants.{InternalError}
-use Rattle.h2_spec_log.specs.Acts.{Values, Act, Answer}
+use Rattle.h2_spec_log.specs.Acts.{Values, Act, Answer, PutOut}
 use Rattle.h2_spec_log.specs.Log.{active}
 use Rattle.h2_spec_log.specs.LogCalls.{MayAnswer, with_call}
+use Rattle.h2_laws_pair.specs.Pairs.{given_out}
 use Rattle.h2_ends.specs.declared.end.End.{End}
 use Rattle.h2_ends.specs.declared.refusal.EndRefusal.{EndRefusal}
 use Rattle.h2_ends.specs.Ends.{EndLog, EndAnswer, EndTook, EndFailed, Handed}
@@ -110,50 +111,105 @@ IsOverFor end id stage causes.Done = (stage ≡ stages.Given) × (active end.log
 IsOverFor end id stage (causes.Reset code ours) = (stage ≡ stages.Gone code) × (ours ≡ true)
 IsOverFor end id stage causes.Closed = Unit {0}
 
--- One step of a server with its handler.
-pub data HandledStep {H W : Type 0} (rel : Relations H W) (end : EndLog) (old : Handling H W)
-    (after : EndLog) (new : Handling H W) : Type 0 where
+-- These octets of a piece were used: its first ones.
+pub record UsesFirst (end : EndLog) (piece used : List ℕ) (after : EndLog) : Type 0 where
+  pub input : after.log.input ≡ end.log.input ++ used
+  pub rest : List ℕ
+  pub first : piece ≡ used ++ rest
+
+-- the octets that were given out since
+abbrev pub given_since : (end after : EndLog) → List ℕ
+given_since end after = drop (length (given_out end.log)) (given_out after.log)
+
+-- The call puts output out.
+abbrev pub IsPutOut : Act → Type 0
+IsPutOut (PutOut count) = Unit {0}
+IsPutOut act = ⊥
+
+-- One step of a server with its handler, in which it has used these octets of its input and given
+-- out these of its output.
+pub data HandledStep {H W : Type 0} (rel : Relations H W)
+    : (used given : List ℕ) → (end : EndLog) → (old : Handling H W) → (after : EndLog)
+    → (new : Handling H W) → Type 0 where
   -- something was counted
-  notes : after ≡ end → IsSameHandling old new → HandledStep rel end old after new
+  notes : {end after : EndLog} {old new : Handling H W} → after ≡ end → IsSameHandling old new
+      → HandledStep rel [] [] end old after new
   -- octets were taken, and nothing was handed out
-  takes : (piece : List ℕ) (answer : EndAnswer) → EndMayTake end piece answer after
-      → HandsNothing answer → IsSameHandling old new → HandledStep rel end old after new
+  takes : {end after : EndLog} {old new : Handling H W} (piece used : List ℕ) (answer : EndAnswer)
+      → EndMayTake end piece answer after → UsesFirst end piece used after → HandsNothing answer
+      → IsSameHandling old new → HandledStep rel used [] end old after new
   -- octets were taken, and what was handed out was told
-  tells : (piece : List ℕ) (count : ℕ) (handed : Handed)
-      → EndMayTake end piece (EndTook count (Some handed)) after → Tells rel handed old new
-      → HandledStep rel end old after new
+  tells : {end after : EndLog} {old new : Handling H W} (piece used : List ℕ) (count : ℕ)
+      (handed : Handed) → EndMayTake end piece (EndTook count (Some handed)) after
+      → UsesFirst end piece used after → Tells rel handed old new
+      → HandledStep rel used [] end old after new
   -- the same, but there was no memory for it
-  lacks_memory : (piece : List ℕ) (count : ℕ) (handed : Handed)
-      → EndMayTake end piece (EndTook count (Some handed)) after → IsSameHandling old new
-      → HandledStep rel end old after new
-  gives : (id : ℕ) → GivesOne id end after old new → HandledStep rel end old after new
-  asks : (id : ℕ) → AsksOne rel id end after old new → HandledStep rel end old after new
-  ends : (id : ℕ) (cause : Cause) (over : EndsOne rel id cause old new)
-      → IsOverFor end id over.kept.stage cause → after ≡ end → HandledStep rel end old after new
+  lacks_memory : {end after : EndLog} {old new : Handling H W} (piece used : List ℕ) (count : ℕ)
+      (handed : Handed) → EndMayTake end piece (EndTook count (Some handed)) after
+      → UsesFirst end piece used after → IsSameHandling old new
+      → HandledStep rel used [] end old after new
+  gives : {end after : EndLog} {old new : Handling H W} (id : ℕ) → GivesOne id end after old new
+      → HandledStep rel [] [] end old after new
+  asks : {end after : EndLog} {old new : Handling H W} (id : ℕ) → AsksOne rel id end after old new
+      → HandledStep rel [] [] end old after new
+  ends : {end after : EndLog} {old new : Handling H W} (id : ℕ) (cause : Cause)
+      (over : EndsOne rel id cause old new) → IsOverFor end id over.kept.stage cause
+      → after ≡ end → HandledStep rel [] [] end old after new
   -- a handler that had no part may be asked again
-  wakes : (id : ℕ) (kept : Kept W) → exchange_at id old.entries ≡ Some kept
+  wakes : {end after : EndLog} {old new : Handling H W} (id : ℕ) (kept : Kept W)
+      → exchange_at id old.entries ≡ Some kept
       → SetsKept id (Some (awake kept)) old.entries new.entries → new.handler ≡ old.handler
-      → after ≡ end → HandledStep rel end old after new
-  releases : (answer : Result (Unit {0}) EndRefusal) → MayReleaseAll end answer after
-      → IsSameHandling old new → HandledStep rel end old after new
-  pumps : (most : ℕ) (answer : Result ℕ EndRefusal) → MayPumpSome most end answer after
-      → IsSameHandling old new → HandledStep rel end old after new
+      → after ≡ end → HandledStep rel [] [] end old after new
+  releases : {end after : EndLog} {old new : Handling H W} (answer : Result (Unit {0}) EndRefusal)
+      → MayReleaseAll end answer after → IsSameHandling old new
+      → HandledStep rel [] [] end old after new
+  pumps : {end after : EndLog} {old new : Handling H W} (most : ℕ) (answer : Result ℕ EndRefusal)
+      → MayPumpSome most end answer after → IsSameHandling old new
+      → HandledStep rel [] [] end old after new
   -- a call that is the connection's own
-  calls : (act : Act) (answer : Answer) → MayAnswer end.log act answer
+  calls : {end after : EndLog} {old new : Handling H W} (act : Act) (answer : Answer)
+      → (IsPutOut act → ⊥) → MayAnswer end.log act answer
       → after ≡ end_with_log end (with_call end.log act answer) → IsSameHandling old new
-      → HandledStep rel end old after new
+      → HandledStep rel [] [] end old after new
+  -- output was put out
+  puts_out : {end after : EndLog} {old new : Handling H W} (count : ℕ) (answer : Answer)
+      → MayAnswer end.log (PutOut count) answer
+      → after ≡ end_with_log end (with_call end.log (PutOut count) answer)
+      → IsSameHandling old new → HandledStep rel [] (given_since end after) end old after new
 
--- Steps, one after another.
+-- Steps, one after another, in which these octets were used and these given out.
 pub data Steps {H W : Type 0} (rel : Relations H W) (after : EndLog) (new : Handling H W)
-    : (end : EndLog) → (old : Handling H W) → Type 0 where
-  none : Steps rel after new after new
-  more : {end next : EndLog} {old mid : Handling H W} → HandledStep rel end old next mid
-      → Steps rel after new next mid → Steps rel after new end old
+    : (used given : List ℕ) → (end : EndLog) → (old : Handling H W) → Type 0 where
+  none : Steps rel after new [] [] after new
+  more : {used given more_used more_given : List ℕ} {end next : EndLog} {old mid : Handling H W}
+      → HandledStep rel used given end old next mid
+      → Steps rel after new more_used more_given next mid
+      → Steps rel after new (used ++ more_used) (given ++ more_given) end old
 
--- Whatever has happened at the server, such steps were made, and the end represents what has
--- happened after them.
-abbrev pub Handles : {H W : Type 0} → Relations H W → (old_end : End) → (old : Handling H W)
-    → (new_end : End) → (new : Handling H W) → Type 0
-Handles rel old_end old new_end new =
+-- Whatever has happened at the server, such steps were made, in which these octets were used and
+-- none given out, and the end represents what has happened after them.
+abbrev pub Handles : {H W : Type 0} → Relations H W → (used : List ℕ) → (old_end : End)
+    → (old : Handling H W) → (new_end : End) → (new : Handling H W) → Type 0
+Handles rel used old_end old new_end new =
     (values : Values) (end : EndLog) → EndRepresents values old_end end
-    → (after : EndLog) × Steps rel after new end old × EndRepresents values new_end after
+    → (after : EndLog) × Steps rel after new used [] end old × EndRepresents values new_end after
+
+-- The same, whatever octets were used and given out.
+abbrev pub HandlesAny : {H W : Type 0} → Relations H W → (old_end : End) → (old : Handling H W)
+    → (new_end : End) → (new : Handling H W) → Type 0
+HandlesAny rel old_end old new_end new =
+    (values : Values) (end : EndLog) → EndRepresents values old_end end
+    → (used given : List ℕ) × (after : EndLog)
+    × Steps rel after new used given end old × EndRepresents values new_end after
+
+-- what was made of a piece: so many of its octets were used, or the connection can't go on once
+-- some first ones were
+abbrev pub HandlesPiece : {H W : Type 0} → Relations H W → (piece : List ℕ) → (old_end : End)
+    → (old : Handling H W) → (new_end : End) → (new : Handling H W) → Result ℕ Stop → Type 0
+HandlesPiece rel piece old_end old new_end new (Ok count) =
+    Handles rel (take count piece) old_end old new_end new
+HandlesPiece rel piece old_end old new_end new (Err stop) =
+    (values : Values) (end : EndLog) → EndRepresents values old_end end
+    → (used rest : List ℕ) × (piece ≡ used ++ rest)
+    × ((after : EndLog) × Steps rel after new used [] end old
+    × EndRepresents values new_end after)

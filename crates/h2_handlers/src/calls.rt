@@ -1,6 +1,6 @@
 //! What a server with its handler answers of itself, and the calls that are the connection's.
 
-ghost use Rattle.std.specs.Prelude.{◌≡◌, ◌↔◌, ◌≤◌, nat_lt, true, false, None, OnOk, IsOk};
+ghost use Rattle.std.specs.Prelude.{◌≡◌, ◌↔◌, ◌≤◌, [], nat_lt, true, false, None, OnOk, IsOk};
 ghost use Rattle.h2_spec_log.specs.Acts.{Answer, Count, Done, Fail, PutOut, SendGoAway, Values};
 ghost use Rattle.h2_spec_log.specs.CallRules.{returns_before_put_out};
 ghost use Rattle.h2_spec_log.specs.Limits.{full_output};
@@ -9,7 +9,7 @@ ghost use Rattle.h2_spec_log.specs.LogView.{log_view};
 ghost use Rattle.h2_conn.specs.Conn.{ConnRepresents, LendsFrom, answer_by};
 ghost use Rattle.h2_ends.specs.Represents.{EndAnswers};
 ghost use Rattle.h2_handlers.specs.Exchanges.{IsEmptied, handling_of, relations};
-ghost use Rattle.h2_handlers.specs.Steps.{Handles};
+ghost use Rattle.h2_handlers.specs.Steps.{Handles, HandlesAny};
 
 use crate::handled::Handled;
 use crate::handler::Handler;
@@ -24,7 +24,7 @@ impl<W: Drop, H: Handler<Work = W>> Handled<H, W> {
     ///
     /// Those of [`Server::go_away`]. Nothing has changed.
     pub fn go_away(&mut self) -> Result<(), Refusal>
-        ensures handles { Handles (relations H.heads H.bodies H.trails H.gives H.ends)
+        ensures handles { Handles (relations H.heads H.bodies H.trails H.gives H.ends) []
             self.old.server.end (handling_of self.old.exchanges) self.new.server.end
             (handling_of self.new.exchanges) }
         ensures answers { EndAnswers self.old.server.end SendGoAway
@@ -37,7 +37,7 @@ impl<W: Drop, H: Handler<Work = W>> Handled<H, W> {
     /// Ends the connection with a code, where it is up, and all exchanges with
     /// [`Cause::Closed`](crate::Cause::Closed).
     pub fn fail(&mut self, code: Code)
-        ensures handles { Handles (relations H.heads H.bodies H.trails H.gives H.ends)
+        ensures handles { Handles (relations H.heads H.bodies H.trails H.gives H.ends) []
             self.old.server.end (handling_of self.old.exchanges) self.new.server.end
             (handling_of self.new.exchanges) }
         ensures none { IsEmptied (handling_of self.new.exchanges) }
@@ -51,7 +51,7 @@ impl<W: Drop, H: Handler<Work = W>> Handled<H, W> {
 
     /// Ends all exchanges with [`Cause::Closed`](crate::Cause::Closed): the transport is gone.
     pub fn close(&mut self)
-        ensures handles { Handles (relations H.heads H.bodies H.trails H.gives H.ends)
+        ensures handles { Handles (relations H.heads H.bodies H.trails H.gives H.ends) []
             self.old.server.end (handling_of self.old.exchanges) self.new.server.end
             (handling_of self.new.exchanges) }
         ensures none { IsEmptied (handling_of self.new.exchanges) }
@@ -68,7 +68,7 @@ impl<W: Drop, H: Handler<Work = W>> Handled<H, W> {
     ///
     /// [`Refusal::Memory`] where an allocation was refused. Nothing has changed.
     pub fn ready(&mut self) -> Result<(), Refusal>
-        ensures handles { Handles (relations H.heads H.bodies H.trails H.gives H.ends)
+        ensures handles { HandlesAny (relations H.heads H.bodies H.trails H.gives H.ends)
             self.old.server.end (handling_of self.old.exchanges) self.new.server.end
             (handling_of self.new.exchanges) }
         ensures answers { EndAnswers self.old.server.end (PutOut 0)
@@ -92,7 +92,7 @@ impl<W: Drop, H: Handler<Work = W>> Handled<H, W> {
     ///
     /// [`Refusal::Memory`] where an allocation was refused. Nothing has changed.
     pub fn consume(&mut self, count: usize) -> Result<usize, Refusal>
-        ensures handles { Handles (relations H.heads H.bodies H.trails H.gives H.ends)
+        ensures handles { HandlesAny (relations H.heads H.bodies H.trails H.gives H.ends)
             self.old.server.end (handling_of self.old.exchanges) self.new.server.end
             (handling_of self.new.exchanges) }
         ensures answers { EndAnswers self.old.server.end (PutOut count)

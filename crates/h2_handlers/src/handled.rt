@@ -1,11 +1,11 @@
 //! A server with its handler. It does no input or output.
 
-ghost use Rattle.std.specs.Prelude.{◌≡◌, ◌≤◌, [], IfOk, length};
+ghost use Rattle.std.specs.Prelude.{◌≡◌, ◌≤◌, [], Err, IfErr, IfOk, Ok, length};
 ghost use Rattle.h2_flow.specs.ConfigValues.{values_of};
 ghost use Rattle.h2_spec_log.specs.declared.role.Role.TheVariants as roles;
 ghost use Rattle.h2_ends.specs.Represents.{EndRepresents, new_end_log};
 ghost use Rattle.h2_handlers.specs.Exchanges.{handling_of, relations};
-ghost use Rattle.h2_handlers.specs.Steps.{Handles};
+ghost use Rattle.h2_handlers.specs.Steps.{Handles, HandlesPiece};
 
 use crate::exchange::Stage;
 use crate::exchanges::{Due, Exchanges};
@@ -86,9 +86,9 @@ impl<W: Drop, H: Handler<Work = W>> Handled<H, W> {
     ///
     /// [`Stop`] says why the connection can't go on.
     pub fn take_some(&mut self, piece: &[u8], most: usize) -> Result<usize, Stop>
-        ensures handles { Handles (relations H.heads H.bodies H.trails H.gives H.ends)
-            self.old.server.end (handling_of self.old.exchanges) self.new.server.end
-            (handling_of self.new.exchanges) }
+        ensures handles { HandlesPiece (relations H.heads H.bodies H.trails H.gives H.ends)
+            piece.now self.old.server.end (handling_of self.old.exchanges) self.new.server.end
+            (handling_of self.new.exchanges) result }
         ensures within { IfOk result (λ used. used ≤ length piece.now) }
     {
         let mut used = 0usize;
@@ -110,7 +110,7 @@ impl<W: Drop, H: Handler<Work = W>> Handled<H, W> {
 
     /// Gives the answer that is due, if one is, and answers how many were.
     fn do_due(&mut self, due: Due) -> Result<usize, Stop>
-        ensures handles { Handles (relations H.heads H.bodies H.trails H.gives H.ends)
+        ensures handles { Handles (relations H.heads H.bodies H.trails H.gives H.ends) []
             self.old.server.end (handling_of self.old.exchanges) self.new.server.end
             (handling_of self.new.exchanges) }
         ensures one { IfOk result (λ count. count ≤ 1) }
@@ -125,9 +125,14 @@ impl<W: Drop, H: Handler<Work = W>> Handled<H, W> {
     // rule: handlers (own) A handler is told of each stream what was handed out of it, in order
     /// Hands octets to `take` once, and tells the handler what is handed out.
     fn hear(&mut self, piece: &[u8]) -> Result<Heard, Stop>
-        ensures handles { Handles (relations H.heads H.bodies H.trails H.gives H.ends)
-            self.old.server.end (handling_of self.old.exchanges) self.new.server.end
-            (handling_of self.new.exchanges) }
+        ensures ok { IfOk result (λ heard. HandlesPiece
+            (relations H.heads H.bodies H.trails H.gives H.ends) piece.now self.old.server.end
+            (handling_of self.old.exchanges) self.new.server.end (handling_of self.new.exchanges)
+            (Ok heard.used)) }
+        ensures err { IfErr result (λ stop. HandlesPiece
+            (relations H.heads H.bodies H.trails H.gives H.ends) piece.now self.old.server.end
+            (handling_of self.old.exchanges) self.new.server.end (handling_of self.new.exchanges)
+            (Err stop)) }
         ensures within { IfOk result (λ heard. heard.used ≤ length piece.now) }
     {
         let taken = match self.server.take(piece) {
@@ -146,7 +151,7 @@ impl<W: Drop, H: Handler<Work = W>> Handled<H, W> {
     /// exchange where its stream is over. An answer that breaks a rule is followed by the reset at
     /// once.
     pub(crate) fn answer(&mut self, id: u32) -> Result<(), Stop>
-        ensures { Handles (relations H.heads H.bodies H.trails H.gives H.ends)
+        ensures { Handles (relations H.heads H.bodies H.trails H.gives H.ends) []
             self.old.server.end (handling_of self.old.exchanges) self.new.server.end
             (handling_of self.new.exchanges) }
     {
@@ -159,7 +164,7 @@ impl<W: Drop, H: Handler<Work = W>> Handled<H, W> {
 
     /// Gives the reset that waits on a stream, if one does.
     fn give_reset(&mut self, id: u32) -> Result<(), Stop>
-        ensures { Handles (relations H.heads H.bodies H.trails H.gives H.ends)
+        ensures { Handles (relations H.heads H.bodies H.trails H.gives H.ends) []
             self.old.server.end (handling_of self.old.exchanges) self.new.server.end
             (handling_of self.new.exchanges) }
     {
@@ -172,7 +177,7 @@ impl<W: Drop, H: Handler<Work = W>> Handled<H, W> {
     // rule: handlers (own) What is given as an answer is what its handler gave
     /// Gives the next of the answer of an exchange to the server, by one call of it.
     fn give_next(&mut self, id: u32) -> Result<(), Stop>
-        ensures { Handles (relations H.heads H.bodies H.trails H.gives H.ends)
+        ensures { Handles (relations H.heads H.bodies H.trails H.gives H.ends) []
             self.old.server.end (handling_of self.old.exchanges) self.new.server.end
             (handling_of self.new.exchanges) }
     {
@@ -195,7 +200,7 @@ impl<W: Drop, H: Handler<Work = W>> Handled<H, W> {
     // rule: handlers (own) Of each exchange a handler learns once that it is over, and why
     /// Ends an exchange whose answer went whole and whose stream is over, or which was reset.
     pub(crate) fn end_if_over(&mut self, id: u32)
-        ensures { Handles (relations H.heads H.bodies H.trails H.gives H.ends)
+        ensures { Handles (relations H.heads H.bodies H.trails H.gives H.ends) []
             self.old.server.end (handling_of self.old.exchanges) self.new.server.end
             (handling_of self.new.exchanges) }
     {

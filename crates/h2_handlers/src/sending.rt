@@ -1,6 +1,6 @@
 //! What a server with a handler sends in one turn.
 
-ghost use Rattle.std.specs.Prelude.{◌≡◌, length};
+ghost use Rattle.std.specs.Prelude.{◌≡◌, [], length};
 ghost use Rattle.h2_handlers.specs.Exchanges.{handling_of, relations};
 ghost use Rattle.h2_handlers.specs.Steps.{Handles};
 
@@ -24,7 +24,7 @@ impl<W: Drop, H: Handler<Work = W>> Handled<H, W> {
     ///
     /// [`Stop`] says why the connection can't go on.
     pub fn send_some(&mut self, room: &mut [u8]) -> Result<(), Stop>
-        ensures handles { Handles (relations H.heads H.bodies H.trails H.gives H.ends)
+        ensures handles { Handles (relations H.heads H.bodies H.trails H.gives H.ends) []
             self.old.server.end (handling_of self.old.exchanges) self.new.server.end
             (handling_of self.new.exchanges) }
         ensures room { length room.new ≡ length room.old }
@@ -42,7 +42,7 @@ impl<W: Drop, H: Handler<Work = W>> Handled<H, W> {
 
     /// Gives credit back: all that is owed, but what the handler has not used.
     fn release(&mut self) -> Result<(), Stop>
-        ensures { Handles (relations H.heads H.bodies H.trails H.gives H.ends)
+        ensures { Handles (relations H.heads H.bodies H.trails H.gives H.ends) []
             self.old.server.end (handling_of self.old.exchanges) self.new.server.end
             (handling_of self.new.exchanges) }
     {
@@ -59,7 +59,7 @@ impl<W: Drop, H: Handler<Work = W>> Handled<H, W> {
 
     /// Gives all that is owed back.
     fn release_all(&mut self) -> Result<(), Stop>
-        ensures { Handles (relations H.heads H.bodies H.trails H.gives H.ends)
+        ensures { Handles (relations H.heads H.bodies H.trails H.gives H.ends) []
             self.old.server.end (handling_of self.old.exchanges) self.new.server.end
             (handling_of self.new.exchanges) }
     {
@@ -69,7 +69,7 @@ impl<W: Drop, H: Handler<Work = W>> Handled<H, W> {
 
     /// Gives back what is owed on a stream, but for what its handler has not used.
     fn release_used(&mut self, id: u32) -> Result<(), Stop>
-        ensures { Handles (relations H.heads H.bodies H.trails H.gives H.ends)
+        ensures { Handles (relations H.heads H.bodies H.trails H.gives H.ends) []
             self.old.server.end (handling_of self.old.exchanges) self.new.server.end
             (handling_of self.new.exchanges) }
     {
@@ -87,7 +87,7 @@ impl<W: Drop, H: Handler<Work = W>> Handled<H, W> {
 
     /// Gives the answers that have waited until the output wasn't full, streams in rising order.
     fn give_waiting(&mut self) -> Result<(), Stop>
-        ensures { Handles (relations H.heads H.bodies H.trails H.gives H.ends)
+        ensures { Handles (relations H.heads H.bodies H.trails H.gives H.ends) []
             self.old.server.end (handling_of self.old.exchanges) self.new.server.end
             (handling_of self.new.exchanges) }
     {
@@ -155,7 +155,7 @@ impl<W: Drop, H: Handler<Work = W>> Handled<H, W> {
 
     /// Asks the handler for one part of one response, if there is one that may send.
     fn ask(&mut self, room: &mut [u8]) -> Result<(), Stop>
-        ensures handles { Handles (relations H.heads H.bodies H.trails H.gives H.ends)
+        ensures handles { Handles (relations H.heads H.bodies H.trails H.gives H.ends) []
             self.old.server.end (handling_of self.old.exchanges) self.new.server.end
             (handling_of self.new.exchanges) }
         ensures room { length room.new ≡ length room.old }
@@ -172,7 +172,7 @@ impl<W: Drop, H: Handler<Work = W>> Handled<H, W> {
     // rule: handlers (own) What is given as an answer is what its handler gave
     /// Asks the handler for a part of the response on a stream, and sends it.
     fn ask_on(&mut self, id: u32, room: &mut [u8]) -> Result<(), Stop>
-        ensures handles { Handles (relations H.heads H.bodies H.trails H.gives H.ends)
+        ensures handles { Handles (relations H.heads H.bodies H.trails H.gives H.ends) []
             self.old.server.end (handling_of self.old.exchanges) self.new.server.end
             (handling_of self.new.exchanges) }
         ensures room { length room.new ≡ length room.old }
@@ -187,7 +187,7 @@ impl<W: Drop, H: Handler<Work = W>> Handled<H, W> {
 
     /// Sends a share of each body that was given whole.
     fn pump(&mut self) -> Result<(), Stop>
-        ensures { Handles (relations H.heads H.bodies H.trails H.gives H.ends)
+        ensures { Handles (relations H.heads H.bodies H.trails H.gives H.ends) []
             self.old.server.end (handling_of self.old.exchanges) self.new.server.end
             (handling_of self.new.exchanges) }
     {
@@ -206,7 +206,7 @@ impl<W: Drop, H: Handler<Work = W>> Handled<H, W> {
 
     /// Ends the exchanges whose answers were sent whole, and whose requests have come whole.
     fn settle(&mut self)
-        ensures { Handles (relations H.heads H.bodies H.trails H.gives H.ends)
+        ensures { Handles (relations H.heads H.bodies H.trails H.gives H.ends) []
             self.old.server.end (handling_of self.old.exchanges) self.new.server.end
             (handling_of self.new.exchanges) }
     {
@@ -219,7 +219,7 @@ impl<W: Drop, H: Handler<Work = W>> Handled<H, W> {
 
     /// Lets a handler be asked again that had no part.
     pub fn ask_again(&mut self)
-        ensures { Handles (relations H.heads H.bodies H.trails H.gives H.ends)
+        ensures { Handles (relations H.heads H.bodies H.trails H.gives H.ends) []
             self.old.server.end (handling_of self.old.exchanges) self.new.server.end
             (handling_of self.new.exchanges) }
     {
@@ -232,7 +232,7 @@ impl<W: Drop, H: Handler<Work = W>> Handled<H, W> {
 
     /// Lets the handler of one exchange be asked again.
     fn wake(&mut self, id: u32)
-        ensures { Handles (relations H.heads H.bodies H.trails H.gives H.ends)
+        ensures { Handles (relations H.heads H.bodies H.trails H.gives H.ends) []
             self.old.server.end (handling_of self.old.exchanges) self.new.server.end
             (handling_of self.new.exchanges) }
     {

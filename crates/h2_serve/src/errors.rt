@@ -1,0 +1,35 @@
+//! How serving ends.
+
+ghost use Rattle.std.specs.Prelude.{◌≡◌, IfErr, IfOk, Ok};
+ghost use Rattle.h2_engines.specs.Failures.{IsOfCall};
+ghost use Rattle.h2_engines.specs.ServerSteps.{error_with};
+ghost use Rattle.h2_serve.specs.Endings.{IsOfDriving};
+
+use h2_ends::Refusal;
+use h2_handlers::Code;
+use h2_link::LinkError;
+
+// rule: engines (own) N2 has the code with which the connection failed; memory is N3
+/// How serving ends once the connection has failed with a code.
+pub(crate) fn error_of_code(code: Code) -> LinkError
+    ensures error { result ≡ error_with code }
+    ensures kind { IsOfDriving result }
+{
+    match code {
+        Code::InternalError => LinkError::Memory,
+        code => LinkError::Stream(code.number()),
+    }
+}
+
+// rule: engines (own) N5 comes only where a write has taken nothing
+/// What a call that puts output out has answered; or, where it was refused, how serving ends.
+pub(crate) fn unless_refused<T>(answer: Result<T, Refusal>) -> Result<T, LinkError>
+    ensures ok { IfOk result (λ value. answer ≡ Ok value) }
+    ensures kind { IfErr result IsOfCall }
+{
+    match answer {
+        Ok(value) => Ok(value),
+        Err(Refusal::Memory) => Err(LinkError::Memory),
+        Err(_) => Err(LinkError::NoProgress),
+    }
+}

@@ -1,0 +1,187 @@
+//! Serving a connection over a link.
+
+ghost use Rattle.std.specs.Prelude.{◌≡◌, ◌<◌, ◌-◌, ◌^◌, IfErr, IfOk, OnOk, length, true};
+ghost use Rattle.h2_flow.specs.ConfigValues.{values_of};
+ghost use Rattle.h2_engines.specs.Failures.{CutsOffAtEnd, EndsServing, failures_at_end};
+ghost use Rattle.h2_engines.specs.Failures.{failures_by};
+ghost use Rattle.h2_engines.specs.Linked.{traffic};
+ghost use Rattle.h2_handlers.specs.Exchanges.{relations};
+ghost use Rattle.h2_serve.specs.Endings.{IsOfDriving};
+ghost use Rattle.h2_serve.specs.Serving.{Drives, EndsFor, SendsAll, ServesBy, TakesAll};
+
+use crate::errors::error_of_code;
+use crate::writing::write_out;
+use h2_handlers::{Code, Config, Handled, Handler, Stop};
+use h2_link::{Link, LinkError};
+use std::alloc::Global;
+
+/// How many octets are read at a time, at most.
+const PIECE: usize = 16_384;
+
+/// How many octets a handler is asked for at a time, at most.
+const PART: usize = 16_384;
+
+// contract: engines (own) A handler answers over any link
+// rule: engines (own) A handler answers over any link
+/// Serves a connection until its input ends, with a handler that answers its requests, and answers
+/// how many requests came. What the handler is told and asked, and what is sent of its answers, is
+/// what [`Handled`] says. All that could be sent is written before each read; a handler that had
+/// no part is asked again after each. At the end the handler has learned of each exchange that it
+/// is over.
+///
+/// # Errors
+///
+/// [`LinkError::Device`] (N1) where the link failed; [`LinkError::Stream`] (N2) where the
+/// connection failed, once its GOAWAY was written: with ENHANCE_YOUR_CALM too where no stream can
+/// be reset any more; [`LinkError::Memory`] (N3) where an allocation was refused;
+/// [`LinkError::CutOff`] (N4) where the input ended inside the preface or a frame, or while a
+/// stream was active; [`LinkError::NoProgress`] (N5) where a write took nothing, and, which is not
+/// expected, after 2^64 - 1 rounds.
+pub fn serve_handler<W: Drop, H: Handler<Work = W>, L: Link>(
+    alloc: Global,
+    link: &mut L,
+    config: Config,
+    handler: H,
+) -> Result<u64, LinkError>
+    requires { L.faults link.old < 2 ^ 64 - 1 }
+    ensures serves { ServesBy (relations H.heads H.bodies H.trails H.gives H.ends)
+        (values_of config) handler
+        (traffic (L.given link.old) (L.taken link.old) (L.stalled link.old))
+        (traffic (L.given link.new) (L.taken link.new) (L.stalled link.new)) result }
+    ensures ended { OnOk result (L.ended link.new ≡ true) }
+    ensures cut_off { CutsOffAtEnd result (L.ended link.new) }
+    ensures failures { L.faults link.new ≡ failures_at_end (L.faults link.old) result }
+    ensures err { IfErr result EndsServing }
+{
+    let Ok(mut handled) = Handled::new(alloc, config, handler) else {
+        return Err(LinkError::Memory);
+    };
+    let driven = drive(alloc, &mut handled, link);
+    handled.close();
+    driven?;
+    let conn = handled.conn();
+    if conn.held() > 0 || conn.next_live(0).is_some() {
+        return Err(LinkError::CutOff);
+    }
+    Ok(handled.requests())
+}
+
+// rule: engines (own) A handler answers over any link
+/// Serves until the input ends.
+fn drive<W: Drop, H: Handler<Work = W>, L: Link>(
+    alloc: Global,
+    handled: &mut Handled<H, W>,
+    link: &mut L,
+) -> Result<(), LinkError>
+    requires { L.faults link.old < 2 ^ 64 - 1 }
+    ensures drives { Drives (relations H.heads H.bodies H.trails H.gives H.ends)
+        (traffic (L.given link.old) (L.taken link.old) (L.stalled link.old))
+        (traffic (L.given link.new) (L.taken link.new) (L.stalled link.new))
+        handled.old handled.new result }
+    ensures ended { OnOk result (L.ended link.new ≡ true) }
+    ensures failures { L.faults link.new ≡ failures_at_end (L.faults link.old) result }
+    ensures err { IfErr result IsOfDriving }
+{
+    let mut input = vec![in alloc; 0u8; PIECE]?;
+    let mut room = vec![in alloc; 0u8; PART]?;
+    for _ in 0..u64::MAX {
+        send_all(handled, &mut room, link)?;
+        let count = link.read(&mut input)?;
+        if count == 0 {
+            return Ok(());
+        }
+        handled.ask_again();
+        take_all(handled, &input[..count], &mut room, link)?;
+    }
+    Err(LinkError::NoProgress)
+}
+
+// rule: engines (own) A handler answers over any link
+/// Tells the handler all that a piece brings. Where the output is full, what waits is written
+/// first.
+fn take_all<W: Drop, H: Handler<Work = W>, L: Link>(
+    handled: &mut Handled<H, W>,
+    piece: &[u8],
+    room: &mut [u8],
+    link: &mut L,
+) -> Result<(), LinkError>
+    requires { L.faults link.old < 2 ^ 64 - 1 }
+    ensures takes { TakesAll (relations H.heads H.bodies H.trails H.gives H.ends)
+        (traffic (L.given link.old) (L.taken link.old) (L.stalled link.old))
+        (traffic (L.given link.new) (L.taken link.new) (L.stalled link.new))
+        handled.old handled.new piece.now result }
+    ensures room { length room.new ≡ length room.old }
+    ensures failures { L.faults link.new ≡ failures_at_end (L.faults link.old) result }
+    ensures err { IfErr result IsOfDriving }
+{
+    let mut used = 0usize;
+    for _ in 0..u64::MAX {
+        match handled.take_some(&piece[used..], usize::MAX) {
+            Ok(count) => used += count,
+            Err(stop) => return Err(end_for(handled, link, stop)),
+        }
+        if used == piece.len() && !handled.is_full() {
+            return Ok(());
+        }
+        send_all(handled, room, link)?;
+    }
+    Err(LinkError::NoProgress)
+}
+
+// rule: engines (own) Over a link credit is returned and what could be sent is sent
+/// Gives back what is owed, sends all that can be sent of what the handler answers, and writes it.
+fn send_all<W: Drop, H: Handler<Work = W>, L: Link>(
+    handled: &mut Handled<H, W>,
+    room: &mut [u8],
+    link: &mut L,
+) -> Result<(), LinkError>
+    requires { L.faults link.old < 2 ^ 64 - 1 }
+    ensures sends { SendsAll (relations H.heads H.bodies H.trails H.gives H.ends)
+        (traffic (L.given link.old) (L.taken link.old) (L.stalled link.old))
+        (traffic (L.given link.new) (L.taken link.new) (L.stalled link.new))
+        handled.old handled.new result }
+    ensures room { length room.new ≡ length room.old }
+    ensures failures { L.faults link.new ≡ failures_at_end (L.faults link.old) result }
+    ensures err { IfErr result IsOfDriving }
+{
+    for _ in 0..u64::MAX {
+        if let Err(stop) = handled.send_some(room) {
+            return Err(end_for(handled, link, stop));
+        }
+        let is_full = handled.is_full();
+        write_out(handled, link)?;
+        if !is_full && !handled.may_send() {
+            return Ok(());
+        }
+    }
+    Err(LinkError::NoProgress)
+}
+
+// rule: engines (own) N2 has the code with which the connection failed; memory is N3
+/// How serving ends where the connection can't go on: with N3 where it is up. Where no stream can be
+/// reset any more it fails with ENHANCE_YOUR_CALM; and once it has failed, all that waits is
+/// written.
+fn end_for<W: Drop, H: Handler<Work = W>, L: Link>(
+    handled: &mut Handled<H, W>,
+    link: &mut L,
+    stop: Stop,
+) -> LinkError
+    requires { L.faults link.old < 2 ^ 64 - 1 }
+    ensures ends { EndsFor (relations H.heads H.bodies H.trails H.gives H.ends)
+        (traffic (L.given link.old) (L.taken link.old) (L.stalled link.old))
+        (traffic (L.given link.new) (L.taken link.new) (L.stalled link.new))
+        handled.old handled.new result }
+    ensures failures { L.faults link.new ≡ failures_by (L.faults link.old) result }
+    ensures err { IsOfDriving result }
+{
+    if stop == Stop::TooManyResets {
+        handled.fail(Code::EnhanceYourCalm);
+    }
+    let Some(code) = handled.conn().failed() else {
+        return LinkError::Memory;
+    };
+    match write_out(handled, link) {
+        Ok(()) => error_of_code(code),
+        Err(unwritten) => unwritten,
+    }
+}
