@@ -1,0 +1,6 @@
+//! Several responses over one connection.
+//!
+//! Tests are proved as well: small functions return whether a case holds.
+
+mod printing;
+mod windows;
