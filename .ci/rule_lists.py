@@ -61,6 +61,7 @@ LINK = "a link in memory is for users' tests"
 SEVERAL = "the program makes one request at a time; for users that make several"
 WHY = "the program asks why a connection has failed; for users that don't"
 TEXTS = "hpack reads into a text that it has, with the function that appends"
+SERVE = "the program's host has many connections; for users that serve one over a link (README)"
 API = {
     "h2_frame::FrameRef::payload_len": "an end counts the payload of DATA alone; for users that count any frame",
     "h2_fetch::SeveralFetch::next_on": SEVERAL,
@@ -76,6 +77,11 @@ API = {
     "h2_flow::Window::shift": WINDOWS,
     "h2_flow::Window::take": WINDOWS,
     "h2_flow::Window::value": WINDOWS,
+    "h2_serve::drive": SERVE,
+    "h2_serve::end_for": SERVE,
+    "h2_serve::send_all": SERVE,
+    "h2_serve::serve_handler": SERVE,
+    "h2_serve::take_all": SERVE,
     "h2_handlers::Handled::hear": "in take_some, for drivers of a server with a handler",
     "h2_handlers::Handled::ask_on": "in send_some, for drivers of a server with a handler",
     "h2_host::Host::run": "for tests of a driver, which makes steps one by one",

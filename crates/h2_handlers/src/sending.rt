@@ -15,6 +15,7 @@ use h2_ends::{EndRefusal, Server};
 const SHARE: usize = 16_384;
 
 impl<W: Drop, H: Handler<Work = W>> Handled<H, W> {
+    // rule (tested): handlers (own) Whole bodies have their share before a part is asked for
     /// Sends in one turn: gives credit back for what the handler has used, gives the answers that
     /// waited for the output, sends a share of each body that was given whole, and asks the handler
     /// for one part of a response. The share goes first: a part may fill the output and use up the
