@@ -58,14 +58,11 @@ BY_NAME = {"main", "fmt", "from", "drop", "clone", "eq", "next", "debug", "displ
 WINDOWS = "an end keeps windows as differences from the initial one (docs/DECISIONS.md); for users that keep one of their own"
 JOINED = "users join two ends, which no end does"
 LINK = "a link in memory is for users' tests"
-SEVERAL = "the program makes one request at a time; for users that make several"
 WHY = "the program asks why a connection has failed; for users that don't"
 TEXTS = "hpack reads into a text that it has, with the function that appends"
 SERVE = "the program's host has many connections; for users that serve one over a link (README)"
 API = {
     "h2_frame::FrameRef::payload_len": "an end counts the payload of DATA alone; for users that count any frame",
-    "h2_fetch::SeveralFetch::next_on": SEVERAL,
-    "h2_fetch::SeveralFetch::wait_for": SEVERAL,
     "h2_fetch::PartFetch::new": "the program keeps a response until it is whole; for users that take it as it comes",
     "h2_engines::serve_link": WHY,
     "h2_flow::Config::with_max_frame": "a program with larger frames configures its ends so",
