@@ -7,16 +7,16 @@ use std::io::IsTerminal;
 use std::process::ExitCode;
 use std::{env, io};
 
-/// The device without octets.
-const NULL: &str = "/dev/null";
+/// The root folder: it can be opened, and neither be read nor written as a file.
+const ROOT: &str = "/";
 
 fn main(rt: HostRuntime) -> ExitCode {
-    // A standard stream that was closed at the start gets a file without octets, so that no socket
-    // has its number; what these can't be opened for changes nothing else.
+    // A standard stream that was closed at the start gets a folder, so that no socket has its number,
+    // and each read and write of it fails; where that can't be opened nothing else changes.
     let _places = [
-        File::open(&rt, NULL),
-        File::open(&rt, NULL),
-        File::open(&rt, NULL),
+        File::open(&rt, ROOT),
+        File::open(&rt, ROOT),
+        File::open(&rt, ROOT),
     ];
     let status = match words(&rt) {
         Ok(words) => h2_tool::run(
