@@ -5,7 +5,6 @@ use Rattle.std.proofs.lemmas.Bool.{cases_Bool, eqb-true, eqb-false, cases_lt}
 use Rattle.std.specs.Prelude.{option_map}
 use Rattle.h2_numbers.specs.Entries.{IsNextAbove, value_at}
 use Rattle.h2_handlers.specs.declared.exchange.Exchange.{Exchange}
-use Rattle.h2_handlers.specs.declared.handler.Cause.{Cause}
 use Rattle.h2_handlers.specs.declared.handler.Cause.TheVariants.{Closed}
 use Rattle.h2_handlers.specs.Exchanges.{Relations, Handling, IsEmptied, exchange_at, exchange_kept}
 use Rattle.h2_handlers.specs.Telling.{EndsAny, EndsEach, no_more, goes_on, ends_one}

@@ -2,3 +2,4 @@ mod Ending
 mod KeptMaps
 mod StatusAlone
 pub mod StepsMade
+mod TakesFirst

@@ -1,5 +1,7 @@
 -- Steps of a server with its handler, one after another.
-use Rattle.std.proofs.Common.{◌≡◌, ◌⊎◌, ◌∙◌, List, Ok, Err, None, refl, sym, inl, inr}
+use Rattle.std.proofs.Common.{◌≡◌, ◌⊎◌, ◌∙◌, List, Ok, Err, None, refl, sym, subst, inl, inr}
+use Rattle.std.proofs.Common.{[], ◌+◌, ◌++◌, ap, append-nil, append_assoc, take, take-add, drop}
+use Rattle.std.proofs.lemmas.List.{take-append-drop}
 use Rattle.std.specs.Prelude.{ℕ, Result, Some}
 use Rattle.h2_conn.specs.declared.taken.ConnFault.{ConnFault}
 use Rattle.h2_ends.specs.declared.event.EndTaken.{EndTaken}
@@ -7,7 +9,7 @@ use Rattle.h2_ends.specs.EndTakes.{EndMayTake}
 use Rattle.h2_ends.specs.Ends.{EndTook, Handed}
 use Rattle.h2_ends.specs.Loans.{answer_of_taken}
 use Rattle.h2_ends.specs.Represents.{EndTakes}
-use Rattle.h2_spec_log.specs.Acts.{Values, Act, Answer}
+use Rattle.h2_spec_log.specs.Acts.{Values, Act, Answer, PutOut}
 use Rattle.h2_spec_log.specs.LogCalls.{with_call}
 use Rattle.h2_ends.specs.declared.end.End.{End}
 use Rattle.h2_ends.specs.declared.refusal.EndRefusal.{EndRefusal}
@@ -17,12 +19,14 @@ use Rattle.h2_ends.specs.Represents.{EndAnswers, EndPumpsSome, EndReleases}
 use Rattle.h2_ends.specs.Represents.{EndRepresents}
 use Rattle.h2_handlers.specs.Exchanges.{Relations, Handling, IsSameHandling, Kept, exchange_at}
 use Rattle.h2_handlers.specs.Exchanges.{awake}
-use Rattle.h2_handlers.specs.Exchanges.{SameKept, SetsKept}
+use Rattle.h2_handlers.specs.Exchanges.{SetsKept}
 use Rattle.h2_handlers.specs.Giving.{GivesStage}
 use Rattle.h2_handlers.proofs.KeptMaps.{set_twice}
-use Rattle.h2_handlers.specs.Steps.{Steps, Handles, IsOverFor, none, more, notes, calls}
-use Rattle.h2_handlers.specs.Steps.{EndSendsPart, HandsNothing}
+use Rattle.h2_handlers.specs.Steps.{Steps, HandledStep, Handles, HandlesAny, HandlesPiece}
+use Rattle.h2_handlers.specs.Steps.{IsOverFor, IsPutOut, none, more, notes, calls, puts_out}
+use Rattle.h2_handlers.specs.Steps.{EndSendsPart, HandsNothing, given_since}
 use Rattle.h2_handlers.specs.Steps.{releases, pumps}
+use Rattle.h2_handlers.proofs.TakesFirst.{uses_first}
 use Rattle.h2_handlers.specs.Telling.{EndsAny, EndsEach, no_more, goes_on, ends_one}
 use Rattle.h2_handlers.specs.Telling.{AskedPart, ChangesAny, Tells}
 use Rattle.h2_handlers.specs.Steps as steps
@@ -59,55 +63,158 @@ unasked_same rel mid id room part (inr never) at = never
 module _ {H W : Type 0} {rel : Relations H W} where
   -- More steps after some.
   pub steps_then : {last mid : EndLog} {new between : Handling H W} {first : EndLog}
-      {old : Handling H W} → Steps rel mid between first old → Steps rel last new mid between
-      → Steps rel last new first old
+      {old : Handling H W} {used given more_used more_given : List ℕ}
+      → Steps rel mid between used given first old
+      → Steps rel last new more_used more_given mid between
+      → Steps rel last new (used ++ more_used) (given ++ more_given) first old
   steps_then none then = then
-  steps_then (more step rest) then = more step (steps_then rest then)
+  steps_then {last} {new} {first} {old} {more_used} {more_given}
+      (more {used} {given} {more_used = next_used} {more_given = next_given} step rest) then =
+      subst (λ (octets : List ℕ). Steps rel last new octets
+      ((given ++ next_given) ++ more_given) first old)
+      (sym (append_assoc used next_used more_used))
+      (subst (λ (octets : List ℕ). Steps rel last new (used ++ (next_used ++ more_used)) octets
+      first old) (sym (append_assoc given next_given more_given))
+      (more step (steps_then rest then)))
 
-  -- One after another.
-  pub then_handles : {one two three : End} {a b c : Handling H W}
-      → Handles rel one a two b → Handles rel two b three c → Handles rel one a three c
+  -- One step.
+  pub one_step : {used given : List ℕ} {end after : EndLog} {old new : Handling H W}
+      → HandledStep rel used given end old after new → Steps rel after new used given end old
+  one_step {used} {given} {end} {after} {old} {new} step =
+      subst (λ (octets : List ℕ). Steps rel after new octets given end old) (append-nil used)
+      (subst (λ (octets : List ℕ). Steps rel after new (used ++ []) octets end old)
+      (append-nil given) (more step none))
+
+  -- One after another: the octets that were used are those of the first, and then the others.
+  pub then_handles : {used more_used : List ℕ} {one two three : End} {a b c : Handling H W}
+      → Handles rel used one a two b → Handles rel more_used two b three c
+      → Handles rel (used ++ more_used) one a three c
   then_handles first second values end is =
       let (mid, made, there) = first values end is in
       let (after, more_made, then) = second values mid there in
       (after, steps_then made more_made, then)
 
+  -- So many octets of a piece, and then so many of the others;
+  pub then_counted : (piece : List ℕ) (count more_count : ℕ) {one two three : End}
+      {a b c : Handling H W} → Handles rel (take count piece) one a two b
+      → Handles rel (take more_count (drop count piece)) two b three c
+      → Handles rel (take (count + more_count) piece) one a three c
+  then_counted piece count more_count first second =
+      rw (take-add count more_count piece) (then_handles first second)
+
+  -- or then none.
+  pub then_nothing : {used : List ℕ} {one two three : End} {a b c : Handling H W}
+      → Handles rel used one a two b → Handles rel [] two b three c → Handles rel used one a three c
+  then_nothing {used} {one} {three} {a} {c} first second =
+      subst (λ (octets : List ℕ). Handles rel octets one a three c) (append-nil used)
+      (then_handles first second)
+
+  -- The same, whatever octets were used and given out,
+  pub then_any : {one two three : End} {a b c : Handling H W}
+      → HandlesAny rel one a two b → HandlesAny rel two b three c → HandlesAny rel one a three c
+  then_any first second values end is =
+      let (used, given, mid, made, there) = first values end is in
+      let (more_used, more_given, after, more_made, then) = second values mid there in
+      (used ++ more_used, given ++ more_given, after, steps_then made more_made, then)
+
+  -- as they are where they are said,
+  pub any_handles : {used : List ℕ} {one two : End} {a b : Handling H W}
+      → Handles rel used one a two b → HandlesAny rel one a two b
+  any_handles {used} handles values end is =
+      let (after, made, there) = handles values end is in (used, [], after, made, there)
+
+  -- or are those of a piece.
+  pub piece_handles : (piece : List ℕ) {one two : End} {a b : Handling H W}
+      (result : Result ℕ Stop) → HandlesPiece rel piece one a two b result
+      → HandlesAny rel one a two b
+  piece_handles piece (Ok count) handles = any_handles handles
+  piece_handles piece (Err stop) handles = λ values end is.
+      let (used, rest, first, (after, made, there)) = handles values end is in
+      (used, [], after, made, there)
+
+  -- The connection can't go on once first ones of a piece were used,
+  pub stops_first : {piece : List ℕ} (used rest : List ℕ) → piece ≡ used ++ rest
+      → {one two : End} {a b : Handling H W} (stop : Stop) → Handles rel used one a two b
+      → HandlesPiece rel piece one a two b (Err stop)
+  stops_first used rest first stop handles values end is =
+      (used, rest, first, handles values end is)
+
+  -- or so many of them;
+  pub stops_counted : {piece : List ℕ} (count : ℕ) {one two : End} {a b : Handling H W}
+      (stop : Stop) → Handles rel (take count piece) one a two b
+      → HandlesPiece rel piece one a two b (Err stop)
+  stops_counted {piece} count stop handles =
+      stops_first (take count piece) (drop count piece) (sym (take-append-drop count piece)) stop
+      handles
+
+  -- or once so many were used, and then first ones of the others.
+  pub stops_after : {piece : List ℕ} (count : ℕ) {one two three : End} {a b c : Handling H W}
+      (stop : Stop) → Handles rel (take count piece) one a two b
+      → HandlesPiece rel (drop count piece) two b three c (Err stop)
+      → HandlesPiece rel piece one a three c (Err stop)
+  stops_after {piece} count stop first second values end is =
+      let (mid, made, there) = first values end is in
+      let (used, rest, split, (after, more_made, then)) = second values mid there in (
+        take count piece ++ used,
+        rest,
+        sym (take-append-drop count piece)
+            ∙ ap (λ (octets : List ℕ). take count piece ++ octets) split
+            ∙ sym (append_assoc (take count piece) used rest),
+        (after, steps_then made more_made, then),
+      )
+
   -- Nothing happens.
-  pub nothing_handles : (one : End) (a : Handling H W) → Handles rel one a one a
+  pub nothing_handles : (one : End) (a : Handling H W) → Handles rel [] one a one a
   nothing_handles one a values end is = (end, none, is)
 
   -- Something was counted.
   pub noted_handles : (one : End) {a b : Handling H W} → IsSameHandling a b
-      → Handles rel one a one b
+      → Handles rel [] one a one b
   noted_handles one so values end is = (end, more (notes refl so) none, is)
 
-  -- A call that is the connection's own was made.
+  pub nothing_any : (one : End) (a : Handling H W) → HandlesAny rel one a one a
+  nothing_any one a = any_handles (nothing_handles one a)
+
+  -- A call that is the connection's own was made, and put nothing out.
   pub called_handles : {one two : End} {act : Act} {answer : Answer} (a : Handling H W)
-      → EndAnswers one act answer two → Handles rel one a two a
-  called_handles {act} {answer} a answers values end is =
+      → (IsPutOut act → ⊥) → EndAnswers one act answer two → Handles rel [] one a two a
+  called_handles {act} {answer} a another answers values end is =
       let made = answers values end is in (
         end_with_log end (with_call end.log act answer),
-        more (calls act answer made.0 refl (same a)) none,
+        more (calls act answer another made.0 refl (same a)) none,
+        made.1,
+      )
+
+  -- Output was put out.
+  pub put_out_handles : {one two : End} {count : ℕ} {answer : Answer} (a : Handling H W)
+      → EndAnswers one (PutOut count) answer two → HandlesAny rel one a two a
+  put_out_handles {count} {answer} a answers values end is =
+      let made = answers values end is in
+      let after = end_with_log end (with_call end.log (PutOut count) answer) in (
+        [],
+        given_since end after,
+        after,
+        one_step (puts_out count answer made.0 refl (same a)),
         made.1,
       )
 
   -- All that is owed was released.
   pub released_handles : {one two : End} (result : Result (Unit {0}) EndRefusal)
-      (a : Handling H W) → EndReleases one result two → Handles rel one a two a
+      (a : Handling H W) → EndReleases one result two → Handles rel [] one a two a
   released_handles result a made values end is =
       let (after, may, there) = made values end is in
       (after, more (releases result may (same a)) none, there)
 
   -- Shares were sent.
   pub pumped_handles : {one two : End} (most : ℕ) (result : Result ℕ EndRefusal)
-      (a : Handling H W) → EndPumpsSome one most result two → Handles rel one a two a
+      (a : Handling H W) → EndPumpsSome one most result two → Handles rel [] one a two a
   pumped_handles most result a made values end is =
       let (after, may, there) = made values end is in
       (after, more (pumps most result may (same a)) none, there)
 
   -- All exchanges have ended, since the connection is over.
   pub closed_handles : {one : End} {b a : Handling H W} → EndsEach rel b a
-      → Handles rel one a one b
+      → Handles rel [] one a one b
   closed_handles no_more values end is = (end, none, is)
   closed_handles (goes_on so rest) values end is =
       let (after, made, there) = closed_handles rest values end is in
@@ -121,7 +228,7 @@ module _ {H W : Type 0} {rel : Relations H W} where
       (stage : Stage) → EndsAny rel id cause a b
       → ((kept : Kept W) → exchange_at id a.entries ≡ Some kept → kept.stage ≡ stage)
       → ((values : Values) (end : EndLog) → EndRepresents values one end
-      → IsOverFor end id stage cause) → Handles rel one a one b
+      → IsOverFor end id stage cause) → Handles rel [] one a one b
   ended_handles one id cause stage (inl over) at so values end is = (
     end,
     more (steps.ends id cause over
@@ -131,29 +238,56 @@ module _ {H W : Type 0} {rel : Relations H W} where
   ended_handles one id cause stage (inr never) at so values end is =
       (end, more (notes refl never.1) none, is)
 
-  -- Octets were taken, and nothing was handed out.
-  pub took_handles : {one two : End} (a : Handling H W) (piece : List ℕ)
-      (result : Result EndTaken ConnFault) → EndTakes one piece result two
-      → HandsNothing (answer_of_taken result) → Handles rel one a two a
-  took_handles a piece result made nothing values end is =
+  -- Octets were taken, and nothing was handed out;
+  pub took_handles : {one two : End} (a : Handling H W) (piece : List ℕ) (taken : EndTaken)
+      → EndTakes one piece (Ok taken) two → HandsNothing (answer_of_taken (Ok taken))
+      → Handles rel (take taken.used piece) one a two a
+  took_handles a piece taken made nothing values end is =
+      let (after, may, there) = made values end is in (
+        after,
+        one_step (steps.takes piece (take taken.used piece) (answer_of_taken (Ok taken)) may
+            (uses_first may) nothing (same a)),
+        there,
+      )
+
+  -- or the connection has failed.
+  pub failed_handles : {one two : End} (a : Handling H W) (piece : List ℕ) (fault : ConnFault)
+      (stop : Stop) → EndTakes one piece (Err fault) two
+      → HandlesPiece rel piece one a two a (Err stop)
+  failed_handles a piece fault stop made values end is =
       let (after, may, there) = made values end is in
-      (after, more (steps.takes piece (answer_of_taken result) may nothing (same a)) none, there)
+      let (used, uses) = uses_first may in (
+        used,
+        uses.rest,
+        uses.first,
+        (
+          after,
+          one_step (steps.takes piece used (answer_of_taken (Err fault)) may uses tt (same a)),
+          there,
+        ),
+      )
 
   -- What was handed out was told.
   pub told_handles : {one two : End} {a b : Handling H W} (piece : List ℕ) (count : ℕ)
       (handed : Handed) → EndHands one piece count handed two → Tells rel handed a b
-      → Handles rel one a two b
+      → Handles rel (take count piece) one a two b
   told_handles piece count handed made told values end is =
-      let (after, may, there) = made values end is in
-      (after, more (steps.tells piece count handed may told) none, there)
+      let (after, may, there) = made values end is in (
+        after,
+        one_step (steps.tells piece (take count piece) count handed may (uses_first may) told),
+        there,
+      )
 
   -- There was no memory for it.
   pub untold_handles : {one two : End} {a b : Handling H W} (piece : List ℕ) (count : ℕ)
       (handed : Handed) → EndHands one piece count handed two → IsSameHandling a b
-      → Handles rel one a two b
+      → Handles rel (take count piece) one a two b
   untold_handles piece count handed made so values end is =
-      let (after, may, there) = made values end is in
-      (after, more (steps.lacks_memory piece count handed may so) none, there)
+      let (after, may, there) = made values end is in (
+        after,
+        one_step (steps.lacks_memory piece (take count piece) count handed may (uses_first may) so),
+        there,
+      )
 
   -- The next of an answer was given.
   pub gave_handles : {one two : End} {a b : Handling H W} (id : ℕ) (kept : Kept W)
@@ -161,7 +295,7 @@ module _ {H W : Type 0} {rel : Relations H W} where
       → GivesStage one id kept.stage result two
       → (result ≡ Ok stage) ⊎ (stage ≡ stages.Given) → b.handler ≡ a.handler
       → SetsKept id (Some (record kept { stage = stage })) a.entries b.entries
-      → Handles rel one a two b
+      → Handles rel [] one a two b
   gave_handles id kept result stage was made so handler now values end is =
       let (after, gives, there) = made values end is in (
         after,
@@ -185,7 +319,7 @@ module _ {H W : Type 0} {rel : Relations H W} where
       → EndSendsPart one id part room stage two → exchange_at id mid.entries ≡ Some found
       → b.handler ≡ mid.handler
       → SetsKept id (Some (record found { stage = stage })) mid.entries b.entries
-      → Handles rel one a two b
+      → Handles rel [] one a two b
   asked_handles mid id room part stage found (inr never) made at handler now values end is =
       absurd (let no = sym at ∙ (never.1.kept id ∙ never.0) in cc)
   asked_handles {a} mid {b} id room part stage found (inl one_part) made at handler now values end
@@ -211,7 +345,7 @@ module _ {H W : Type 0} {rel : Relations H W} where
   -- There was nothing to ask.
   pub unasked_handles : {one two : End} {a b : Handling H W} (id : ℕ) (room : List ℕ)
       (stage : Stage) → EndSendsPart one id (Err Failed) room stage two → IsSameHandling a b
-      → Handles rel one a two b
+      → Handles rel [] one a two b
   unasked_handles {a} {b} id room stage made so values end is =
       let (after, sends, there) = made values end is in
       (after, more {next = after} (notes sends.1 so) none, there)
@@ -220,6 +354,6 @@ module _ {H W : Type 0} {rel : Relations H W} where
   pub woke_handles : (one : End) {a b : Handling H W} (id : ℕ) (kept : Kept W)
       → exchange_at id a.entries ≡ Some kept
       → SetsKept id (Some (awake kept)) a.entries b.entries → b.handler ≡ a.handler
-      → Handles rel one a one b
+      → Handles rel [] one a one b
   woke_handles one id kept was now handler values end is =
       (end, more (steps.wakes id kept was now handler refl) none, is)

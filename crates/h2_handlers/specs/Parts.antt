@@ -1,8 +1,8 @@
 -- What a handler gives next of a response in parts.
-use Rattle.std.specs.Prelude.{◌≤◌, ℕ, Result, Ok, Err}
+use Rattle.std.specs.Prelude.{◌≤◌, ℕ, Result, Ok}
 use Rattle.h2_handlers.specs.declared.handler.HandlerFault.{HandlerFault}
 use Rattle.h2_handlers.specs.declared.handler.Part.{Part}
-use Rattle.h2_handlers.specs.declared.handler.Part.TheVariants.{Octets, Last, Trailers, Later}
+use Rattle.h2_handlers.specs.declared.handler.Part.TheVariants.{Octets, Last}
 
 -- The octets lie in the room.
 abbrev pub FitsPart : (room : ℕ) → Result Part HandlerFault → Type 0

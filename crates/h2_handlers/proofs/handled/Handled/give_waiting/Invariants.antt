@@ -1,4 +1,4 @@
-use Rattle.std.proofs.Common.{◌-◌}
+use Rattle.std.proofs.Common.{◌-◌, []}
 use Rattle.h2_handlers.specs.Exchanges.{handling_of, relations}
 use Rattle.h2_handlers.specs.Steps.{Handles}
 use Rattle.h2_handlers.proofs.handled.Handled.give_waiting.Given as goal
@@ -9,7 +9,7 @@ invariant-loop-id g l =
     Handles
     (relations g.H.Handler.heads g.H.Handler.bodies g.H.Handler.trails g.H.Handler.gives
     g.H.Handler.ends)
-    l.initial.self.server.end (handling_of l.initial.self.exchanges) l.self.server.end
+    [] l.initial.self.server.end (handling_of l.initial.self.exchanges) l.self.server.end
     (handling_of l.self.exchanges)
 
 abbrev pub decreases-loop-id : goal.decreases-loop-id

@@ -1,29 +1,35 @@
-use Rattle.std.proofs.Common.{Ok, Err, ap}
+use Rattle.std.proofs.Common.{ap}
+use Rattle.std.proofs.lemmas.Result.{err_from_is_err_and}
 use Rattle.std.specs.Prelude.{option_map}
 use Rattle.h2_ends.specs.Loans.{event_handed}
 use Rattle.h2_handlers.specs.Exchanges.{handling_of}
-use Rattle.h2_handlers.proofs.StepsMade.{took_handles, told_handles, untold_handles}
+use Rattle.h2_handlers.specs.declared.stop.Stop.TheVariants.{Failed}
+use Rattle.h2_handlers.proofs.StepsMade.{failed_handles, stops_counted, told_handles, took_handles}
+use Rattle.h2_handlers.proofs.StepsMade.{untold_handles}
 use Rattle.h2_handlers.proofs.handled.Handled.hear.Goals as goal
 
-pub returns-in-Err-clause-handles : goal.returns-in-Err-clause-handles
-returns-in-Err-clause-handles g c =
-    took_handles (handling_of c.args.self.now.exchanges) c.args.piece.now (Err c.in-Err.fault)
-    (rw c.in-Err.is at c.take.follows.holds-at-none) tt
+pub returns-in-Err-clause-err : goal.returns-in-Err-clause-err
+returns-in-Err-clause-err g c =
+    failed_handles (handling_of c.args.self.now.exchanges) c.args.piece.now c.in-Err.fault
+    (Failed c.in-Err.fault.code)
+    (rw c.in-Err.is at c.take.follows.holds-at-none)
 
-pub returns-in_err-due-in-Some-clause-handles : goal.returns-in_err-due-in-Some-clause-handles
-returns-in_err-due-in-Some-clause-handles g c =
-    untold_handles c.args.piece.now c.in-Ok.taken.used (event_handed c.in-Some.event)
+pub returns-in_err-due-in-Some-clause-err : goal.returns-in_err-due-in-Some-clause-err
+returns-in_err-due-in-Some-clause-err g c =
+    let answer = err_from_is_err_and c.from_residual.result c.from_residual.ensures.1 in
+    rw answer.1 (stops_counted c.in-Ok.taken.used answer.0
+    (untold_handles c.args.piece.now c.in-Ok.taken.used (event_handed c.in-Some.event)
     (rw c.in-Some.is at (rw c.in-Ok.is at c.take.follows.holds-at-none))
-    c.in_err-due-in-Some.ensures.err
+    c.in_err-due-in-Some.ensures.err))
 
-pub returns-in_ok-due-in-Some-clause-handles : goal.returns-in_ok-due-in-Some-clause-handles
-returns-in_ok-due-in-Some-clause-handles g c =
+pub returns-in_ok-due-in-Some-clause-ok : goal.returns-in_ok-due-in-Some-clause-ok
+returns-in_ok-due-in-Some-clause-ok g c =
     told_handles c.args.piece.now c.in-Ok.taken.used (event_handed c.in-Some.event)
     (rw c.in-Some.is at (rw c.in-Ok.is at c.take.follows.holds-at-none))
     c.in_ok-due-in-Some.ensures.ok
 
-pub returns-in-None-clause-handles : goal.returns-in-None-clause-handles
-returns-in-None-clause-handles g c =
-    took_handles (handling_of c.args.self.now.exchanges) c.args.piece.now (Ok c.in-Ok.taken)
+pub returns-in-None-clause-ok : goal.returns-in-None-clause-ok
+returns-in-None-clause-ok g c =
+    took_handles (handling_of c.args.self.now.exchanges) c.args.piece.now c.in-Ok.taken
     (rw c.in-Ok.is at c.take.follows.holds-at-none)
     (ap (λ event. option_map event_handed event) c.in-None.is)

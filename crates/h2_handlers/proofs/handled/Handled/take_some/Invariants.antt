@@ -1,4 +1,4 @@
-use Rattle.std.proofs.Common.{◌≤◌, length}
+use Rattle.std.proofs.Common.{◌≤◌, length, take}
 use Rattle.h2_handlers.specs.Exchanges.{handling_of, relations}
 use Rattle.h2_handlers.specs.Steps.{Handles}
 use Rattle.h2_handlers.proofs.handled.Handled.take_some.Given as goal
@@ -11,6 +11,6 @@ invariant-loop g l =
       handles : Handles
           (relations g.H.Handler.heads g.H.Handler.bodies g.H.Handler.trails g.H.Handler.gives
           g.H.Handler.ends)
-          l.initial.self.server.end (handling_of l.initial.self.exchanges) l.self.server.end
+          (take l.used l.piece) l.initial.self.server.end (handling_of l.initial.self.exchanges) l.self.server.end
           (handling_of l.self.exchanges);
     }
