@@ -24,7 +24,7 @@ use Rattle.h2_handlers.specs.Giving.{GivesStage}
 use Rattle.h2_handlers.proofs.KeptMaps.{set_twice}
 use Rattle.h2_handlers.specs.Steps.{Steps, HandledStep, Handles, HandlesAny, HandlesPiece}
 use Rattle.h2_handlers.specs.Steps.{IsOverFor, IsPutOut, none, more, notes, calls, puts_out}
-use Rattle.h2_handlers.specs.Steps.{EndSendsPart, HandsNothing, given_since}
+use Rattle.h2_handlers.specs.Steps.{EndSendsPart, HandsNothing, given_between}
 use Rattle.h2_handlers.specs.Steps.{releases, pumps}
 use Rattle.h2_handlers.proofs.TakesFirst.{uses_first}
 use Rattle.h2_handlers.specs.Telling.{EndsAny, EndsEach, no_more, goes_on, ends_one}
@@ -192,7 +192,7 @@ module _ {H W : Type 0} {rel : Relations H W} where
       let made = answers values end is in
       let after = end_with_log end (with_call end.log (PutOut count) answer) in (
         [],
-        given_since end after,
+        given_between end after,
         after,
         one_step (puts_out count answer made.0 refl (same a)),
         made.1,

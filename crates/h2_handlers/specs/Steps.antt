@@ -118,8 +118,8 @@ pub record UsesFirst (end : EndLog) (piece used : List ℕ) (after : EndLog) : T
   pub first : piece ≡ used ++ rest
 
 -- the octets that were given out since
-abbrev pub given_since : (end after : EndLog) → List ℕ
-given_since end after = drop (length (given_out end.log)) (given_out after.log)
+abbrev pub given_between : (end after : EndLog) → List ℕ
+given_between end after = drop (length (given_out end.log)) (given_out after.log)
 
 -- The call puts output out.
 abbrev pub IsPutOut : Act → Type 0
@@ -175,7 +175,7 @@ pub data HandledStep {H W : Type 0} (rel : Relations H W)
   puts_out : {end after : EndLog} {old new : Handling H W} (count : ℕ) (answer : Answer)
       → MayAnswer end.log (PutOut count) answer
       → after ≡ end_with_log end (with_call end.log (PutOut count) answer)
-      → IsSameHandling old new → HandledStep rel [] (given_since end after) end old after new
+      → IsSameHandling old new → HandledStep rel [] (given_between end after) end old after new
 
 -- Steps, one after another, in which these octets were used and these given out.
 pub data Steps {H W : Type 0} (rel : Relations H W) (after : EndLog) (new : Handling H W)

@@ -124,8 +124,8 @@ impl<W: Drop, H: Handler<Work = W>> Handled<H, W> {
             return None;
         }
         match self.next_asked_above(self.asked) {
-            Some(found) => Some(found),
-            None => self.next_asked_above(0),
+            None if self.asked > 0 => self.next_asked_above(0),
+            found => found,
         }
     }
 
