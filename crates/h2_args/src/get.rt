@@ -171,9 +171,10 @@ Several URLs are asked for at once, each with the same fields and the same body.
 Their responses are printed in the order of the URLs, each after a line end but
 the first. The one that is printed goes out as it comes, as with --stream; what
 comes of later ones meanwhile is kept, which is little: the windows of all
-streams are 65535 octets together. One that is reset, or fails by --fail, ends
-no other, and a hint names its URL; the status is that of the first that failed.
-At most 100 URLs are taken, all of one host and one port.
+streams are 65535 octets together, so each of N responses has a window of 65535
+divided by N, and a long body takes N times the round trips. One that is reset,
+or fails by --fail, ends no other, and a hint names its URL; the status is that
+of the first that failed. At most 100 URLs are taken, of one host and one port.
 
 With one URL, and without --output, --stream and --verbose, the body is kept
 until the response is complete, and nothing is printed of one that isn't. With

@@ -34,8 +34,8 @@ has_some (one ∷ more) = true
 abbrev pub has_others : GetWords → Bool
 has_others words = has_some words.others
 
--- whether they name more than can be fetched at once: a server is to let a client have so many
--- streams (RFC 9113, section 6.5.2)
+-- whether they name more than can be fetched at once: it is recommended that a server lets a client
+-- have so many streams at least (RFC 9113, section 6.5.2)
 -- rule: engines (own) Several responses are printed in the order of their URLs
 abbrev pub has_too_many : GetWords → Bool
 has_too_many words = nat_lt 100 (length (words.url ∷ words.others))

@@ -38,8 +38,8 @@ pub(crate) fn has_others(options: &GetOptions<'_>) -> bool
     !options.others.is_empty()
 }
 
-/// So many URLs can be fetched at once: a server is to let a client have so many streams (RFC 9113,
-/// section 6.5.2).
+/// So many URLs can be fetched at once: RFC 9113, section 6.5.2, recommends that a server lets a
+/// client have so many streams at least.
 const MAX_URLS: usize = 100;
 
 // rule: engines (own) Several responses are printed in the order of their URLs
@@ -73,7 +73,7 @@ where
         return refuse_words("-o takes one URL", err);
     }
     if has_too_many(options) {
-        return refuse_words("100 URLs can be fetched at once", err);
+        return refuse_words("at most 100 URLs can be fetched at once", err);
     }
     let first = match location_at(alloc, options.url.as_bytes(), options.port) {
         Ok(location) => location,
@@ -271,25 +271,31 @@ fn end_each<E: Write>(
     let mut status = Status::Good;
     let mut place = 0usize;
     for got in results {
+        let is_own = is_of_one(&got);
         let next = end_stream(options, with_cause(got, hint, why), is_late, err);
-        name_failed(options, place, next, err);
+        if is_own && next != Status::Good {
+            name_url(options, place, err);
+        }
         status = first_failed(status, next);
         place = place.saturating_add(1);
     }
     status
 }
 
-// Names on standard error the URL in this place, where its response has failed.
-fn name_failed<E: Write>(options: &GetOptions<'_>, place: usize, status: Status, err: &mut E) {
+// Whether what has come of a response is of it alone, and not of the connection or the output.
+fn is_of_one(got: &Result<Fetched, StreamError>) -> bool {
+    matches!(got, Ok(_) | Err(StreamError::Link(LinkError::Reset(_))))
+}
+
+// Names on standard error the URL in this place.
+fn name_url<E: Write>(options: &GetOptions<'_>, place: usize, err: &mut E) {
     let url = match place.checked_sub(1) {
         None => Some(options.url),
         Some(place) => options.others.get(place).copied(),
     };
-    match (status, url) {
-        (Status::Good, _) | (_, None) => {}
-        (_, Some(url)) => {
-            let _ = writeln!(err, "hint: the URL was {url}");
-        }
+    if let Some(url) = url {
+        // There is no place left to report that this write fails.
+        let _ = writeln!(err, "hint: the URL was {url}");
     }
 }
 
