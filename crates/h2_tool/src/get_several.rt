@@ -273,9 +273,7 @@ fn end_each<E: Write>(
     for got in results {
         let is_own = is_of_one(&got);
         let next = end_stream(options, with_cause(got, hint, why), is_late, err);
-        if is_own && next != Status::Good {
-            name_url(options, place, err);
-        }
+        name_failed(options, place, is_own, next, err);
         status = first_failed(status, next);
         place = place.saturating_add(1);
     }
@@ -287,13 +285,22 @@ fn is_of_one(got: &Result<Fetched, StreamError>) -> bool {
     matches!(got, Ok(_) | Err(StreamError::Link(LinkError::Reset(_))))
 }
 
-// Names on standard error the URL in this place.
-fn name_url<E: Write>(options: &GetOptions<'_>, place: usize, err: &mut E) {
+// Names on standard error the URL in this place, where its response alone has failed.
+fn name_failed<E: Write>(
+    options: &GetOptions<'_>,
+    place: usize,
+    is_own: bool,
+    status: Status,
+    err: &mut E,
+) {
     let url = match place.checked_sub(1) {
         None => Some(options.url),
         Some(place) => options.others.get(place).copied(),
     };
-    if let Some(url) = url {
+    if let Some(url) = url
+        && is_own
+        && status != Status::Good
+    {
         // There is no place left to report that this write fails.
         let _ = writeln!(err, "hint: the URL was {url}");
     }
