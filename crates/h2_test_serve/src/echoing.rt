@@ -10,12 +10,17 @@ use std::alloc::Global;
 /// The most octets of a body: as many as `serve_link` takes.
 const MOST: usize = 1_048_576;
 
-/// The requests: GET, HEAD and POST.
+/// So many octets has a body of several frames.
+const LONG: usize = 40_000;
+
+/// The requests: GET, HEAD and two of POST.
 fn requests(alloc: Global) -> Option<Vec<Message>> {
     let mut messages = Vec::new(alloc);
     messages.push(Message::get(alloc, b"h", b"/a").ok()?).ok()?;
     messages.push(request(alloc, b"HEAD", b"")?).ok()?;
     messages.push(request(alloc, b"POST", b"some body")?).ok()?;
+    let long = vec![in alloc; b'x'; LONG].ok()?;
+    messages.push(request(alloc, b"POST", &long)?).ok()?;
     Some(messages)
 }
 
@@ -45,15 +50,34 @@ fn is_same(alloc: Global, octets: &[u8], most: usize, answer: Result<u64, LinkEr
     echoed == answer && served.map(u64::from) == answer && first.output() == second.output()
 }
 
+/// All that a client sends that makes the requests.
+fn all_asked(alloc: Global) -> Option<Vec<u8>> {
+    let messages = requests(alloc)?;
+    asked(alloc, messages)
+}
+
+/// Whether all of the requests are answered as by `serve_link`.
+fn answers_as(alloc: Global, most: usize) -> bool {
+    match all_asked(alloc) {
+        Some(octets) => is_same(alloc, &octets, most, Ok(4)),
+        None => false,
+    }
+}
+
+/// Whether it ends as `serve_link` does where the input ends inside a frame.
+fn is_cut_off_as(alloc: Global) -> bool {
+    let Some(mut octets) = all_asked(alloc) else {
+        return false;
+    };
+    octets.truncate(octets.len().saturating_sub(1));
+    is_same(alloc, &octets, 7, Err(LinkError::CutOff))
+}
+
 // rule: engines (own) A handler answers over any link
 #[test]
 fn as_serve_link_answers(rt: HostRuntime) {
-    let octets = requests(rt.alloc()).and_then(|messages| asked(rt.alloc(), messages));
-    let Some(octets) = octets else {
-        return;
-    };
     for most in [1usize, 24, 16_384] {
-        assert!(rt; is_same(rt.alloc(), &octets, most, Ok(3)), "{most}");
+        assert!(rt; answers_as(rt.alloc(), most), "{most}");
     }
 }
 
@@ -61,12 +85,7 @@ fn as_serve_link_answers(rt: HostRuntime) {
 // The input ends inside a frame, and begins with no preface.
 #[test]
 fn as_serve_link_ends(rt: HostRuntime) {
-    let octets = requests(rt.alloc()).and_then(|messages| asked(rt.alloc(), messages));
-    let Some(mut octets) = octets else {
-        return;
-    };
-    octets.truncate(octets.len().saturating_sub(1));
-    assert!(rt; is_same(rt.alloc(), &octets, 7, Err(LinkError::CutOff)));
+    assert!(rt; is_cut_off_as(rt.alloc()));
     let http1 = b"GET / HTTP/1.1\r\n\r\n";
     assert!(rt; is_same(rt.alloc(), http1, 7, Err(LinkError::Stream(1))));
 }
