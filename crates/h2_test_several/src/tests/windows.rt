@@ -68,10 +68,11 @@ fn the_window_of_the_response_that_is_waited_for(rt: HostRuntime) {
     }
 }
 
-/// SETTINGS and the acknowledgment of the client's; then on stream 3 an interim response, a head, DATA
-/// without octets, and DATA with `b` that ends it.
+/// SETTINGS and the acknowledgment of the client's; then on stream 3 an interim response, a head,
+/// DATA without octets, and DATA with `b` that ends it.
 const EMPTY: &[u8] = b"\x00\x00\x00\x04\x00\x00\x00\x00\x00\x00\x00\x00\x04\x01\x00\x00\x00\x00\
-    \x00\x00\x05\x01\x04\x00\x00\x00\x03\x08\x03103\x00\x00\x01\x01\x04\x00\x00\x00\x03\x88\
+    \x00\x00\x05\x01\x04\x00\x00\x00\x03\x08\x03103\
+    \x00\x00\x01\x01\x04\x00\x00\x00\x03\x88\
     \x00\x00\x00\x00\x00\x00\x00\x00\x03\x00\x00\x01\x00\x01\x00\x00\x00\x03b";
 
 /// Whether the next on stream 3 is the head, and then the body, whatever else has come.
