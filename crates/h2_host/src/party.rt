@@ -16,7 +16,8 @@ pub enum Own {
         /// Whether it can be written.
         writes: bool,
     },
-    /// Octets have come. Once in its turn, and at most [`MOST_TAKEN`](crate::MOST_TAKEN) of them.
+    /// Octets have come. Once in its turn, and at most [`MOST_TAKEN`](crate::MOST_TAKEN) of them:
+    /// fewer only where its transport can't be read now.
     Came,
     /// None have: its transport can't be read now.
     NoneCame,

@@ -4,7 +4,7 @@ ghost use Rattle.std.specs.Prelude.{◌++◌};
 ghost use Rattle.std.specs.Io.{WritesAtMost};
 
 use mio::net::TcpStream;
-use std::io::{self, IoSlice};
+use std::io::{self, IoSlice, Write};
 
 /// A stream that writes two parts at once, where it can.
 pub(crate) trait WritesBoth {
@@ -21,6 +21,9 @@ pub(crate) trait WritesBoth {
 /// In one call of the system.
 impl WritesBoth for TcpStream {
     fn write_both(&mut self, first: &[u8], second: &[u8]) -> io::Result<usize> {
+        if second.is_empty() {
+            return self.write(first);
+        }
         let parts = [IoSlice::new(first), IoSlice::new(second)];
         self.write_vectored(&parts)
     }

@@ -22,8 +22,9 @@ const STANDARD_INPUT: usize = usize::MAX - 1;
 /// The descriptor of standard input.
 const INPUT_DESCRIPTOR: i32 = 0;
 
-/// So many events are had at once, at most.
-const MOST_EVENTS: usize = 1_024;
+/// So many events are had at once, at most: few enough that what is known of their connections is
+/// still in the processor's cache when each has its turn.
+const MOST_EVENTS: usize = 64;
 
 /// So many connections are accepted in a round, at most.
 const MOST_ACCEPTED: usize = 64;

@@ -45,7 +45,8 @@ pub(crate) fn give_turn<P: Party, S: Read + WritesBoth>(
 }
 
 /// Reads once what the connection takes in a turn, if it takes anything. Where fewer octets come
-/// than there is room for, no more wait, unless the peer has ended its side.
+/// than there is room for, no more wait, which it learns by their number; unless the peer has ended
+/// its side: then it is ready still.
 fn take_input<P: Party, S: Read>(
     host: &mut Host<P>,
     token: Token,
@@ -67,10 +68,14 @@ fn take_input<P: Party, S: Read>(
                 own: Own::Came,
             };
             let fate = fate_of(host.step(step, &room[..count]));
-            if fate == Fate::Over || count == most || socket.hung_up {
+            if fate == Fate::Over || !socket.hung_up {
                 return fate;
             }
-            own_step(host, token, Own::NoneCame)
+            let ready = Own::Ready {
+                reads: true,
+                writes: false,
+            };
+            own_step(host, token, ready)
         }
         Moved::Nothing => own_step(host, token, Own::NoneCame),
         Moved::Ended => own_step(host, token, Own::Ended),

@@ -13,7 +13,7 @@ ghost use Rattle.h2_seat.specs.declared.seat.Phase.TheVariants as phases;
 use crate::seat::{Phase, Seat};
 use crate::why::Why;
 use h2_handlers::{Code, Handler};
-use h2_host::{Answer, Bound, Own};
+use h2_host::{Answer, Bound, MOST_TAKEN, Own};
 use h2_times::{Counts, Flood, Late, Progress};
 
 /// The octets of the preface and of the head of a frame (RFC 9113, sections 3.4 and 4.1).
@@ -83,13 +83,15 @@ impl<W: Drop, H: Handler<Work = W>> Seat<H, W> {
         }
     }
 
-    /// Takes octets, and keeps those that are too much for this turn.
+    /// Takes octets, and keeps those that are too much for this turn. Where they are fewer than a
+    /// turn takes, no more wait.
     fn came(&mut self, octets: &[u8])
         ensures handles { SeatHandles (relations H.heads H.bodies H.trails H.gives H.ends) self.old
             self.new }
         ensures phase { IsUpOrStopped self.old.phase self.new.phase }
     {
         self.took = true;
+        self.reads = self.reads && octets.len() >= MOST_TAKEN;
         let most = self.most_told();
         let used = match self.handled.take_some(octets, most) {
             Ok(used) => used,

@@ -6,8 +6,8 @@ returns-then-eq-clause-run g c =
     an_own_step c.args.host.now c.step.new.self _ _ c.step.result c.step.ensures.answers
     no_own_step
 
-pub returns-else-socket-clause-run : goal.returns-else-socket-clause-run
-returns-else-socket-clause-run g c =
+pub returns-else-not-socket-clause-run : goal.returns-else-not-socket-clause-run
+returns-else-not-socket-clause-run g c =
     an_own_step c.args.host.now c.step.new.self _ _ c.step.result c.step.ensures.answers
     c.own_step.ensures.run
 
