@@ -1,8 +1,10 @@
 -- What happens at a connection of a host, one step after another.
-use Rattle.std.proofs.Common.{◌≡◌, ◌⊎◌, ◌∙◌, inl, inr, refl, sym, subst, true, false, None, ℕ}
+use Rattle.std.proofs.Common.{◌≡◌, ◌⊎◌, ◌∙◌, inl, inr, refl, sym, subst, true, false, None, ℕ, List}
+use Rattle.std.specs.Prelude.{Result}
 use Rattle.h2_handlers.specs.Exchanges.{Relations, handling_of}
-use Rattle.h2_handlers.specs.Steps.{Handles}
-use Rattle.h2_handlers.proofs.StepsMade.{nothing_handles, then_handles}
+use Rattle.h2_handlers.specs.Steps.{Handles, HandlesAny, HandlesPiece}
+use Rattle.h2_handlers.specs.declared.stop.Stop.{Stop}
+use Rattle.h2_handlers.proofs.StepsMade.{any_handles, nothing_any, piece_handles, then_any}
 use Rattle.h2_handlers.specs.declared.handled.Handled.{Handled}
 use Rattle.h2_times.specs.declared.budget.Counts.{Counts}
 use Rattle.h2_times.specs.Budgets.{flood_of}
@@ -24,27 +26,33 @@ module _ {H W : Type 0} {rel : Relations H W} where
   pub seat_same : (old new : Seat H W) → new.handled ≡ old.handled → SeatHandles rel old new
   seat_same old new is = record {
     handles = subst
-        (λ (h : Handled H W). Handles rel old.handled.server.end
+        (λ (h : Handled H W). HandlesAny rel old.handled.server.end
         (handling_of old.handled.exchanges) h.server.end (handling_of h.exchanges))
-        (sym is) (nothing_handles old.handled.server.end (handling_of old.handled.exchanges));
+        (sym is) (nothing_any old.handled.server.end (handling_of old.handled.exchanges));
   }
 
   -- One after another.
   pub seat_then : {one two three : Seat H W} → SeatHandles rel one two
       → SeatHandles rel two three → SeatHandles rel one three
-  seat_then first second = record { handles = then_handles first.handles second.handles }
+  seat_then first second = record { handles = then_any first.handles second.handles }
 
-  -- What has happened at the server with its handler.
+  -- What has happened at the server with its handler, whatever octets it has used and given out;
   pub seat_so : {old new : Seat H W}
-      → Handles rel old.handled.server.end (handling_of old.handled.exchanges)
+      → HandlesAny rel old.handled.server.end (handling_of old.handled.exchanges)
       new.handled.server.end (handling_of new.handled.exchanges) → SeatHandles rel old new
   seat_so is = record { handles = is }
 
-  -- The same, and then more at the connection.
-  pub seat_so_then : {one two three : Seat H W} → SeatHandles rel two three
-      → Handles rel one.handled.server.end (handling_of one.handled.exchanges)
-      two.handled.server.end (handling_of two.handled.exchanges) → SeatHandles rel one three
-  seat_so_then rest is = record { handles = then_handles is rest.handles }
+  -- where these were used;
+  pub seat_used : {used : List ℕ} {old new : Seat H W}
+      → Handles rel used old.handled.server.end (handling_of old.handled.exchanges)
+      new.handled.server.end (handling_of new.handled.exchanges) → SeatHandles rel old new
+  seat_used is = record { handles = any_handles is }
+
+  -- or some of a piece.
+  pub seat_took : (piece : List ℕ) (result : Result ℕ Stop) {old new : Seat H W}
+      → HandlesPiece rel piece old.handled.server.end (handling_of old.handled.exchanges)
+      new.handled.server.end (handling_of new.handled.exchanges) result → SeatHandles rel old new
+  seat_took piece result is = record { handles = piece_handles piece result is }
 
   -- A step was made, what follows from it, and nothing more than counting.
   pub steps_so : {old mid new : Seat H W} {own : Own} {answer : Answer} → SeatHandles rel old mid

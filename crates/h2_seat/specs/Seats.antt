@@ -25,7 +25,7 @@ use Rattle.h2_times.specs.Times.{overdue_of}
 use Rattle.h2_handlers.specs.declared.stop.Stop.{Stop}
 use Rattle.h2_handlers.specs.declared.stop.Stop.TheVariants as stops
 use Rattle.h2_handlers.specs.Exchanges.{Relations, handling_of}
-use Rattle.h2_handlers.specs.Steps.{Handles}
+use Rattle.h2_handlers.specs.Steps.{HandlesAny}
 use Rattle.h2_seat.specs.declared.limits.SeatLimits.{SeatLimits}
 use Rattle.h2_seat.specs.declared.seat.Phase.{Phase}
 use Rattle.h2_seat.specs.declared.seat.Phase.TheVariants.{Up, Ending, Over}
@@ -46,7 +46,7 @@ why_of (Over why) = Some why
 
 -- At the connection only what may happen at a server with its handler has happened.
 pub record SeatHandles {H W : Type 0} (rel : Relations H W) (old new : Seat H W) : Type 0 where
-  pub handles : Handles rel old.handled.server.end (handling_of old.handled.exchanges)
+  pub handles : HandlesAny rel old.handled.server.end (handling_of old.handled.exchanges)
       new.handled.server.end (handling_of new.handled.exchanges)
 
 -- where it is once it begins to end in order

@@ -1,5 +1,6 @@
-use Rattle.h2_seat.proofs.SeatSteps.{seat_so_then}
+use Rattle.h2_seat.proofs.SeatSteps.{seat_then, seat_took}
 use Rattle.h2_seat.proofs.seat.Seat.take_kept.Goals as goal
 
 pub returns-in-Err-clause-handles : goal.returns-in-Err-clause-handles
-returns-in-Err-clause-handles g c = seat_so_then c.stop.ensures.handles c.take_some.ensures.handles
+returns-in-Err-clause-handles g c =
+    seat_then (seat_took _ _ c.take_some.ensures.handles) c.stop.ensures.handles
