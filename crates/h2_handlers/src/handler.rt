@@ -64,7 +64,8 @@ pub enum Part {
     Last(usize),
     /// The trailers, which end the response.
     Trailers(Vec<Field>),
-    /// Nothing now: it is asked again once something was read or written, or time has passed.
+    /// Nothing now: it is asked again once something was read. A host asks once something was
+    /// written or time has passed, too.
     Later,
 }
 
