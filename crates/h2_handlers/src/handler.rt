@@ -64,8 +64,8 @@ pub enum Part {
     Last(usize),
     /// The trailers, which end the response.
     Trailers(Vec<Field>),
-    /// Nothing now: it is asked again once something was read. A host asks once something was
-    /// written or time has passed, too.
+    /// Nothing now: it is asked again once something was read. A host asks it too once its socket
+    /// can be written again, and as time passes.
     Later,
 }
 
