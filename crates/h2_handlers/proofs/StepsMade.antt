@@ -1,8 +1,8 @@
 -- Steps of a server with its handler, one after another.
-use Rattle.std.proofs.Common.{◌≡◌, ◌⊎◌, ◌∙◌, List, Ok, Err, None, refl, sym, subst, inl, inr}
+use Rattle.std.proofs.Common.{◌≡◌, ◌∙◌, List, Ok, Err, None, refl, sym, subst, inl, inr}
 use Rattle.std.proofs.Common.{[], ◌+◌, ◌++◌, ap, append-nil, append_assoc, take, take-add, drop}
 use Rattle.std.proofs.lemmas.List.{take-append-drop}
-use Rattle.std.specs.Prelude.{ℕ, Result, Some}
+use Rattle.std.specs.Prelude.{ℕ, Bool, true, false, Result, Some}
 use Rattle.h2_conn.specs.declared.taken.ConnFault.{ConnFault}
 use Rattle.h2_ends.specs.declared.event.EndTaken.{EndTaken}
 use Rattle.h2_ends.specs.EndTakes.{EndMayTake}
@@ -23,7 +23,8 @@ use Rattle.h2_handlers.specs.Exchanges.{SetsKept}
 use Rattle.h2_handlers.specs.Giving.{GivesStage}
 use Rattle.h2_handlers.proofs.KeptMaps.{set_twice}
 use Rattle.h2_handlers.specs.Steps.{Steps, HandledStep, Handles, HandlesAny, HandlesPiece}
-use Rattle.h2_handlers.specs.Steps.{IsOverFor, IsPutOut, none, more, notes, calls, puts_out}
+use Rattle.h2_handlers.specs.Steps.{IsNextStage, IsOverFor, IsOwnCall, none, more, notes, calls}
+use Rattle.h2_handlers.specs.Steps.{loses_by, puts_out}
 use Rattle.h2_handlers.specs.Steps.{EndSendsPart, HandsNothing, given_between}
 use Rattle.h2_handlers.specs.Steps.{releases, pumps}
 use Rattle.h2_handlers.proofs.TakesFirst.{uses_first}
@@ -31,11 +32,11 @@ use Rattle.h2_handlers.specs.Telling.{EndsAny, EndsEach, no_more, goes_on, ends_
 use Rattle.h2_handlers.specs.Telling.{AskedPart, ChangesAny, Tells}
 use Rattle.h2_handlers.specs.Steps as steps
 use Rattle.h2_handlers.specs.declared.exchange.Stage.{Stage}
-use Rattle.h2_handlers.specs.declared.exchange.Stage.TheVariants as stages
 use Rattle.h2_handlers.specs.declared.handler.HandlerFault.{HandlerFault}
 use Rattle.h2_handlers.specs.declared.handler.HandlerFault.TheVariants.{Failed}
 use Rattle.h2_handlers.specs.declared.handler.Part.{Part}
 use Rattle.h2_handlers.specs.declared.stop.Stop.{Stop}
+use Rattle.h2_handlers.specs.declared.stop.Stop.TheVariants.{Memory}
 use Rattle.h2_handlers.specs.declared.handler.Cause.{Cause}
 use Rattle.h2_handlers.specs.declared.handler.Cause.TheVariants.{Closed}
 
@@ -62,28 +63,65 @@ unasked_same rel mid id room part (inr never) at = never
 
 module _ {H W : Type 0} {rel : Relations H W} where
   -- More steps after some.
-  pub steps_then : {last mid : EndLog} {new between : Handling H W} {first : EndLog}
-      {old : Handling H W} {used given more_used more_given : List ℕ}
-      → Steps rel mid between used given first old
-      → Steps rel last new more_used more_given mid between
-      → Steps rel last new (used ++ more_used) (given ++ more_given) first old
+  pub steps_then : {loses : Bool} {last mid : EndLog} {new between : Handling H W}
+      {first : EndLog} {old : Handling H W} {used given more_used more_given : List ℕ}
+      → Steps rel loses mid between used given first old
+      → Steps rel loses last new more_used more_given mid between
+      → Steps rel loses last new (used ++ more_used) (given ++ more_given) first old
   steps_then none then = then
-  steps_then {last} {new} {first} {old} {more_used} {more_given}
+  steps_then {loses} {last} {new} {first} {old} {more_used} {more_given}
       (more {used} {given} {more_used = next_used} {more_given = next_given} step rest) then =
-      subst (λ (octets : List ℕ). Steps rel last new octets
+      subst (λ (octets : List ℕ). Steps rel loses last new octets
       ((given ++ next_given) ++ more_given) first old)
       (sym (append_assoc used next_used more_used))
-      (subst (λ (octets : List ℕ). Steps rel last new (used ++ (next_used ++ more_used)) octets
-      first old) (sym (append_assoc given next_given more_given))
+      (subst (λ (octets : List ℕ). Steps rel loses last new (used ++ (next_used ++ more_used))
+      octets first old) (sym (append_assoc given next_given more_given))
       (more step (steps_then rest then)))
 
   -- One step.
-  pub one_step : {used given : List ℕ} {end after : EndLog} {old new : Handling H W}
-      → HandledStep rel used given end old after new → Steps rel after new used given end old
-  one_step {used} {given} {end} {after} {old} {new} step =
-      subst (λ (octets : List ℕ). Steps rel after new octets given end old) (append-nil used)
-      (subst (λ (octets : List ℕ). Steps rel after new (used ++ []) octets end old)
+  pub one_step : {loses : Bool} {used given : List ℕ} {end after : EndLog}
+      {old new : Handling H W} → HandledStep rel loses used given end old after new
+      → Steps rel loses after new used given end old
+  one_step {loses} {used} {given} {end} {after} {old} {new} step =
+      subst (λ (octets : List ℕ). Steps rel loses after new octets given end old)
+      (append-nil used)
+      (subst (λ (octets : List ℕ). Steps rel loses after new (used ++ []) octets end old)
       (append-nil given) (more step none))
+
+  -- A step is one in which something may be lost,
+  pub step_may_lose : {loses : Bool} {used given : List ℕ} {end after : EndLog}
+      {old new : Handling H W} → HandledStep rel loses used given end old after new
+      → HandledStep rel true used given end old after new
+  step_may_lose (notes is so) = notes is so
+  step_may_lose (steps.takes piece used answer may uses nothing so) =
+      steps.takes piece used answer may uses nothing so
+  step_may_lose (steps.tells piece used count handed may uses told) =
+      steps.tells piece used count handed may uses told
+  step_may_lose (steps.lacks_memory piece used count handed may uses so) =
+      steps.lacks_memory piece used count handed may uses so
+  step_may_lose (steps.gives id one) = steps.gives id one
+  step_may_lose (steps.asks id one) = steps.asks id one
+  step_may_lose (steps.ends id cause over is now) = steps.ends id cause over is now
+  step_may_lose (steps.wakes id kept was now handler is) =
+      steps.wakes id kept was now handler is
+  step_may_lose (releases answer may so) = releases answer may so
+  step_may_lose (pumps most answer may so) = pumps most answer may so
+  step_may_lose (calls act answer own may is so) = calls act answer own may is so
+  step_may_lose (puts_out count answer may is so) = puts_out count answer may is so
+
+  -- and so are steps, one after another,
+  pub steps_may_lose : {loses : Bool} {last : EndLog} {new : Handling H W} {first : EndLog}
+      {old : Handling H W} {used given : List ℕ} → Steps rel loses last new used given first old
+      → Steps rel true last new used given first old
+  steps_may_lose none = none
+  steps_may_lose (more step rest) = more (step_may_lose step) (steps_may_lose rest)
+
+  -- whether anything is lost or not.
+  pub steps_losing : (loses : Bool) {last : EndLog} {new : Handling H W} {first : EndLog}
+      {old : Handling H W} {used given : List ℕ} → Steps rel false last new used given first old
+      → Steps rel loses last new used given first old
+  steps_losing true made = steps_may_lose made
+  steps_losing false made = made
 
   -- One after another: the octets that were used are those of the first, and then the others.
   pub then_handles : {used more_used : List ℕ} {one two three : End} {a b c : Handling H W}
@@ -121,7 +159,8 @@ module _ {H W : Type 0} {rel : Relations H W} where
   pub any_handles : {used : List ℕ} {one two : End} {a b : Handling H W}
       → Handles rel used one a two b → HandlesAny rel one a two b
   any_handles {used} handles values end is =
-      let (after, made, there) = handles values end is in (used, [], after, made, there)
+      let (after, made, there) = handles values end is in
+      (used, [], after, steps_may_lose made, there)
 
   -- or are those of a piece.
   pub piece_handles : (piece : List ℕ) {one two : End} {a b : Handling H W}
@@ -130,14 +169,15 @@ module _ {H W : Type 0} {rel : Relations H W} where
   piece_handles piece (Ok count) handles = any_handles handles
   piece_handles piece (Err stop) handles = λ values end is.
       let (used, rest, first, (after, made, there)) = handles values end is in
-      (used, [], after, made, there)
+      (used, [], after, steps_may_lose made, there)
 
   -- The connection can't go on once first ones of a piece were used,
   pub stops_first : {piece : List ℕ} (used rest : List ℕ) → piece ≡ used ++ rest
       → {one two : End} {a b : Handling H W} (stop : Stop) → Handles rel used one a two b
       → HandlesPiece rel piece one a two b (Err stop)
   stops_first used rest first stop handles values end is =
-      (used, rest, first, handles values end is)
+      let (after, made, there) = handles values end is in
+      (used, rest, first, (after, steps_losing (loses_by stop) made, there))
 
   -- or so many of them;
   pub stops_counted : {piece : List ℕ} (count : ℕ) {one two : End} {a b : Handling H W}
@@ -160,7 +200,7 @@ module _ {H W : Type 0} {rel : Relations H W} where
         sym (take-append-drop count piece)
             ∙ ap (λ (octets : List ℕ). take count piece ++ octets) split
             ∙ sym (append_assoc (take count piece) used rest),
-        (after, steps_then made more_made, then),
+        (after, steps_then (steps_losing (loses_by stop) made) more_made, then),
       )
 
   -- Nothing happens.
@@ -175,13 +215,13 @@ module _ {H W : Type 0} {rel : Relations H W} where
   pub nothing_any : (one : End) (a : Handling H W) → HandlesAny rel one a one a
   nothing_any one a = any_handles (nothing_handles one a)
 
-  -- A call that is the connection's own was made, and put nothing out.
+  -- A call that is the connection's own was made.
   pub called_handles : {one two : End} {act : Act} {answer : Answer} (a : Handling H W)
-      → (IsPutOut act → ⊥) → EndAnswers one act answer two → Handles rel [] one a two a
-  called_handles {act} {answer} a another answers values end is =
+      → IsOwnCall act → EndAnswers one act answer two → Handles rel [] one a two a
+  called_handles {act} {answer} a own answers values end is =
       let made = answers values end is in (
         end_with_log end (with_call end.log act answer),
-        more (calls act answer another made.0 refl (same a)) none,
+        more (calls act answer own made.0 refl (same a)) none,
         made.1,
       )
 
@@ -281,19 +321,25 @@ module _ {H W : Type 0} {rel : Relations H W} where
   -- There was no memory for it.
   pub untold_handles : {one two : End} {a b : Handling H W} (piece : List ℕ) (count : ℕ)
       (handed : Handed) → EndHands one piece count handed two → IsSameHandling a b
-      → Handles rel (take count piece) one a two b
+      → HandlesPiece rel piece one a two b (Err Memory)
   untold_handles piece count handed made so values end is =
       let (after, may, there) = made values end is in (
-        after,
-        one_step (steps.lacks_memory piece (take count piece) count handed may (uses_first may) so),
-        there,
+        take count piece,
+        drop count piece,
+        sym (take-append-drop count piece),
+        (
+          after,
+          one_step (steps.lacks_memory piece (take count piece) count handed may
+              (uses_first may) so),
+          there,
+        ),
       )
 
   -- The next of an answer was given.
   pub gave_handles : {one two : End} {a b : Handling H W} (id : ℕ) (kept : Kept W)
       (result : Result Stage Stop) (stage : Stage) → exchange_at id a.entries ≡ Some kept
       → GivesStage one id kept.stage result two
-      → (result ≡ Ok stage) ⊎ (stage ≡ stages.Given) → b.handler ≡ a.handler
+      → IsNextStage result stage → b.handler ≡ a.handler
       → SetsKept id (Some (record kept { stage = stage })) a.entries b.entries
       → Handles rel [] one a two b
   gave_handles id kept result stage was made so handler now values end is =

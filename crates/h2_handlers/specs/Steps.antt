@@ -2,7 +2,7 @@
 use Rattle.std.specs.Prelude.{◌≡◌, ◌⊎◌, ℕ, Bool, true, false, List, [], ◌++◌, Some, None}
 use Rattle.std.specs.Prelude.{Result, Ok, Err, take, drop, if◌then◌else◌, ◌==◌, length, not}
 use Rattle.h2_frame.specs.declared.code.Code.TheVariants.{InternalError}
-use Rattle.h2_spec_log.specs.Acts.{Values, Act, Answer, PutOut}
+use Rattle.h2_spec_log.specs.Acts.{Values, Act, Answer, Fail, PutOut, Release, SendGoAway}
 use Rattle.h2_spec_log.specs.Log.{active}
 use Rattle.h2_spec_log.specs.LogCalls.{MayAnswer, with_call}
 use Rattle.h2_laws_pair.specs.Pairs.{given_out}
@@ -21,6 +21,7 @@ use Rattle.h2_handlers.specs.declared.handler.HandlerFault.{HandlerFault}
 use Rattle.h2_handlers.specs.declared.handler.Part.{Part}
 use Rattle.h2_handlers.specs.declared.handler.Part.TheVariants as parts
 use Rattle.h2_handlers.specs.declared.stop.Stop.{Stop}
+use Rattle.h2_handlers.specs.declared.stop.Stop.TheVariants as stops
 use Rattle.h2_handlers.specs.Exchanges.{Relations, Kept, exchange_at, SetsKept, Handling}
 use Rattle.h2_handlers.specs.Exchanges.{IsSameHandling, awake}
 use Rattle.h2_handlers.specs.Giving.{GivesStageSo}
@@ -91,6 +92,12 @@ pub record AsksOne {H W : Type 0} (rel : Relations H W) (id : ℕ) (end after : 
   pub sends : SendsPart end id part room stage after
   pub now : SetsKept id (Some (record next { stage = stage })) old.entries new.entries
 
+-- How far an answer is once its next was given: as far as that has said; or given, where the
+-- connection can't go on.
+abbrev pub IsNextStage : Result Stage Stop → Stage → Type 0
+IsNextStage (Ok next) stage = stage ≡ next
+IsNextStage (Err stop) stage = stage ≡ stages.Given
+
 -- The next of the answer on a stream was given. Where the connection can't go on after that,
 -- nothing more is given there.
 pub record GivesOne {H W : Type 0} (id : ℕ) (end after : EndLog) (old new : Handling H W)
@@ -100,7 +107,7 @@ pub record GivesOne {H W : Type 0} (id : ℕ) (end after : EndLog) (old new : Ha
   pub stage : Stage
   pub was : exchange_at id old.entries ≡ Some kept
   pub gives : GivesStageSo end id kept.stage result after
-  pub is : result ≡ Ok stage ⊎ (stage ≡ stages.Given)
+  pub is : IsNextStage result stage
   pub handler : new.handler ≡ old.handler
   pub now : SetsKept id (Some (record kept { stage = stage })) old.entries new.entries
 
@@ -121,86 +128,100 @@ pub record UsesFirst (end : EndLog) (piece used : List ℕ) (after : EndLog) : T
 abbrev pub given_between : (end after : EndLog) → List ℕ
 given_between end after = drop (length (given_out end.log)) (given_out after.log)
 
--- The call puts output out.
-abbrev pub IsPutOut : Act → Type 0
-IsPutOut (PutOut count) = Unit {0}
-IsPutOut act = ⊥
+-- The call is one that is made for the connection, and not for an answer: GOAWAY, credit that is
+-- returned, or the end of the connection.
+abbrev pub IsOwnCall : Act → Type 0
+IsOwnCall SendGoAway = Unit {0}
+IsOwnCall (Release id count) = Unit {0}
+IsOwnCall (Fail code) = Unit {0}
+IsOwnCall act = ⊥
 
 -- One step of a server with its handler, in which it has used these octets of its input and given
--- out these of its output.
+-- out these of its output. What was handed out is told, unless something may be lost.
 pub data HandledStep {H W : Type 0} (rel : Relations H W)
-    : (used given : List ℕ) → (end : EndLog) → (old : Handling H W) → (after : EndLog)
-    → (new : Handling H W) → Type 0 where
+    : (loses : Bool) → (used given : List ℕ) → (end : EndLog) → (old : Handling H W)
+    → (after : EndLog) → (new : Handling H W) → Type 0 where
   -- something was counted
-  notes : {end after : EndLog} {old new : Handling H W} → after ≡ end → IsSameHandling old new
-      → HandledStep rel [] [] end old after new
+  notes : {loses : Bool} {end after : EndLog} {old new : Handling H W} → after ≡ end
+      → IsSameHandling old new
+      → HandledStep rel loses [] [] end old after new
   -- octets were taken, and nothing was handed out
-  takes : {end after : EndLog} {old new : Handling H W} (piece used : List ℕ) (answer : EndAnswer)
+  takes : {loses : Bool} {end after : EndLog} {old new : Handling H W} (piece used : List ℕ) (answer : EndAnswer)
       → EndMayTake end piece answer after → UsesFirst end piece used after → HandsNothing answer
-      → IsSameHandling old new → HandledStep rel used [] end old after new
+      → IsSameHandling old new → HandledStep rel loses used [] end old after new
   -- octets were taken, and what was handed out was told
-  tells : {end after : EndLog} {old new : Handling H W} (piece used : List ℕ) (count : ℕ)
+  tells : {loses : Bool} {end after : EndLog} {old new : Handling H W} (piece used : List ℕ) (count : ℕ)
       (handed : Handed) → EndMayTake end piece (EndTook count (Some handed)) after
       → UsesFirst end piece used after → Tells rel handed old new
-      → HandledStep rel used [] end old after new
-  -- the same, but there was no memory for it
+      → HandledStep rel loses used [] end old after new
+  -- the same, but there was no memory for it: it is lost
   lacks_memory : {end after : EndLog} {old new : Handling H W} (piece used : List ℕ) (count : ℕ)
       (handed : Handed) → EndMayTake end piece (EndTook count (Some handed)) after
       → UsesFirst end piece used after → IsSameHandling old new
-      → HandledStep rel used [] end old after new
-  gives : {end after : EndLog} {old new : Handling H W} (id : ℕ) → GivesOne id end after old new
-      → HandledStep rel [] [] end old after new
-  asks : {end after : EndLog} {old new : Handling H W} (id : ℕ) → AsksOne rel id end after old new
-      → HandledStep rel [] [] end old after new
-  ends : {end after : EndLog} {old new : Handling H W} (id : ℕ) (cause : Cause)
+      → HandledStep rel true used [] end old after new
+  gives : {loses : Bool} {end after : EndLog} {old new : Handling H W} (id : ℕ)
+      → GivesOne id end after old new
+      → HandledStep rel loses [] [] end old after new
+  asks : {loses : Bool} {end after : EndLog} {old new : Handling H W} (id : ℕ)
+      → AsksOne rel id end after old new
+      → HandledStep rel loses [] [] end old after new
+  ends : {loses : Bool} {end after : EndLog} {old new : Handling H W} (id : ℕ) (cause : Cause)
       (over : EndsOne rel id cause old new) → IsOverFor end id over.kept.stage cause
-      → after ≡ end → HandledStep rel [] [] end old after new
+      → after ≡ end → HandledStep rel loses [] [] end old after new
   -- a handler that had no part may be asked again
-  wakes : {end after : EndLog} {old new : Handling H W} (id : ℕ) (kept : Kept W)
+  wakes : {loses : Bool} {end after : EndLog} {old new : Handling H W} (id : ℕ) (kept : Kept W)
       → exchange_at id old.entries ≡ Some kept
       → SetsKept id (Some (awake kept)) old.entries new.entries → new.handler ≡ old.handler
-      → after ≡ end → HandledStep rel [] [] end old after new
-  releases : {end after : EndLog} {old new : Handling H W} (answer : Result (Unit {0}) EndRefusal)
+      → after ≡ end → HandledStep rel loses [] [] end old after new
+  releases : {loses : Bool} {end after : EndLog} {old new : Handling H W} (answer : Result (Unit {0}) EndRefusal)
       → MayReleaseAll end answer after → IsSameHandling old new
-      → HandledStep rel [] [] end old after new
-  pumps : {end after : EndLog} {old new : Handling H W} (most : ℕ) (answer : Result ℕ EndRefusal)
+      → HandledStep rel loses [] [] end old after new
+  pumps : {loses : Bool} {end after : EndLog} {old new : Handling H W} (most : ℕ) (answer : Result ℕ EndRefusal)
       → MayPumpSome most end answer after → IsSameHandling old new
-      → HandledStep rel [] [] end old after new
+      → HandledStep rel loses [] [] end old after new
   -- a call that is the connection's own
-  calls : {end after : EndLog} {old new : Handling H W} (act : Act) (answer : Answer)
-      → (IsPutOut act → ⊥) → MayAnswer end.log act answer
+  calls : {loses : Bool} {end after : EndLog} {old new : Handling H W} (act : Act) (answer : Answer)
+      → IsOwnCall act → MayAnswer end.log act answer
       → after ≡ end_with_log end (with_call end.log act answer) → IsSameHandling old new
-      → HandledStep rel [] [] end old after new
+      → HandledStep rel loses [] [] end old after new
   -- output was put out
-  puts_out : {end after : EndLog} {old new : Handling H W} (count : ℕ) (answer : Answer)
+  puts_out : {loses : Bool} {end after : EndLog} {old new : Handling H W} (count : ℕ) (answer : Answer)
       → MayAnswer end.log (PutOut count) answer
       → after ≡ end_with_log end (with_call end.log (PutOut count) answer)
-      → IsSameHandling old new → HandledStep rel [] (given_between end after) end old after new
+      → IsSameHandling old new → HandledStep rel loses []
+      (given_between end after) end old after new
 
 -- Steps, one after another, in which these octets were used and these given out.
-pub data Steps {H W : Type 0} (rel : Relations H W) (after : EndLog) (new : Handling H W)
+pub data Steps {H W : Type 0} (rel : Relations H W) (loses : Bool) (after : EndLog)
+    (new : Handling H W)
     : (used given : List ℕ) → (end : EndLog) → (old : Handling H W) → Type 0 where
-  none : Steps rel after new [] [] after new
+  none : Steps rel loses after new [] [] after new
   more : {used given more_used more_given : List ℕ} {end next : EndLog} {old mid : Handling H W}
-      → HandledStep rel used given end old next mid
-      → Steps rel after new more_used more_given next mid
-      → Steps rel after new (used ++ more_used) (given ++ more_given) end old
+      → HandledStep rel loses used given end old next mid
+      → Steps rel loses after new more_used more_given next mid
+      → Steps rel loses after new (used ++ more_used) (given ++ more_given) end old
 
 -- Whatever has happened at the server, such steps were made, in which these octets were used and
--- none given out, and the end represents what has happened after them.
+-- none given out, and nothing was lost; and the end represents what has happened after them.
 abbrev pub Handles : {H W : Type 0} → Relations H W → (used : List ℕ) → (old_end : End)
     → (old : Handling H W) → (new_end : End) → (new : Handling H W) → Type 0
 Handles rel used old_end old new_end new =
     (values : Values) (end : EndLog) → EndRepresents values old_end end
-    → (after : EndLog) × Steps rel after new used [] end old × EndRepresents values new_end after
+    → (after : EndLog) × Steps rel false after new used [] end old
+    × EndRepresents values new_end after
 
--- The same, whatever octets were used and given out.
+-- The same, whatever octets were used and given out, and though something may be lost.
 abbrev pub HandlesAny : {H W : Type 0} → Relations H W → (old_end : End) → (old : Handling H W)
     → (new_end : End) → (new : Handling H W) → Type 0
 HandlesAny rel old_end old new_end new =
     (values : Values) (end : EndLog) → EndRepresents values old_end end
     → (used given : List ℕ) × (after : EndLog)
-    × Steps rel after new used given end old × EndRepresents values new_end after
+    × Steps rel true after new used given end old × EndRepresents values new_end after
+
+-- whether something may be lost where the connection can't go on for this: for memory alone
+abbrev pub loses_by : Stop → Bool
+loses_by stops.Memory = true
+loses_by stop = false
 
 -- what was made of a piece: so many of its octets were used, or the connection can't go on once
 -- some first ones were
@@ -211,5 +232,5 @@ HandlesPiece rel piece old_end old new_end new (Ok count) =
 HandlesPiece rel piece old_end old new_end new (Err stop) =
     (values : Values) (end : EndLog) → EndRepresents values old_end end
     → (used rest : List ℕ) × (piece ≡ used ++ rest)
-    × ((after : EndLog) × Steps rel after new used [] end old
+    × ((after : EndLog) × Steps rel (loses_by stop) after new used [] end old
     × EndRepresents values new_end after)

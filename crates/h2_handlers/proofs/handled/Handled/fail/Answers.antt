@@ -4,5 +4,5 @@ use Rattle.h2_handlers.proofs.handled.Handled.fail.Goals as goal
 
 pub returns-clause-handles : goal.returns-clause-handles
 returns-clause-handles g c =
-    then_handles (called_handles (handling_of c.args.self.now.exchanges) (λ another. another)
+    then_handles (called_handles (handling_of c.args.self.now.exchanges) tt
     c.fail.ensures) (closed_handles c.end_all.ensures.ends)

@@ -1,4 +1,4 @@
-use Rattle.std.proofs.Common.{inl, inr, refl}
+use Rattle.std.proofs.Common.{refl}
 use Rattle.h2_handlers.specs.Exchanges.{exchange_kept}
 use Rattle.h2_handlers.proofs.KeptMaps.{found_kept, same_map, written_kept}
 use Rattle.h2_handlers.proofs.StepsMade.{gave_handles, noted_handles}
@@ -17,7 +17,7 @@ returns-in_err-exchange g c =
     let next = record one { stage = c.replace-stage.new.dest } in
     gave_handles c.args.id (exchange_kept one) c.give.result c.replace-stage.new.dest
     (found_kept c.args.id c.args.self.now.exchanges.kept.entries one c.in-Some.ensures.value)
-    (rw c.replace-stage.ensures.value at c.give.ensures) (inr c.replace-stage.ensures.after) refl
+    (rw c.replace-stage.ensures.value at c.give.ensures) (rw c.in_err-exchange.was c.replace-stage.ensures.after) refl
     (written_kept c.args.id c.args.self.now.exchanges.kept _ one next c.in-Some.ensures.value
     (c.get_mut.follows.holds next))
 
@@ -27,6 +27,6 @@ returns g c =
     let next = record one { stage = c.in_ok-exchange.field-0 } in
     gave_handles c.args.id (exchange_kept one) c.give.result c.in_ok-exchange.field-0
     (found_kept c.args.id c.args.self.now.exchanges.kept.entries one c.in-Some.ensures.value)
-    (rw c.replace-stage.ensures.value at c.give.ensures) (inl c.in_ok-exchange.was) refl
+    (rw c.replace-stage.ensures.value at c.give.ensures) (rw c.in_ok-exchange.was refl) refl
     (written_kept c.args.id c.args.self.now.exchanges.kept _ one next c.in-Some.ensures.value
     (c.get_mut.follows.holds next))

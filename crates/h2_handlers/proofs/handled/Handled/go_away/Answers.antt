@@ -3,5 +3,5 @@ use Rattle.h2_handlers.proofs.StepsMade.{called_handles}
 use Rattle.h2_handlers.proofs.handled.Handled.go_away.Goals as goal
 
 pub returns-clause-handles : goal.returns-clause-handles
-returns-clause-handles g c = called_handles (handling_of c.args.self.now.exchanges) (λ another. another)
+returns-clause-handles g c = called_handles (handling_of c.args.self.now.exchanges) tt
     c.go_away.ensures

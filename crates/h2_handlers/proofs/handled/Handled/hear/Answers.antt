@@ -4,7 +4,7 @@ use Rattle.std.specs.Prelude.{option_map}
 use Rattle.h2_ends.specs.Loans.{event_handed}
 use Rattle.h2_handlers.specs.Exchanges.{handling_of}
 use Rattle.h2_handlers.specs.declared.stop.Stop.TheVariants.{Failed}
-use Rattle.h2_handlers.proofs.StepsMade.{failed_handles, stops_counted, told_handles, took_handles}
+use Rattle.h2_handlers.proofs.StepsMade.{failed_handles, told_handles, took_handles}
 use Rattle.h2_handlers.proofs.StepsMade.{untold_handles}
 use Rattle.h2_handlers.proofs.handled.Handled.hear.Goals as goal
 
@@ -17,7 +17,7 @@ returns-in-Err-clause-err g c =
 pub returns-in_err-due-in-Some-clause-err : goal.returns-in_err-due-in-Some-clause-err
 returns-in_err-due-in-Some-clause-err g c =
     let answer = err_from_is_err_and c.from_residual.result c.from_residual.ensures.1 in
-    rw answer.1 (stops_counted c.in-Ok.taken.used answer.0
+    rw answer.1 (rw answer.2
     (untold_handles c.args.piece.now c.in-Ok.taken.used (event_handed c.in-Some.event)
     (rw c.in-Some.is at (rw c.in-Ok.is at c.take.follows.holds-at-none))
     c.in_err-due-in-Some.ensures.err))

@@ -7,5 +7,5 @@ returns-then-count-eq0 g c =
     nothing_handles c.args.self.now.server.end (handling_of c.args.self.now.exchanges)
 
 pub returns : goal.returns
-returns g c = called_handles (handling_of c.args.self.now.exchanges) (λ another. another)
+returns g c = called_handles (handling_of c.args.self.now.exchanges) tt
     c.release-released.ensures

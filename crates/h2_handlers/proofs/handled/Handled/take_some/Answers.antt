@@ -15,7 +15,7 @@ loop-init g c = record {
 pub returns-in_err-heard-clause-handles : goal.returns-in_err-heard-clause-handles
 returns-in_err-heard-clause-handles g c =
     let answer = err_from_is_err_and c.from_residual.result c.from_residual.ensures.1 in
-    rw answer.1 (stops_after c.loop.used answer.0 c.loop.invariant.handles
+    rw (answer.1, answer.2) (stops_after c.loop.used _ c.loop.invariant.handles
     (rw (take_rest c.args.piece.now c.loop.used) at c.in_err-heard.ensures.err))
 
 pub returns-in_err-told-clause-handles : goal.returns-in_err-told-clause-handles
