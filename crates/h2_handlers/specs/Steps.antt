@@ -146,11 +146,13 @@ pub data HandledStep {H W : Type 0} (rel : Relations H W)
       → IsSameHandling old new
       → HandledStep rel loses [] [] end old after new
   -- octets were taken, and nothing was handed out
-  takes : {loses : Bool} {end after : EndLog} {old new : Handling H W} (piece used : List ℕ) (answer : EndAnswer)
+  takes : {loses : Bool} {end after : EndLog} {old new : Handling H W}
+      (piece used : List ℕ) (answer : EndAnswer)
       → EndMayTake end piece answer after → UsesFirst end piece used after → HandsNothing answer
       → IsSameHandling old new → HandledStep rel loses used [] end old after new
   -- octets were taken, and what was handed out was told
-  tells : {loses : Bool} {end after : EndLog} {old new : Handling H W} (piece used : List ℕ) (count : ℕ)
+  tells : {loses : Bool} {end after : EndLog} {old new : Handling H W}
+      (piece used : List ℕ) (count : ℕ)
       (handed : Handed) → EndMayTake end piece (EndTook count (Some handed)) after
       → UsesFirst end piece used after → Tells rel handed old new
       → HandledStep rel loses used [] end old after new
@@ -173,10 +175,12 @@ pub data HandledStep {H W : Type 0} (rel : Relations H W)
       → exchange_at id old.entries ≡ Some kept
       → SetsKept id (Some (awake kept)) old.entries new.entries → new.handler ≡ old.handler
       → after ≡ end → HandledStep rel loses [] [] end old after new
-  releases : {loses : Bool} {end after : EndLog} {old new : Handling H W} (answer : Result (Unit {0}) EndRefusal)
+  releases : {loses : Bool} {end after : EndLog} {old new : Handling H W}
+      (answer : Result (Unit {0}) EndRefusal)
       → MayReleaseAll end answer after → IsSameHandling old new
       → HandledStep rel loses [] [] end old after new
-  pumps : {loses : Bool} {end after : EndLog} {old new : Handling H W} (most : ℕ) (answer : Result ℕ EndRefusal)
+  pumps : {loses : Bool} {end after : EndLog} {old new : Handling H W}
+      (most : ℕ) (answer : Result ℕ EndRefusal)
       → MayPumpSome most end answer after → IsSameHandling old new
       → HandledStep rel loses [] [] end old after new
   -- a call that is the connection's own
@@ -185,7 +189,8 @@ pub data HandledStep {H W : Type 0} (rel : Relations H W)
       → after ≡ end_with_log end (with_call end.log act answer) → IsSameHandling old new
       → HandledStep rel loses [] [] end old after new
   -- output was put out
-  puts_out : {loses : Bool} {end after : EndLog} {old new : Handling H W} (count : ℕ) (answer : Answer)
+  puts_out : {loses : Bool} {end after : EndLog} {old new : Handling H W}
+      (count : ℕ) (answer : Answer)
       → MayAnswer end.log (PutOut count) answer
       → after ≡ end_with_log end (with_call end.log (PutOut count) answer)
       → IsSameHandling old new → HandledStep rel loses []
