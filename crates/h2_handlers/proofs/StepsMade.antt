@@ -88,7 +88,7 @@ module _ {H W : Type 0} {rel : Relations H W} where
       (subst (λ (octets : List ℕ). Steps rel loses after new (used ++ []) octets end old)
       (append-nil given) (more step none))
 
-  -- A step is one in which something may be lost,
+  -- Any step is one in which something may be lost,
   pub step_may_lose : {loses : Bool} {used given : List ℕ} {end after : EndLog}
       {old new : Handling H W} → HandledStep rel loses used given end old after new
       → HandledStep rel true used given end old after new
@@ -109,14 +109,14 @@ module _ {H W : Type 0} {rel : Relations H W} where
   step_may_lose (calls act answer own may is so) = calls act answer own may is so
   step_may_lose (puts_out count answer may is so) = puts_out count answer may is so
 
-  -- and so are steps, one after another,
+  -- and so are steps, one after another.
   pub steps_may_lose : {loses : Bool} {last : EndLog} {new : Handling H W} {first : EndLog}
       {old : Handling H W} {used given : List ℕ} → Steps rel loses last new used given first old
       → Steps rel true last new used given first old
   steps_may_lose none = none
   steps_may_lose (more step rest) = more (step_may_lose step) (steps_may_lose rest)
 
-  -- whether anything is lost or not.
+  -- Steps in which nothing is lost are such steps, whether something may be lost or not.
   pub steps_losing : (loses : Bool) {last : EndLog} {new : Handling H W} {first : EndLog}
       {old : Handling H W} {used given : List ℕ} → Steps rel false last new used given first old
       → Steps rel loses last new used given first old

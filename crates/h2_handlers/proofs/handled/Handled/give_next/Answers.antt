@@ -17,7 +17,8 @@ returns-in_err-exchange g c =
     let next = record one { stage = c.replace-stage.new.dest } in
     gave_handles c.args.id (exchange_kept one) c.give.result c.replace-stage.new.dest
     (found_kept c.args.id c.args.self.now.exchanges.kept.entries one c.in-Some.ensures.value)
-    (rw c.replace-stage.ensures.value at c.give.ensures) (rw c.in_err-exchange.was c.replace-stage.ensures.after) refl
+    (rw c.replace-stage.ensures.value at c.give.ensures)
+    (rw c.in_err-exchange.was c.replace-stage.ensures.after) refl
     (written_kept c.args.id c.args.self.now.exchanges.kept _ one next c.in-Some.ensures.value
     (c.get_mut.follows.holds next))
 

@@ -23,7 +23,8 @@ returns-in_err-told-clause-handles g c =
     let result = c.from_residual-in_err-told.result in
     let answer = err_from_is_err_and result c.from_residual-in_err-told.ensures.1 in
     rw answer.1 (stops_counted (c.loop.used + c.in_ok-heard.heard.used) answer.0
-    (then_nothing (then_counted c.args.piece.now c.loop.used c.in_ok-heard.heard.used c.loop.invariant.handles
+    (then_nothing (then_counted c.args.piece.now c.loop.used c.in_ok-heard.heard.used
+    c.loop.invariant.handles
     (rw (take_rest c.args.piece.now c.loop.used) at c.in_ok-heard.ensures.ok))
     c.do_due.ensures.handles))
 

@@ -11,6 +11,7 @@ invariant-loop g l =
       handles : Handles
           (relations g.H.Handler.heads g.H.Handler.bodies g.H.Handler.trails g.H.Handler.gives
           g.H.Handler.ends)
-          (take l.used l.piece) l.initial.self.server.end (handling_of l.initial.self.exchanges) l.self.server.end
+          (take l.used l.piece) l.initial.self.server.end
+          (handling_of l.initial.self.exchanges) l.self.server.end
           (handling_of l.self.exchanges);
     }
