@@ -1,7 +1,9 @@
 mod Beginning
 mod Comings
 mod Ending
+mod GivingBack
 mod KeptParts
+mod OwedCredit
 mod ReadPieces
 mod Refilling
 mod SendingRounds

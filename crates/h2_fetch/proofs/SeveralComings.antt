@@ -22,7 +22,8 @@ use Rattle.h2_fetch.specs.declared.several.Came.{Came}
 use Rattle.h2_fetch.specs.declared.several.Came.TheVariants.{Dropped}
 use Rattle.h2_fetch.specs.declared.several.SeveralFetch.{SeveralFetch}
 use Rattle.h2_fetch.proofs.KeptParts.{parts_answered, parts_kept, parts_lost}
-use Rattle.h2_fetch.proofs.SeveralTaking.{IsNothing, dropped_as, handed_came, nothing_came}
+use Rattle.h2_fetch.proofs.SeveralTaking.{IsFinal, IsNothing, dropped_as, handed_came}
+use Rattle.h2_fetch.proofs.SeveralTaking.{nothing_came}
 use Rattle.h2_fetch.proofs.SeveralTaking.{something_came, stay_dropped, stays_handed}
 use Rattle.h2_link.specs.declared.error.LinkError.TheVariants as errors
 
@@ -125,7 +126,8 @@ module _ {values : Values} {start now : Traffic} {asked : List AskedOn} {old : S
             (stays_handed (EndTook taken.used took.handed) end.handed took.same) is.dropped);
       }
 
-  module _ (stream : ℕ) (came : Came) (next : taken.next ≡ nexts.On stream came) where
+  module _ (stream : ℕ) (came : Came) (next : taken.next ≡ nexts.On stream came)
+      (final : IsFinal came) where
     -- Something has come, which was handed out last.
     last_came : (one : Handed) × IsAsCame stream came one
         × (took.after.handed ≡ one ∷ end.handed)
@@ -136,7 +138,7 @@ module _ {values : Values} {start now : Traffic} {asked : List AskedOn} {old : S
         → all_on i took.after.handed ≡ all_on i end.handed ++ came_on stream came i
     more_came i =
         let (one, is_as, same) = last_came in
-        ap (all_on i) same ∙ handed_came i stream came one end.handed is_as
+        ap (all_on i) same ∙ handed_came i stream came one end.handed final is_as
 
     pub came_dropped : (code : ℕ) → came ≡ Dropped code → WasDropped took.after stream code
     came_dropped code dropped =

@@ -4,6 +4,7 @@ use Names.{◌≡◌, ◌≢◌, ℕ, false, [], List, ◌∷◌, ◌++◌, leng
 use Names.{◌∙◌, append-nil, inl, inr, Contains, End, EndLog, EndTook, EndFailed, Handed, EndTaken}
 use Names.{EndTakes, LentPart, LinkError, ConnFault, event_handed, error_with, later_in}
 use Names.{EndAnswer, InterimHanded, HeadHanded, BodyHanded, TrailersHanded, Passed, ne_eqb, ◌==◌}
+use Names.{subst}
 use Rattle.h2_spec_log.specs.Events.{ResetEvent, UnprocessedEvent}
 use Rattle.h2_engines.specs.Fetches.{WasDropped}
 use Rattle.h2_engines.specs.ServerSteps.{ErrsServing}
@@ -11,9 +12,10 @@ use Rattle.h2_engines.proofs.TakeMessages.{handed_after}
 use Rattle.h2_fetch.specs.Kept.{came_on}
 use Rattle.h2_fetch.specs.Several.{AreDropped, OnStream, all_on, as_on}
 use Rattle.h2_fetch.specs.SeveralTakes.{HandsCame, IsAsCame, TakesCameOnce, TakesCameSo}
-use Rattle.h2_fetch.specs.SeveralTakes.{stream_of_handed}
+use Rattle.h2_fetch.specs.SeveralTakes.{stream_of_handed, without_interim}
 use Rattle.h2_fetch.specs.declared.coming.CameNext.{CameNext}
 use Rattle.h2_fetch.specs.declared.coming.CameNext.TheVariants as nexts
+use Rattle.h2_fetch.specs.declared.coming.CameTaken.{CameTaken}
 use Rattle.h2_fetch.specs.declared.part.ResponsePart.TheVariants as parts
 use Rattle.h2_fetch.specs.declared.several.Came.{Came}
 use Rattle.h2_fetch.specs.declared.several.Came.TheVariants.{Part, Dropped}
@@ -67,24 +69,84 @@ came_fault old new ids piece fault is takes values end represents =
     let (after, may, now) = takes values end represents in
     (after, now, (EndFailed fault.code, may, is))
 
+-- Interim responses are dropped: what is left has come on its stream, or nothing has.
+hands_final : (ids : List ℕ) (handed : Option Handed) (next : CameNext)
+    → HandsCame ids handed next → HandsCame ids handed (without_interim next)
+hands_final ids None (nexts.On id came) hands = absurd hands
+hands_final ids None nexts.Again hands = hands
+hands_final ids None nexts.Done hands = hands
+hands_final ids (Some handed) (nexts.On id (Part (parts.Interim list))) hands =
+    λ i one. rw hands (λ same. cc)
+hands_final ids (Some handed) (nexts.On id (Part (parts.Head list end))) hands = hands
+hands_final ids (Some handed) (nexts.On id (Part (parts.Body octets end))) hands = hands
+hands_final ids (Some handed) (nexts.On id (Part (parts.Trailers list))) hands = hands
+hands_final ids (Some handed) (nexts.On id (Dropped code)) hands = hands
+hands_final ids (Some handed) nexts.Again hands = hands
+hands_final ids (Some handed) nexts.Done hands = hands
+
+still_done : (next : CameNext) → without_interim next ≡ nexts.Done → next ≡ nexts.Done
+still_done (nexts.On id (Part (parts.Interim list))) is = cc
+still_done (nexts.On id (Part (parts.Head list end))) is = is
+still_done (nexts.On id (Part (parts.Body octets end))) is = is
+still_done (nexts.On id (Part (parts.Trailers list))) is = is
+still_done (nexts.On id (Dropped code)) is = is
+still_done nexts.Again is = is
+still_done nexts.Done is = is
+
+pub came_final : (old new : End) (ids piece : List ℕ) (taken : CameTaken)
+    → TakesCameOnce old new ids piece (Ok taken)
+    → TakesCameOnce old new ids piece
+    (Ok (record { used = taken.used; next = without_interim taken.next }))
+unfolding TakesCameSo
+came_final old new ids piece taken takes values end represents =
+    let (after, now, so) = takes values end represents in (
+      after,
+      now,
+      (
+        so.0,
+        so.1,
+        hands_final ids so.0 taken.next so.2,
+        λ done. so.3 (still_done taken.next done),
+      ),
+    )
+
+-- What has come is no interim response.
+abbrev pub IsFinal : Came → Type 0
+IsFinal (Part (parts.Interim list)) = ⊥
+IsFinal came = Unit {0}
+
+pub is_final : (next : CameNext) (stream : ℕ) (came : Came)
+    → without_interim next ≡ nexts.On stream came → IsFinal came
+is_final (nexts.On id (Part (parts.Interim list))) stream came is = absurd (cc)
+is_final (nexts.On id (Part (parts.Head list end))) stream came is =
+    let same : Part (parts.Head list end) ≡ came = cc in subst IsFinal same tt
+is_final (nexts.On id (Part (parts.Body octets end))) stream came is =
+    let same : Part (parts.Body octets end) ≡ came = cc in subst IsFinal same tt
+is_final (nexts.On id (Part (parts.Trailers list))) stream came is =
+    let same : Part (parts.Trailers list) ≡ came = cc in subst IsFinal same tt
+is_final (nexts.On id (Dropped code)) stream came is =
+    let same : Dropped code ≡ came = cc in subst IsFinal same tt
+is_final nexts.Again stream came is = absurd (cc)
+is_final nexts.Done stream came is = absurd (cc)
+
 -- What was handed out last adds to its stream what has come there,
 pub handed_came : (i id : ℕ) (came : Came) (handed : Handed) (before : List Handed)
-    → IsAsCame id came handed
+    → IsFinal came → IsAsCame id came handed
     → all_on i (handed ∷ before) ≡ all_on i before ++ came_on id came i
 unfolding all_on
-handed_came i id (Part (parts.Interim list)) handed before is = rw is refl
-handed_came i id (Part (parts.Head list end)) handed before is = rw is refl
-handed_came i id (Part (parts.Body octets end)) handed before is = rw is refl
-handed_came i id (Part (parts.Trailers list)) handed before is = rw is refl
-handed_came i id (Dropped code) handed before (inl reset) = rw reset.1 refl
-handed_came i id (Dropped code) handed before (inr left) = rw (left.1, left.0) refl
+handed_came i id (Part (parts.Interim list)) handed before final is = absurd final
+handed_came i id (Part (parts.Head list end)) handed before final is = rw is refl
+handed_came i id (Part (parts.Body octets end)) handed before final is = rw is refl
+handed_came i id (Part (parts.Trailers list)) handed before final is = rw is refl
+handed_came i id (Dropped code) handed before final (inl reset) = rw reset.1 refl
+handed_came i id (Dropped code) handed before final (inr left) = rw (left.1, left.0) refl
 
 -- and nothing to one where nothing has.
 off_by : (i id : ℕ) → Some id ≢ Some i → (id == i) ≡ false
 off_by i id other = ne_eqb id i (λ same. other (ap Some same))
 
 off_stream : (i : ℕ) (handed : Handed) → stream_of_handed handed ≢ Some i → as_on i handed ≡ []
-off_stream i (InterimHanded id list) other = rw (off_by i id other) refl
+off_stream i (InterimHanded id list) other = refl
 off_stream i (HeadHanded id list end) other = rw (off_by i id other) refl
 off_stream i (BodyHanded id octets end) other = rw (off_by i id other) refl
 off_stream i (TrailersHanded id list) other = rw (off_by i id other) refl

@@ -1,6 +1,5 @@
 -- What a client that has made requests sends over a link, whatever has happened at it.
 use Rattle.std.specs.Prelude.{◌≡◌, ◌≢◌, ◌⊎◌, ◌<◌, List, ℕ, length, None, Result, Ok, Err, OnOk}
-use Rattle.h2_spec_log.specs.declared.refusal.Refusal.{Refusal}
 use Rattle.h2_spec_log.specs.declared.refusal.Refusal.TheVariants.{OutputFull}
 use Rattle.h2_spec_log.specs.Acts.{Values, Answer, Done, Refused, IsTypedAct, Release}
 use Rattle.h2_spec_log.specs.Log.{owed}

@@ -18,6 +18,7 @@ use Rattle.h2_engines.specs.ServerSteps.{ErrsServing}
 use Rattle.h2_fetch.specs.declared.coming.CameNext.{CameNext}
 use Rattle.h2_fetch.specs.declared.coming.CameNext.TheVariants as nexts
 use Rattle.h2_fetch.specs.declared.coming.CameTaken.{CameTaken}
+use Rattle.h2_fetch.specs.declared.part.ResponsePart.TheVariants as parts
 use Rattle.h2_fetch.specs.declared.several.Came.{Came}
 use Rattle.h2_fetch.specs.declared.several.Came.TheVariants.{Part, Dropped}
 use Rattle.h2_fetch.specs.Parts.{handed_of}
@@ -47,6 +48,11 @@ HandsCame ids None (nexts.On id came) = ⊥
 HandsCame ids None next = Unit {0}
 HandsCame ids (Some handed) (nexts.On id came) = IsAsCame id came handed
 HandsCame ids (Some handed) next = (i : ℕ) → Contains ids i → stream_of_handed handed ≢ Some i
+
+-- what comes of octets, but for an interim response, which is dropped
+abbrev pub without_interim : CameNext → CameNext
+without_interim (nexts.On id (Part (parts.Interim list))) = nexts.Again
+without_interim next = next
 
 -- what came of the octets that were handed to it: something on one of these streams, nothing with
 -- some octets left, or nothing and all of them used

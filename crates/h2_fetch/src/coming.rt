@@ -4,9 +4,10 @@ ghost use Rattle.std.specs.Prelude.{◌≡◌, ◌≢◌, ◌≤◌, IfErr, IfOk
 ghost use Rattle.h2_ends.specs.Loans.{event_handed};
 ghost use Rattle.h2_engines.specs.Failures.{IsOfClient};
 ghost use Rattle.h2_fetch.specs.SeveralTakes.{HandsCame, TakesCameOnce, stream_of_handed};
+ghost use Rattle.h2_fetch.specs.SeveralTakes.{without_interim};
 
 use crate::errors::unless_failed;
-use crate::part::part_of;
+use crate::part::{ResponsePart, part_of};
 use crate::several::Came;
 use h2_ends::{Client, Code, EndEvent, FieldList};
 use h2_link::LinkError;
@@ -60,6 +61,16 @@ pub(crate) fn take_came(
             let next = came_of(alloc, ids, event)?;
             Ok(CameTaken { used, next })
         }
+    }
+}
+
+/// What comes of octets, but for an interim response, which is dropped.
+pub(crate) fn without_interim(next: CameNext) -> CameNext
+    ensures { result ≡ without_interim next }
+{
+    match next {
+        CameNext::On(_, Came::Part(ResponsePart::Interim { .. })) => CameNext::Again,
+        next => next,
     }
 }
 

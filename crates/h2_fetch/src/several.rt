@@ -7,7 +7,7 @@ ghost use Rattle.h2_engines.specs.Failures.{CutsOffAtEnd, IsOfClient, failures_a
 ghost use Rattle.h2_engines.specs.Linked.{traffic};
 
 use crate::asking::request_next;
-use crate::coming::{CameNext, take_came};
+use crate::coming::{CameNext, take_came, without_interim};
 use crate::kept::{keep, take_kept};
 use crate::part::ResponsePart;
 use crate::reading::read_piece;
@@ -111,9 +111,9 @@ impl SeveralFetch {
     // contract: engines (own) Responses of several requests are what is handed out, each in order
     // rule: engines (own) Responses of several requests are what is handed out, each in order
     /// The next part of the response on a stream of its requests. Where none is there, what is owed
-    /// on that stream is released, what waits is written, and then the link is read. Nothing is to be asked
-    /// for after the part with which the response is whole, or after [`Came::Dropped`]. A link that
-    /// has failed isn't used any more.
+    /// on that stream is released, what waits is written, and then the link is read. Nothing is to
+    /// be asked for after the part with which the response is whole, or after [`Came::Dropped`]. A
+    /// link that has failed isn't used any more.
     ///
     /// # Errors
     ///
@@ -170,7 +170,7 @@ impl SeveralFetch {
             let piece = &self.input[self.used..];
             let taken = take_came(self.alloc, &mut self.client, &self.ids, piece)?;
             self.used += taken.used;
-            match taken.next {
+            match without_interim(taken.next) {
                 CameNext::On(stream, came) => {
                     if stream == id {
                         return Ok(Some(came));
