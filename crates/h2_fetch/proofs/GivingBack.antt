@@ -1,7 +1,6 @@
 -- What giving credit back leaves, on all streams or on one, and what is sent after it.
 use Rattle.h2_engines.proofs.Names
-use Names.{◌≡◌, ◌≢◌, ◌⊎◌, ◌≤◌, ◌<◌, ◌^◌, ℕ, true, false, length, Option, Some, None, Result, Ok}
-use Names.{Err}
+use Names.{◌≡◌, ◌≢◌, ◌⊎◌, ◌≤◌, ◌<◌, ◌^◌, ℕ, true, false, length, Option, None, Result, Ok, Err}
 use Names.{refl, sym, ap, ◌∙◌, subst, inl, inr, arith, cases_Bool, if◌then◌else◌, Bool, Code}
 use Names.{Values}
 use Names.{Answer, Release, Log, log_view, active, owed_inactive, with_call, IsTypedAct}
@@ -56,21 +55,21 @@ owes_as old id count reads values end represents up =
       | inr over ↦ ap on over ∙ sym (owed_inactive log id over)
     ]
 
--- Where something is read, the connection is up,
-up_if_owes : (failed : Option Code) (count rest : ℕ) → count ≡ (if is_some failed then 0 else rest)
-    → count ≢ 0 → failed ≡ None
-up_if_owes None count rest reads some = refl
-up_if_owes (Some code) count rest reads some = absurd (some reads)
+-- Where nothing is, no call is made;
+pub gives_none : (old : End) (id count : ℕ) → ReadsOwed old id count → count ≡ 0
+    → GivesBack (On id) old old (Ok tt)
+gives_none old id count reads none values end represents up =
+    let owes = owes_as old id count reads values end represents up in
+    (end, owes_none (sym owes ∙ none) refl refl, represents)
 
--- and all of it is released by one call.
+-- else all of it is released by one call.
 pub gives_some : (old new : End) (id count : ℕ) (result : Result (Unit {0}) EndRefusal)
     (answer : Answer) → ReadsOwed old id count → count ≢ 0 → id < 2 ^ 32 → count < 2 ^ 32
     → EndAnswers old (Release id count) answer new → released_by result answer
     → GivesBack (On id) old new result
 unfolding IsTypedAct
-gives_some old new id count result answer reads some small few answers by values end represents =
-    let up = up_if_owes end.log.failed count _ (reads values end.log represents.streams.conn) some
-    in
+gives_some old new id count result answer reads some small few answers by values end represents
+    up =
     let owes = owes_as old id count reads values end represents up in
     let typed = subst (λ (n : ℕ). IsTypedAct (Release id n)) owes (small, few) in
     let both = subst (λ (n : ℕ). EndAnswers old (Release id n) answer new) owes answers values end
@@ -261,7 +260,7 @@ module _ (credit : Credit) (old : End) (failed : Option Code) (reads : ReadsFail
       → PumpsSome middle new result → SendsCredit credit old new result
   sends_so middle new answer result gives all pumped values end represents =
       let up = end_up old failed reads none (unlinked values no_message) end represents in
-      let (first, may, now) = gives values end represents in
+      let (first, may, now) = gives values end represents up in
       let second = pumped.1 values first now in (
         second.0,
         second.2,
@@ -280,7 +279,7 @@ module _ (credit : Credit) (old : End) (failed : Option Code) (reads : ReadsFail
   not_given new answer (Err error) some other ok (refused, refusal, same, made, ends) gives values
       end represents =
       let up = end_up old failed reads none (unlinked values no_message) end represents in
-      let (after, may, now) = gives values end represents in
+      let (after, may, now) = gives values end represents up in
       let memory = given_memory credit end refused after error up (rw same at may)
       (λ is. other (same ∙ ap Err is)) (ends ∙ ap error_after made) in
       (after, now, gives_none_back answer error memory up may)

@@ -64,7 +64,7 @@ MayGiveBack (On id) end result after = ReleasesOn end id result after
 
 abbrev pub GivesBack : Credit → (old new : End) → Result (Unit {0}) EndRefusal → Type 0
 GivesBack credit old new result =
-    (values : Values) (end : EndLog) → EndRepresents values old end
+    (values : Values) (end : EndLog) → EndRepresents values old end → end.log.failed ≡ None
     → (after : EndLog) × MayGiveBack credit end result after × EndRepresents values new after
 
 -- What a client has sent: while the connection is up this credit was given back, and what could be

@@ -1,9 +1,14 @@
 -- By the lemmas on credit that is given back on one stream.
 use Rattle.h2_engines.proofs.Names.{Err, Refused, Done, refl, rules, err_from_is_err_and}
-use Rattle.h2_fetch.proofs.GivingBack.{gives_some}
+use Rattle.h2_fetch.proofs.GivingBack.{gives_none, gives_some}
 use Rattle.h2_ends.specs.declared.refusal.EndRefusal.TheVariants as refusals
 use Rattle.std.proofs.Common.{Ok}
 use Rattle.h2_fetch.proofs.sending.give_back.Goals as goal
+
+pub returns-then-owed-eq0 : goal.returns-then-owed-eq0
+returns-then-owed-eq0 c =
+    rw c.in-On.is (gives_none c.args.client.now.end c.in-On.id c.owed-owed.result
+    (rw c.conn.ensures at c.owed-owed.ensures) c.if-owed-eq0.true)
 
 pub returns-in_err-release-in-On : goal.returns-in_err-release-in-On
 returns-in_err-release-in-On c =
