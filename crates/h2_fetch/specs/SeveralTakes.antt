@@ -49,10 +49,14 @@ HandsCame ids None next = Unit {0}
 HandsCame ids (Some handed) (nexts.On id came) = IsAsCame id came handed
 HandsCame ids (Some handed) next = (i : ℕ) → Contains ids i → stream_of_handed handed ≢ Some i
 
--- what comes of octets, but for an interim response, which is dropped
-abbrev pub without_interim : CameNext → CameNext
-without_interim (nexts.On id (Part (parts.Interim list))) = nexts.Again
-without_interim next = next
+-- what comes of octets, but for an interim response and for a part of a body without octets that
+-- ends nothing, which are dropped: no window bounds how many come
+abbrev pub without_empty : CameNext → CameNext
+without_empty (nexts.On id (Part (parts.Interim list))) = nexts.Again
+without_empty (nexts.On id (Part (parts.Body octets false))) =
+    if length octets.items == 0 then nexts.Again
+    else nexts.On id (Part (parts.Body octets false))
+without_empty next = next
 
 -- what came of the octets that were handed to it: something on one of these streams, nothing with
 -- some octets left, or nothing and all of them used

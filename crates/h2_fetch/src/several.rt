@@ -7,7 +7,7 @@ ghost use Rattle.h2_engines.specs.Failures.{CutsOffAtEnd, IsOfClient, failures_a
 ghost use Rattle.h2_engines.specs.Linked.{traffic};
 
 use crate::asking::request_next;
-use crate::coming::{CameNext, take_came, without_interim};
+use crate::coming::{CameNext, take_came, without_empty};
 use crate::kept::{keep, take_kept};
 use crate::part::ResponsePart;
 use crate::reading::read_piece;
@@ -30,7 +30,8 @@ pub enum Came {
 /// A client that makes several requests at once over a link, and answers the response of each part
 /// by part, of whichever stream is asked for. What comes of the others meanwhile is kept until it
 /// is asked for: no more of a body than a stream's window, since that is opened again only for the
-/// stream that is asked for. Interim responses are dropped.
+/// stream that is asked for. Interim responses and parts of a body without octets, which no window
+/// bounds, are dropped.
 ///
 /// The connection's window is 65,535 octets, and what is kept takes its part of that. So with `n`
 /// requests, the windows of streams ([`Config::initial_window`]) are to be 65,535 / `n` octets at
@@ -170,7 +171,7 @@ impl SeveralFetch {
             let piece = &self.input[self.used..];
             let taken = take_came(self.alloc, &mut self.client, &self.ids, piece)?;
             self.used += taken.used;
-            match without_interim(taken.next) {
+            match without_empty(taken.next) {
                 CameNext::On(stream, came) => {
                     if stream == id {
                         return Ok(Some(came));
