@@ -1,5 +1,6 @@
 -- What a call of `take` has made of a client that makes several requests.
-use Rattle.std.specs.Prelude.{◌≡◌, ◌≢◌, ◌⊎◌, ℕ, Bool, List, length, Option, Some, None, Result}
+use Rattle.std.specs.Prelude.{◌≡◌, ◌≢◌, ◌⊎◌, ◌==◌, ℕ, Bool, true, false, List, length, Option}
+use Rattle.std.specs.Prelude.{Some, None, Result, if◌then◌else◌}
 use Rattle.std.specs.Prelude.{Ok, Err}
 use Rattle.std.specs.List.{Contains}
 use Rattle.h2_spec_log.specs.Acts.{Values}
@@ -49,14 +50,16 @@ HandsCame ids None next = Unit {0}
 HandsCame ids (Some handed) (nexts.On id came) = IsAsCame id came handed
 HandsCame ids (Some handed) next = (i : ℕ) → Contains ids i → stream_of_handed handed ≢ Some i
 
--- what comes of octets, but for an interim response and for a part of a body without octets that
--- ends nothing, which are dropped: no window bounds how many come
+-- whether what has come says nothing: an interim response, or a part of a body without octets that
+-- ends nothing; no window bounds how many of them come
+abbrev pub says_nothing : CameNext → Bool
+says_nothing (nexts.On id (Part (parts.Interim list))) = true
+says_nothing (nexts.On id (Part (parts.Body octets false))) = length octets.items == 0
+says_nothing next = false
+
+-- what comes of octets, but for what says nothing, which is dropped
 abbrev pub without_empty : CameNext → CameNext
-without_empty (nexts.On id (Part (parts.Interim list))) = nexts.Again
-without_empty (nexts.On id (Part (parts.Body octets false))) =
-    if length octets.items == 0 then nexts.Again
-    else nexts.On id (Part (parts.Body octets false))
-without_empty next = next
+without_empty next = if says_nothing next then nexts.Again else next
 
 -- what came of the octets that were handed to it: something on one of these streams, nothing with
 -- some octets left, or nothing and all of them used

@@ -4,7 +4,7 @@ ghost use Rattle.std.specs.Prelude.{◌≡◌, ◌≢◌, ◌≤◌, IfErr, IfOk
 ghost use Rattle.h2_ends.specs.Loans.{event_handed};
 ghost use Rattle.h2_engines.specs.Failures.{IsOfClient};
 ghost use Rattle.h2_fetch.specs.SeveralTakes.{HandsCame, TakesCameOnce, stream_of_handed};
-ghost use Rattle.h2_fetch.specs.SeveralTakes.{without_empty};
+ghost use Rattle.h2_fetch.specs.SeveralTakes.{says_nothing, without_empty};
 
 use crate::errors::unless_failed;
 use crate::part::{ResponsePart, part_of};
@@ -64,19 +64,25 @@ pub(crate) fn take_came(
     }
 }
 
-/// What comes of octets, but for an interim response and for a part of a body without octets that
-/// ends nothing, which are dropped: no window bounds how many come.
+/// What comes of octets, but for what says nothing, which is dropped.
 pub(crate) fn without_empty(next: CameNext) -> CameNext
     ensures { result ≡ without_empty next }
 {
+    if says_nothing(&next) {
+        return CameNext::Again;
+    }
+    next
+}
+
+/// Whether what has come says nothing: an interim response, or a part of a body without octets that
+/// ends nothing. No window bounds how many of them come.
+fn says_nothing(next: &CameNext) -> bool
+    ensures { result ≡ says_nothing next.now }
+{
     match next {
-        CameNext::On(_, Came::Part(ResponsePart::Interim { .. })) => CameNext::Again,
-        CameNext::On(_, Came::Part(ResponsePart::Body { octets, end: false }))
-            if octets.is_empty() =>
-        {
-            CameNext::Again
-        }
-        next => next,
+        CameNext::On(_, Came::Part(ResponsePart::Interim { .. })) => true,
+        CameNext::On(_, Came::Part(ResponsePart::Body { octets, end: false })) => octets.is_empty(),
+        _ => false,
     }
 }
 
