@@ -1,11 +1,11 @@
 mod Beginning
 mod Comings
 mod Ending
-mod GivingBack
 mod KeptParts
 mod OwedCredit
 mod ReadPieces
 mod Refilling
+mod ReturningCredit
 mod SendingRounds
 mod SeveralAnswers
 mod SeveralBeginning

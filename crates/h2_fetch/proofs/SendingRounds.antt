@@ -9,7 +9,8 @@ use Rattle.h2_engines.proofs.ServeLinkLogs.{goes_links}
 use Rattle.h2_fetch.specs.Sends.{AllowsCredit, Asking, HasAsked, SendsCredit, SentOver}
 use Rattle.h2_fetch.specs.Sends.{StopsSending, WritesOver}
 use Rattle.h2_fetch.specs.declared.sending.Credit.{Credit}
-use Rattle.h2_fetch.proofs.GivingBack.{sent_asks, sent_error, sent_same, sent_stays, sent_turns}
+use Rattle.h2_fetch.proofs.ReturningCredit.{sent_asks, sent_error, sent_same}
+use Rattle.h2_fetch.proofs.ReturningCredit.{sent_stays, sent_turns}
 use Rattle.h2_link.specs.declared.error.LinkError.TheVariants as errors
 
 -- What ends writing ends sending so.
@@ -57,7 +58,7 @@ module _ {values : Values} {asking : Asking} {start now : Traffic} {before : End
     {old : End} (new : End) {unused : List ℕ} {rounds : ℕ} (credit : Credit)
     (allows : AllowsCredit credit asking)
     (on : IsSending values asking start now before old unused rounds) where
-  -- Credit is given back, and what waits is sent;
+  -- Credit is returned, and what waits is sent;
   pub waited : (result : Result (Unit {0}) LinkError) → SendsCredit credit old new result
       → IsSending values asking start now before new unused rounds
   waited result waits =

@@ -12,7 +12,7 @@ use Rattle.h2_fetch.specs.Several.{OnStream, all_on, as_on, AnsweredOn, AreComin
 use Rattle.h2_fetch.specs.Several.{kept_on, several_unused, answered_next, takes}
 use Rattle.h2_fetch.specs.SeveralComings.{TakesNoneMore, TakesUntilCame, TookCame, fails}
 use Rattle.h2_fetch.specs.SeveralComings.{lacks_memory, out_of_rounds}
-use Rattle.h2_fetch.specs.SeveralTakes.{TakesCameOnce, TakesCameSo}
+use Rattle.h2_fetch.specs.SeveralTakes.{TakesCameOnce, TakesCameSo, without_empty}
 use Rattle.h2_fetch.specs.declared.coming.CameNext.TheVariants as nexts
 use Rattle.h2_fetch.specs.declared.coming.CameTaken.{CameTaken}
 use Rattle.h2_fetch.specs.declared.several.Came.{Came}
@@ -44,7 +44,7 @@ module _ (old middle new : SeveralFetch) (id rounds : ℕ) (on : TakesCame old m
       (part : TakesCameOnce middle.client.end new.client.end middle.ids.items (piece_of middle)
       (Ok taken)) where
     -- Nothing has come: it goes on,
-    pub next_nothing : IsNothing taken.next → new.kept ≡ middle.kept
+    pub next_nothing : IsNothing (without_empty taken.next) → new.kept ≡ middle.kept
         → TakesCame old new id (rounds + 1)
     next_nothing nothing kept values start now asked end answered is none =
         let go = on values start now asked end answered is none in
@@ -57,7 +57,7 @@ module _ (old middle new : SeveralFetch) (id rounds : ℕ) (on : TakesCame old m
         }
 
     -- or all octets were used;
-    pub next_done : taken.next ≡ nexts.Done → new.kept ≡ middle.kept
+    pub next_done : without_empty taken.next ≡ nexts.Done → new.kept ≡ middle.kept
         → TakesUntilCame old new id (Ok None)
     unfolding TookCame
     next_done done kept values start now asked end answered is none =
@@ -71,8 +71,9 @@ module _ (old middle new : SeveralFetch) (id rounds : ℕ) (on : TakesCame old m
         )
 
     -- something has come on the stream,
-    pub next_came : (stream : ℕ) (came : Came) → taken.next ≡ nexts.On stream came
-        → IsFinal came → stream ≡ id → new.kept ≡ middle.kept
+    pub next_came : (stream : ℕ) (came : Came)
+        → without_empty taken.next ≡ nexts.On stream came
+        → IsFinal stream came → stream ≡ id → new.kept ≡ middle.kept
         → TakesUntilCame old new id (Ok (Some came))
     unfolding TookCame CameSo
     next_came stream came next final same kept values start now asked end answered is none =
@@ -87,8 +88,8 @@ module _ (old middle new : SeveralFetch) (id rounds : ℕ) (on : TakesCame old m
               (came_dropped new go.coming took ids stream came next final code dropped),
         )
 
-    module _ (stream : ℕ) (came : Came) (next : taken.next ≡ nexts.On stream came)
-        (final : IsFinal came) (other : stream ≢ id) where
+    module _ (stream : ℕ) (came : Came) (next : without_empty taken.next ≡ nexts.On stream came)
+        (final : IsFinal stream came) (other : stream ≢ id) where
       -- or on another: that is kept,
       pub next_kept : new.kept.items ≡ middle.kept.items ++ (stream, came) ∷ []
           → TakesCame old new id (rounds + 1)

@@ -1,21 +1,20 @@
 -- What a client that makes several requests makes of octets, by what `take` has answered.
 use Rattle.h2_engines.proofs.Names
-use Names.{◌≡◌, ◌≢◌, ℕ, false, [], List, ◌∷◌, ◌++◌, length, Option, Some, None, Ok, Err, refl, ap}
-use Names.{◌∙◌, append-nil, inl, inr, Contains, End, EndLog, EndTook, EndFailed, Handed, EndTaken}
-use Names.{EndTakes, LentPart, LinkError, ConnFault, event_handed, error_with, later_in}
+use Names.{◌≡◌, ◌≢◌, ℕ, true, false, [], List, ◌∷◌, ◌++◌, length, Option, Some, None, Ok, Err}
+use Names.{refl, ap, ◌∙◌, append-nil, inl, inr, Contains, End, EndLog, EndTook, EndFailed, Handed}
+use Names.{EndTaken, EndTakes, LentPart, LinkError, ConnFault, event_handed, error_with, later_in}
 use Names.{EndAnswer, InterimHanded, HeadHanded, BodyHanded, TrailersHanded, Passed, ne_eqb, ◌==◌}
-use Names.{subst}
+use Names.{subst, arith, cases_Bool, eqb-true, if◌then◌else◌}
 use Rattle.h2_spec_log.specs.Events.{ResetEvent, UnprocessedEvent}
 use Rattle.h2_engines.specs.Fetches.{WasDropped}
 use Rattle.h2_engines.specs.ServerSteps.{ErrsServing}
 use Rattle.h2_engines.proofs.TakeMessages.{handed_after}
 use Rattle.h2_fetch.specs.Kept.{came_on}
-use Rattle.h2_fetch.specs.Several.{AreDropped, OnStream, all_on, as_on}
+use Rattle.h2_fetch.specs.Several.{AreDropped, OnStream, PartOn, all_on, as_on}
 use Rattle.h2_fetch.specs.SeveralTakes.{HandsCame, IsAsCame, TakesCameOnce, TakesCameSo}
-use Rattle.h2_fetch.specs.SeveralTakes.{stream_of_handed, without_interim}
+use Rattle.h2_fetch.specs.SeveralTakes.{says_nothing, stream_of_handed, without_empty}
 use Rattle.h2_fetch.specs.declared.coming.CameNext.{CameNext}
 use Rattle.h2_fetch.specs.declared.coming.CameNext.TheVariants as nexts
-use Rattle.h2_fetch.specs.declared.coming.CameTaken.{CameTaken}
 use Rattle.h2_fetch.specs.declared.part.ResponsePart.TheVariants as parts
 use Rattle.h2_fetch.specs.declared.several.Came.{Came}
 use Rattle.h2_fetch.specs.declared.several.Came.TheVariants.{Part, Dropped}
@@ -69,100 +68,124 @@ came_fault old new ids piece fault is takes values end represents =
     let (after, may, now) = takes values end represents in
     (after, now, (EndFailed fault.code, may, is))
 
--- Interim responses are dropped: what is left has come on its stream, or nothing has.
-hands_final : (ids : List ℕ) (handed : Option Handed) (next : CameNext)
-    → HandsCame ids handed next → HandsCame ids handed (without_interim next)
-hands_final ids None (nexts.On id came) hands = absurd hands
-hands_final ids None nexts.Again hands = hands
-hands_final ids None nexts.Done hands = hands
-hands_final ids (Some handed) (nexts.On id (Part (parts.Interim list))) hands =
-    λ i one. rw hands (λ same. cc)
-hands_final ids (Some handed) (nexts.On id (Part (parts.Head list end))) hands = hands
-hands_final ids (Some handed) (nexts.On id (Part (parts.Body octets end))) hands = hands
-hands_final ids (Some handed) (nexts.On id (Part (parts.Trailers list))) hands = hands
-hands_final ids (Some handed) (nexts.On id (Dropped code)) hands = hands
-hands_final ids (Some handed) nexts.Again hands = hands
-hands_final ids (Some handed) nexts.Done hands = hands
-
-still_done : (next : CameNext) → without_interim next ≡ nexts.Done → next ≡ nexts.Done
-still_done (nexts.On id (Part (parts.Interim list))) is = cc
-still_done (nexts.On id (Part (parts.Head list end))) is = is
-still_done (nexts.On id (Part (parts.Body octets end))) is = is
-still_done (nexts.On id (Part (parts.Trailers list))) is = is
-still_done (nexts.On id (Dropped code)) is = is
-still_done nexts.Again is = is
-still_done nexts.Done is = is
-
-pub came_final : (old new : End) (ids piece : List ℕ) (taken : CameTaken)
-    → TakesCameOnce old new ids piece (Ok taken)
-    → TakesCameOnce old new ids piece
-    (Ok (record { used = taken.used; next = without_interim taken.next }))
-unfolding TakesCameSo
-came_final old new ids piece taken takes values end represents =
-    let (after, now, so) = takes values end represents in (
-      after,
-      now,
-      (
-        so.0,
-        so.1,
-        hands_final ids so.0 taken.next so.2,
-        λ done. so.3 (still_done taken.next done),
-      ),
-    )
-
--- What has come is no interim response.
-abbrev pub IsFinal : Came → Type 0
-IsFinal (Part (parts.Interim list)) = ⊥
-IsFinal came = Unit {0}
-
-pub is_final : (next : CameNext) (stream : ℕ) (came : Came)
-    → without_interim next ≡ nexts.On stream came → IsFinal came
-is_final (nexts.On id (Part (parts.Interim list))) stream came is = absurd (cc)
-is_final (nexts.On id (Part (parts.Head list end))) stream came is =
-    let same : Part (parts.Head list end) ≡ came = cc in subst IsFinal same tt
-is_final (nexts.On id (Part (parts.Body octets end))) stream came is =
-    let same : Part (parts.Body octets end) ≡ came = cc in subst IsFinal same tt
-is_final (nexts.On id (Part (parts.Trailers list))) stream came is =
-    let same : Part (parts.Trailers list) ≡ came = cc in subst IsFinal same tt
-is_final (nexts.On id (Dropped code)) stream came is =
-    let same : Dropped code ≡ came = cc in subst IsFinal same tt
-is_final nexts.Again stream came is = absurd (cc)
-is_final nexts.Done stream came is = absurd (cc)
-
--- What was handed out last adds to its stream what has come there,
-pub handed_came : (i id : ℕ) (came : Came) (handed : Handed) (before : List Handed)
-    → IsFinal came → IsAsCame id came handed
-    → all_on i (handed ∷ before) ≡ all_on i before ++ came_on id came i
-unfolding all_on
-handed_came i id (Part (parts.Interim list)) handed before final is = absurd final
-handed_came i id (Part (parts.Head list end)) handed before final is = rw is refl
-handed_came i id (Part (parts.Body octets end)) handed before final is = rw is refl
-handed_came i id (Part (parts.Trailers list)) handed before final is = rw is refl
-handed_came i id (Dropped code) handed before final (inl reset) = rw reset.1 refl
-handed_came i id (Dropped code) handed before final (inr left) = rw (left.1, left.0) refl
-
--- and nothing to one where nothing has.
+-- What was handed out adds nothing to a stream where nothing has come,
 off_by : (i id : ℕ) → Some id ≢ Some i → (id == i) ≡ false
 off_by i id other = ne_eqb id i (λ same. other (ap Some same))
 
 off_stream : (i : ℕ) (handed : Handed) → stream_of_handed handed ≢ Some i → as_on i handed ≡ []
 off_stream i (InterimHanded id list) other = refl
 off_stream i (HeadHanded id list end) other = rw (off_by i id other) refl
-off_stream i (BodyHanded id octets end) other = rw (off_by i id other) refl
+off_stream i (BodyHanded id [] false) other = refl
+off_stream i (BodyHanded id [] true) other = rw (off_by i id other) refl
+off_stream i (BodyHanded id (octet ∷ octets) end) other = rw (off_by i id other) refl
 off_stream i (TrailersHanded id list) other = rw (off_by i id other) refl
 off_stream i (Passed (ResetEvent id code ours)) other = rw (off_by i id other) refl
 off_stream i (Passed (UnprocessedEvent id)) other = rw (off_by i id other) refl
 off_stream i (Passed event) other = refl
 
-handed_off : (i : ℕ) (handed : Handed) (before : List Handed) → stream_of_handed handed ≢ Some i
+-- and an empty part of a body that ends nothing adds nothing to any; another part adds itself.
+empty_on : (i id : ℕ) (octets : List ℕ) → (length octets == 0) ≡ true
+    → as_on i (BodyHanded id octets false) ≡ []
+empty_on i id [] none = refl
+empty_on i id (octet ∷ octets) none =
+    absurd (omega (arith, eqb-true (length (octet ∷ octets)) 0 none))
+
+body_on : (i id : ℕ) (octets : List ℕ) → (length octets == 0) ≡ false
+    → as_on i (BodyHanded id octets false)
+    ≡ (if id == i then PartOn (BodyHanded id octets false) ∷ [] else [])
+body_on i id [] some = absurd (cc)
+body_on i id (octet ∷ octets) some = refl
+
+last_on : (i id : ℕ) (octets : List ℕ)
+    → as_on i (BodyHanded id octets true)
+    ≡ (if id == i then PartOn (BodyHanded id octets true) ∷ [] else [])
+last_on i id [] = refl
+last_on i id (octet ∷ octets) = refl
+
+-- What was handed out is what has come on a stream, or adds nothing to any of these.
+abbrev pub AddsCame : (ids : List ℕ) → Option Handed → CameNext → Type 0
+AddsCame ids None (nexts.On id came) = ⊥
+AddsCame ids None next = Unit {0}
+AddsCame ids (Some handed) (nexts.On id came) = IsAsCame id came handed
+AddsCame ids (Some handed) next = (i : ℕ) → Contains ids i → as_on i handed ≡ []
+
+adds_same : (ids : List ℕ) (handed : Option Handed) (next : CameNext)
+    → HandsCame ids handed next → AddsCame ids handed next
+adds_same ids None (nexts.On id came) hands = absurd hands
+adds_same ids None nexts.Again hands = tt
+adds_same ids None nexts.Done hands = tt
+adds_same ids (Some handed) (nexts.On id came) hands = hands
+adds_same ids (Some handed) nexts.Again hands = λ i one. off_stream i handed (hands i one)
+adds_same ids (Some handed) nexts.Done hands = λ i one. off_stream i handed (hands i one)
+
+-- What says nothing adds nothing: it is dropped.
+adds_nothing : (ids : List ℕ) (handed : Option Handed) (next : CameNext)
+    → says_nothing next ≡ true → HandsCame ids handed next → AddsCame ids handed nexts.Again
+adds_nothing ids None next says hands = tt
+adds_nothing ids (Some handed) (nexts.On id (Part (parts.Interim list))) says hands =
+    λ i one. rw hands refl
+adds_nothing ids (Some handed) (nexts.On id (Part (parts.Body octets false))) says hands =
+    λ i one. rw hands (empty_on i id octets.items says)
+adds_nothing ids (Some handed) (nexts.On id (Part (parts.Body octets true))) says hands =
+    absurd (cc)
+adds_nothing ids (Some handed) (nexts.On id (Part (parts.Head list end))) says hands = absurd (cc)
+adds_nothing ids (Some handed) (nexts.On id (Part (parts.Trailers list))) says hands = absurd (cc)
+adds_nothing ids (Some handed) (nexts.On id (Dropped code)) says hands = absurd (cc)
+adds_nothing ids (Some handed) nexts.Again says hands = absurd (cc)
+adds_nothing ids (Some handed) nexts.Done says hands = absurd (cc)
+
+pub adds_came : (ids : List ℕ) (handed : Option Handed) (next : CameNext)
+    → HandsCame ids handed next → AddsCame ids handed (without_empty next)
+adds_came ids handed next hands = elim (cases_Bool (says_nothing next)) [
+  | inl says ↦ rw says (adds_nothing ids handed next says hands)
+  | inr some ↦ rw some (adds_same ids handed next hands)
+]
+
+pub still_done : (next : CameNext) → without_empty next ≡ nexts.Done → next ≡ nexts.Done
+still_done next is = elim (cases_Bool (says_nothing next)) [
+  | inl says ↦ let other : nexts.Again ≡ nexts.Done = rw says at is in absurd (cc)
+  | inr some ↦ rw some at is
+]
+
+-- What has come says something.
+abbrev pub IsFinal : ℕ → Came → Type 0
+IsFinal id came = says_nothing (nexts.On id came) ≡ false
+
+pub is_final : (next : CameNext) (stream : ℕ) (came : Came)
+    → without_empty next ≡ nexts.On stream came → IsFinal stream came
+is_final next stream came is = elim (cases_Bool (says_nothing next)) [
+  | inl says ↦ let other : nexts.Again ≡ nexts.On stream came = rw says at is in absurd (cc)
+  | inr some ↦
+      let same : next ≡ nexts.On stream came = rw some at is in
+      subst (λ (one : CameNext). says_nothing one ≡ false) same some
+]
+
+-- What was handed out last adds to its stream what has come there,
+pub handed_came : (i id : ℕ) (came : Came) (handed : Handed) (before : List Handed)
+    → IsFinal id came → IsAsCame id came handed
+    → all_on i (handed ∷ before) ≡ all_on i before ++ came_on id came i
+unfolding all_on
+handed_came i id (Part (parts.Interim list)) handed before final is = absurd (cc)
+handed_came i id (Part (parts.Head list end)) handed before final is = rw is refl
+handed_came i id (Part (parts.Body octets false)) handed before final is =
+    rw is (ap (λ (last : List OnStream). all_on i before ++ last)
+    (body_on i id octets.items final))
+handed_came i id (Part (parts.Body octets true)) handed before final is =
+    rw is (ap (λ (last : List OnStream). all_on i before ++ last) (last_on i id octets.items))
+handed_came i id (Part (parts.Trailers list)) handed before final is = rw is refl
+handed_came i id (Dropped code) handed before final (inl reset) = rw reset.1 refl
+handed_came i id (Dropped code) handed before final (inr left) = rw (left.1, left.0) refl
+
+-- and nothing to one where nothing has.
+handed_off : (i : ℕ) (handed : Handed) (before : List Handed) → as_on i handed ≡ []
     → all_on i (handed ∷ before) ≡ all_on i before
 unfolding all_on
 handed_off i handed before off =
-    ap (λ (last : List OnStream). all_on i before ++ last) (off_stream i handed off)
+    ap (λ (last : List OnStream). all_on i before ++ last) off
     ∙ append-nil (all_on i before)
 
 pub nothing_came : (ids : List ℕ) (next : CameNext) (count : ℕ) (handed : Option Handed)
-    (before : List Handed) {after : List Handed} → IsNothing next → HandsCame ids handed next
+    (before : List Handed) {after : List Handed} → IsNothing next → AddsCame ids handed next
     → after ≡ handed_after (EndTook count handed) before → (i : ℕ) → Contains ids i
     → all_on i after ≡ all_on i before
 nothing_came ids next count None before nothing hands same i one = ap (all_on i) same
@@ -176,7 +199,7 @@ nothing_came ids nexts.Done count (Some handed) before nothing hands same i one 
 -- Where something has come on a stream, it was handed out.
 pub something_came : (ids : List ℕ) (id : ℕ) (came : Came) {next : CameNext} (count : ℕ)
     (handed : Option Handed) (before : List Handed) {after : List Handed}
-    → next ≡ nexts.On id came → HandsCame ids handed next
+    → next ≡ nexts.On id came → AddsCame ids handed next
     → after ≡ handed_after (EndTook count handed) before
     → (one : Handed) × IsAsCame id came one × (after ≡ one ∷ before)
 something_came ids id came count None before is hands same = absurd (rw is at hands)

@@ -185,7 +185,7 @@ impl SeveralFetch {
         Err(LinkError::NoProgress)
     }
 
-    /// Gives back what is owed on a stream, sends what could go, and reads a piece.
+    /// Returns what is owed on a stream, sends what could go, and reads a piece.
     fn refill<L: Link>(&mut self, id: u32, link: &mut L) -> Result<(), LinkError>
         requires { L.faults link.old < 2 ^ 64 - 1 }
         ensures fills { FillsSeveral

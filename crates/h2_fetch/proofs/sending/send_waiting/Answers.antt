@@ -1,6 +1,6 @@
 -- By the lemmas on what is sent before output is put out.
 use Rattle.h2_engines.proofs.Names.{◌≡◌, ◌≢◌, ◌⊎◌, Ok, Err, rules, sym, ◌∙◌, inl, inr}
-use Rattle.h2_fetch.proofs.GivingBack.{failed_sends, not_given, sends_so}
+use Rattle.h2_fetch.proofs.ReturningCredit.{failed_sends, not_returned, sends_so}
 use Rattle.h2_fetch.proofs.sending.send_waiting.Goals.{in-Ok-1, in-Err+in-Conn+in-OutputFull-1}
 use Rattle.h2_spec_log.specs.declared.refusal.Refusal.TheVariants as reasons
 use Rattle.h2_ends.specs.declared.refusal.EndRefusal.TheVariants as refusals
@@ -14,23 +14,24 @@ returns-then-is_some-clause-sends c =
 
 pub returns-in_default-clause-sends : goal.returns-in_default-clause-sends
 returns-in_default-clause-sends c =
-    let some : c.give_back-released.result ≢ Ok tt = search rules in
-    let other : c.give_back-released.result ≢ Err (refusals.Conn reasons.OutputFull) =
+    let some : c.return_credit-released.result ≢ Ok tt = search rules in
+    let other : c.return_credit-released.result ≢ Err (refusals.Conn reasons.OutputFull) =
     search rules in
-    not_given c.args.credit c.args.client.now.end c.failed.result
+    not_returned c.args.credit c.args.client.now.end c.failed.result
     (rw c.conn.ensures at c.failed.ensures) (sym c.is_some.ensures ∙ c.if-is_some.false)
-    c.give_back-released.new.client.end c.give_back-released.result c.unless_refused.result some
-    other c.unless_refused.ensures.ok c.unless_refused.ensures.err c.give_back-released.ensures
+    c.return_credit-released.new.client.end c.return_credit-released.result
+    c.unless_refused.result some other c.unless_refused.ensures.ok c.unless_refused.ensures.err
+    c.return_credit-released.ensures
 
 pub returns-in-Ok-clause-sends : goal.returns-in-Ok-clause-sends
 returns-in-Ok-clause-sends c =
-    let all : (c.give_back-released.result ≡ Ok tt)
-    ⊎ (c.give_back-released.result ≡ Err (refusals.Conn reasons.OutputFull)) =
+    let all : (c.return_credit-released.result ≡ Ok tt)
+    ⊎ (c.return_credit-released.result ≡ Err (refusals.Conn reasons.OutputFull)) =
     elim c.in-Ok-1.branch [
       | in-Ok-1 w ↦ inl (search rules)
       | in-Err+in-Conn+in-OutputFull-1 w ↦ inr (search rules)
     ] in
     sends_so c.args.credit c.args.client.now.end c.failed.result
     (rw c.conn.ensures at c.failed.ensures) (sym c.is_some.ensures ∙ c.if-is_some.false)
-    c.give_back-released.new.client.end c.pump.new.client.end c.give_back-released.result
-    c.pump.result c.give_back-released.ensures all c.pump.ensures.pumps
+    c.return_credit-released.new.client.end c.pump.new.client.end c.return_credit-released.result
+    c.pump.result c.return_credit-released.ensures all c.pump.ensures.pumps

@@ -3,7 +3,7 @@ use Rattle.h2_engines.proofs.Names.{refl, sym, ◌∙◌, arith, ◌+◌, ◌≤
 use Rattle.std.proofs.Common.{length-drop}
 use Rattle.h2_fetch.proofs.SeveralRounds.{came_first, next_came, next_done, next_failed}
 use Rattle.h2_fetch.proofs.SeveralRounds.{next_kept, next_lost, next_nothing, next_out}
-use Rattle.h2_fetch.proofs.SeveralTaking.{came_final, is_final}
+use Rattle.h2_fetch.proofs.SeveralTaking.{is_final}
 use Rattle.h2_fetch.proofs.several.SeveralFetch.take_next.Goals as goal
 use goal.{in-Again, in-On+else-stream-id+in_ok-keep-in-On}
 
@@ -24,16 +24,16 @@ returns-in_err-taken-clause-takes c =
 pub returns-in-Done-clause-takes : goal.returns-in-Done-clause-takes
 returns-in-Done-clause-takes c =
     next_done c.args.self.now c.loop.self _ c.args.id c.loop.counter c.loop.invariant.takes refl
-    _ refl refl (came_final _ _ _ _ c.in_ok-taken.taken
-    (rw (c.deref.ensures.value, c.deref-in-loop.ensures.value) at c.in_ok-taken.ensures.takes))
-    (sym c.without_interim.ensures ∙ c.in-Done.is) refl
+    c.in_ok-taken.taken refl refl
+    (rw (c.deref.ensures.value, c.deref-in-loop.ensures.value) at c.in_ok-taken.ensures.takes)
+    (sym c.without_empty.ensures ∙ c.in-Done.is) refl
 
 pub returns-then-stream-id-clause-takes : goal.returns-then-stream-id-clause-takes
 returns-then-stream-id-clause-takes c =
-    let next = sym c.without_interim.ensures ∙ c.in-On.is in
+    let next = sym c.without_empty.ensures ∙ c.in-On.is in
     next_came c.args.self.now c.loop.self _ c.args.id c.loop.counter c.loop.invariant.takes refl
-    _ refl refl (came_final _ _ _ _ c.in_ok-taken.taken
-    (rw (c.deref.ensures.value, c.deref-in-loop.ensures.value) at c.in_ok-taken.ensures.takes))
+    c.in_ok-taken.taken refl refl
+    (rw (c.deref.ensures.value, c.deref-in-loop.ensures.value) at c.in_ok-taken.ensures.takes)
     c.in-On.stream c.in-On.came next
     (is_final c.in_ok-taken.taken.next c.in-On.stream c.in-On.came next) c.if-stream-id.true refl
 
@@ -47,17 +47,16 @@ loop-preserved c =
       c.deref.ensures.len,
       length-drop c.loop.self.used c.loop.self.input.items,
     ) in
-    elim c.match-without_interim.branch [
+    elim c.match-without_empty.branch [
       | in-On+else-stream-id+in_ok-keep-in-On w ↦
-          let next = sym c.without_interim.ensures ∙ w.in-On.is in
+          let next = sym c.without_empty.ensures ∙ w.in-On.is in
           rw w.self-is (record {
             within = within;
             streams = c.loop.invariant.streams;
             takes = next_kept c.args.self.now c.loop.self _ c.args.id c.loop.counter
-                c.loop.invariant.takes refl _ refl refl
-                (came_final _ _ _ _ c.in_ok-taken.taken
+                c.loop.invariant.takes refl c.in_ok-taken.taken refl refl
                 (rw (c.deref.ensures.value, c.deref-in-loop.ensures.value)
-                at c.in_ok-taken.ensures.takes))
+                at c.in_ok-taken.ensures.takes)
                 w.in-On.stream w.in-On.came next
                 (is_final c.in_ok-taken.taken.next w.in-On.stream w.in-On.came next)
                 w.if-stream-id.false w.in_ok-keep-in-On.ensures.ok;
@@ -66,11 +65,10 @@ loop-preserved c =
         within = within;
         streams = c.loop.invariant.streams;
         takes = next_nothing c.args.self.now c.loop.self _ c.args.id c.loop.counter
-            c.loop.invariant.takes refl _ refl refl
-            (came_final _ _ _ _ c.in_ok-taken.taken
+            c.loop.invariant.takes refl c.in_ok-taken.taken refl refl
             (rw (c.deref.ensures.value, c.deref-in-loop.ensures.value)
-            at c.in_ok-taken.ensures.takes))
-            (rw (sym c.without_interim.ensures ∙ w.in-Again.is) tt) refl;
+            at c.in_ok-taken.ensures.takes)
+            (rw (sym c.without_empty.ensures ∙ w.in-Again.is) tt) refl;
       })
     ]
 
@@ -78,10 +76,10 @@ pub returns-in_err-keep-in-On-clause-takes : goal.returns-in_err-keep-in-On-clau
 returns-in_err-keep-in-On-clause-takes c =
     let answer = err_from_is_err_and c.from_residual-in_err-keep-in-On.result
     c.from_residual-in_err-keep-in-On.ensures.1 in
-    let next = sym c.without_interim.ensures ∙ c.in-On.is in
+    let next = sym c.without_empty.ensures ∙ c.in-On.is in
     rw (answer.1, answer.2) (next_lost c.args.self.now c.loop.self _ c.args.id c.loop.counter
-    c.loop.invariant.takes refl _ refl refl (came_final _ _ _ _ c.in_ok-taken.taken
-    (rw (c.deref.ensures.value, c.deref-in-loop.ensures.value) at c.in_ok-taken.ensures.takes))
+    c.loop.invariant.takes refl c.in_ok-taken.taken refl refl
+    (rw (c.deref.ensures.value, c.deref-in-loop.ensures.value) at c.in_ok-taken.ensures.takes)
     c.in-On.stream c.in-On.came next
     (is_final c.in_ok-taken.taken.next c.in-On.stream c.in-On.came next)
     c.if-stream-id.false c.in_err-keep-in-On.ensures.err)
