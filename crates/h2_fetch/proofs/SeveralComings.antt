@@ -22,7 +22,7 @@ use Rattle.h2_fetch.specs.declared.several.Came.{Came}
 use Rattle.h2_fetch.specs.declared.several.Came.TheVariants.{Dropped}
 use Rattle.h2_fetch.specs.declared.several.SeveralFetch.{SeveralFetch}
 use Rattle.h2_fetch.proofs.KeptParts.{parts_answered, parts_kept, parts_lost}
-use Rattle.h2_fetch.proofs.SeveralTaking.{AddsCame, IsFinal, IsNothing, adds_came, dropped_as}
+use Rattle.h2_fetch.proofs.SeveralTaking.{AddsCame, SaysSome, IsNothing, adds_came, dropped_as}
 use Rattle.h2_fetch.proofs.SeveralTaking.{handed_came, nothing_came, still_done}
 use Rattle.h2_fetch.proofs.SeveralTaking.{something_came, stay_dropped, stays_handed}
 use Rattle.h2_link.specs.declared.error.LinkError.TheVariants as errors
@@ -127,7 +127,7 @@ module _ {values : Values} {start now : Traffic} {asked : List AskedOn} {old : S
       }
 
   module _ (stream : ℕ) (came : Came) (next : without_empty taken.next ≡ nexts.On stream came)
-      (final : IsFinal stream came) where
+      (final : SaysSome stream came) where
     -- Something has come, which was handed out last.
     last_came : (one : Handed) × IsAsCame stream came one
         × (took.after.handed ≡ one ∷ end.handed)

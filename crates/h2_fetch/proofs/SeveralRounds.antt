@@ -21,7 +21,7 @@ use Rattle.h2_fetch.proofs.KeptParts.{none_more}
 use Rattle.h2_fetch.proofs.SeveralComings.{AreGoing, are_going, came_answered, came_dropped}
 use Rattle.h2_fetch.proofs.SeveralComings.{came_kept, came_lost, piece_of, rest_is, taken_came}
 use Rattle.h2_fetch.proofs.SeveralComings.{took_none}
-use Rattle.h2_fetch.proofs.SeveralTaking.{IsFinal, IsNothing}
+use Rattle.h2_fetch.proofs.SeveralTaking.{SaysSome, IsNothing}
 use Rattle.h2_link.specs.declared.error.LinkError.TheVariants as errors
 
 -- In a call of `take_next` nothing goes over the link.
@@ -73,7 +73,7 @@ module _ (old middle new : SeveralFetch) (id rounds : ℕ) (on : TakesCame old m
     -- something has come on the stream,
     pub next_came : (stream : ℕ) (came : Came)
         → without_empty taken.next ≡ nexts.On stream came
-        → IsFinal stream came → stream ≡ id → new.kept ≡ middle.kept
+        → SaysSome stream came → stream ≡ id → new.kept ≡ middle.kept
         → TakesUntilCame old new id (Ok (Some came))
     unfolding TookCame CameSo
     next_came stream came next final same kept values start now asked end answered is none =
@@ -89,7 +89,7 @@ module _ (old middle new : SeveralFetch) (id rounds : ℕ) (on : TakesCame old m
         )
 
     module _ (stream : ℕ) (came : Came) (next : without_empty taken.next ≡ nexts.On stream came)
-        (final : IsFinal stream came) (other : stream ≢ id) where
+        (final : SaysSome stream came) (other : stream ≢ id) where
       -- or on another: that is kept,
       pub next_kept : new.kept.items ≡ middle.kept.items ++ (stream, came) ∷ []
           → TakesCame old new id (rounds + 1)

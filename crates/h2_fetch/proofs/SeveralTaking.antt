@@ -83,19 +83,21 @@ off_stream i (Passed (ResetEvent id code ours)) other = rw (off_by i id other) r
 off_stream i (Passed (UnprocessedEvent id)) other = rw (off_by i id other) refl
 off_stream i (Passed event) other = refl
 
--- and an empty part of a body that ends nothing adds nothing to any; another part adds itself.
+-- and an empty part of a body that ends nothing adds nothing to any;
 empty_on : (i id : ℕ) (octets : List ℕ) → (length octets == 0) ≡ true
     → as_on i (BodyHanded id octets false) ≡ []
 empty_on i id [] none = refl
 empty_on i id (octet ∷ octets) none =
     absurd (omega (arith, eqb-true (length (octet ∷ octets)) 0 none))
 
+-- one with octets adds itself to its stream,
 body_on : (i id : ℕ) (octets : List ℕ) → (length octets == 0) ≡ false
     → as_on i (BodyHanded id octets false)
     ≡ (if id == i then PartOn (BodyHanded id octets false) ∷ [] else [])
 body_on i id [] some = absurd (cc)
 body_on i id (octet ∷ octets) some = refl
 
+-- and so does the last one, with octets or without.
 last_on : (i id : ℕ) (octets : List ℕ)
     → as_on i (BodyHanded id octets true)
     ≡ (if id == i then PartOn (BodyHanded id octets true) ∷ [] else [])
@@ -109,6 +111,7 @@ AddsCame ids None next = Unit {0}
 AddsCame ids (Some handed) (nexts.On id came) = IsAsCame id came handed
 AddsCame ids (Some handed) next = (i : ℕ) → Contains ids i → as_on i handed ≡ []
 
+-- What comes adds what was handed out, and nothing does where nothing comes.
 adds_same : (ids : List ℕ) (handed : Option Handed) (next : CameNext)
     → HandsCame ids handed next → AddsCame ids handed next
 adds_same ids None (nexts.On id came) hands = absurd hands
@@ -118,7 +121,7 @@ adds_same ids (Some handed) (nexts.On id came) hands = hands
 adds_same ids (Some handed) nexts.Again hands = λ i one. off_stream i handed (hands i one)
 adds_same ids (Some handed) nexts.Done hands = λ i one. off_stream i handed (hands i one)
 
--- What says nothing adds nothing: it is dropped.
+-- What says nothing adds nothing:
 adds_nothing : (ids : List ℕ) (handed : Option Handed) (next : CameNext)
     → says_nothing next ≡ true → HandsCame ids handed next → AddsCame ids handed nexts.Again
 adds_nothing ids None next says hands = tt
@@ -134,6 +137,7 @@ adds_nothing ids (Some handed) (nexts.On id (Dropped code)) says hands = absurd 
 adds_nothing ids (Some handed) nexts.Again says hands = absurd (cc)
 adds_nothing ids (Some handed) nexts.Done says hands = absurd (cc)
 
+-- it is dropped.
 pub adds_came : (ids : List ℕ) (handed : Option Handed) (next : CameNext)
     → HandsCame ids handed next → AddsCame ids handed (without_empty next)
 adds_came ids handed next hands = elim (cases_Bool (says_nothing next)) [
@@ -141,19 +145,21 @@ adds_came ids handed next hands = elim (cases_Bool (says_nothing next)) [
   | inr some ↦ rw some (adds_same ids handed next hands)
 ]
 
+-- Where all octets are used once that is dropped, they were before.
 pub still_done : (next : CameNext) → without_empty next ≡ nexts.Done → next ≡ nexts.Done
 still_done next is = elim (cases_Bool (says_nothing next)) [
   | inl says ↦ let other : nexts.Again ≡ nexts.Done = rw says at is in absurd (cc)
   | inr some ↦ rw some at is
 ]
 
--- What has come says something.
-abbrev pub IsFinal : ℕ → Came → Type 0
-IsFinal id came = says_nothing (nexts.On id came) ≡ false
+-- What has come on a stream says something.
+abbrev pub SaysSome : ℕ → Came → Type 0
+SaysSome id came = says_nothing (nexts.On id came) ≡ false
 
-pub is_final : (next : CameNext) (stream : ℕ) (came : Came)
-    → without_empty next ≡ nexts.On stream came → IsFinal stream came
-is_final next stream came is = elim (cases_Bool (says_nothing next)) [
+-- So does what isn't dropped.
+pub says_some : (next : CameNext) (stream : ℕ) (came : Came)
+    → without_empty next ≡ nexts.On stream came → SaysSome stream came
+says_some next stream came is = elim (cases_Bool (says_nothing next)) [
   | inl says ↦ let other : nexts.Again ≡ nexts.On stream came = rw says at is in absurd (cc)
   | inr some ↦
       let same : next ≡ nexts.On stream came = rw some at is in
@@ -162,7 +168,7 @@ is_final next stream came is = elim (cases_Bool (says_nothing next)) [
 
 -- What was handed out last adds to its stream what has come there,
 pub handed_came : (i id : ℕ) (came : Came) (handed : Handed) (before : List Handed)
-    → IsFinal id came → IsAsCame id came handed
+    → SaysSome id came → IsAsCame id came handed
     → all_on i (handed ∷ before) ≡ all_on i before ++ came_on id came i
 unfolding all_on
 handed_came i id (Part (parts.Interim list)) handed before final is = absurd (cc)

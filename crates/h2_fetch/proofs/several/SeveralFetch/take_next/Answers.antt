@@ -3,7 +3,7 @@ use Rattle.h2_engines.proofs.Names.{refl, sym, ◌∙◌, arith, ◌+◌, ◌≤
 use Rattle.std.proofs.Common.{length-drop}
 use Rattle.h2_fetch.proofs.SeveralRounds.{came_first, next_came, next_done, next_failed}
 use Rattle.h2_fetch.proofs.SeveralRounds.{next_kept, next_lost, next_nothing, next_out}
-use Rattle.h2_fetch.proofs.SeveralTaking.{is_final}
+use Rattle.h2_fetch.proofs.SeveralTaking.{says_some}
 use Rattle.h2_fetch.proofs.several.SeveralFetch.take_next.Goals as goal
 use goal.{in-Again, in-On+else-stream-id+in_ok-keep-in-On}
 
@@ -35,7 +35,7 @@ returns-then-stream-id-clause-takes c =
     c.in_ok-taken.taken refl refl
     (rw (c.deref.ensures.value, c.deref-in-loop.ensures.value) at c.in_ok-taken.ensures.takes)
     c.in-On.stream c.in-On.came next
-    (is_final c.in_ok-taken.taken.next c.in-On.stream c.in-On.came next) c.if-stream-id.true refl
+    (says_some c.in_ok-taken.taken.next c.in-On.stream c.in-On.came next) c.if-stream-id.true refl
 
 pub loop-preserved : goal.loop-preserved
 loop-preserved c =
@@ -58,7 +58,7 @@ loop-preserved c =
                 (rw (c.deref.ensures.value, c.deref-in-loop.ensures.value)
                 at c.in_ok-taken.ensures.takes)
                 w.in-On.stream w.in-On.came next
-                (is_final c.in_ok-taken.taken.next w.in-On.stream w.in-On.came next)
+                (says_some c.in_ok-taken.taken.next w.in-On.stream w.in-On.came next)
                 w.if-stream-id.false w.in_ok-keep-in-On.ensures.ok;
           })
       | in-Again w ↦ rw w.self-is (record {
@@ -81,7 +81,7 @@ returns-in_err-keep-in-On-clause-takes c =
     c.loop.invariant.takes refl c.in_ok-taken.taken refl refl
     (rw (c.deref.ensures.value, c.deref-in-loop.ensures.value) at c.in_ok-taken.ensures.takes)
     c.in-On.stream c.in-On.came next
-    (is_final c.in_ok-taken.taken.next c.in-On.stream c.in-On.came next)
+    (says_some c.in_ok-taken.taken.next c.in-On.stream c.in-On.came next)
     c.if-stream-id.false c.in_err-keep-in-On.ensures.err)
 
 pub returns-clause-takes : goal.returns-clause-takes
