@@ -2,8 +2,10 @@ mod Beginning
 mod Comings
 mod Ending
 mod KeptParts
+mod OwedCredit
 mod ReadPieces
 mod Refilling
+mod ReturningCredit
 mod SendingRounds
 mod SeveralAnswers
 mod SeveralBeginning

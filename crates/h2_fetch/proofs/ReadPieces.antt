@@ -7,6 +7,7 @@ use Rattle.h2_engines.proofs.MachineWrites.{written_links}
 use Rattle.h2_fetch.specs.Reads.{ReadSo, ReadsOver}
 use Rattle.h2_fetch.specs.Sends.{SendsAllOver, StopsSending}
 use Rattle.h2_fetch.specs.Several.{StopsAllFor}
+use Rattle.h2_fetch.specs.declared.sending.Credit.{Credit}
 use Rattle.h2_link.specs.declared.error.LinkError.TheVariants as errors
 
 -- What ends sending ends a fetch so.
@@ -17,12 +18,13 @@ sending_so start now end errors.Memory writing why = why
 sending_so start now end errors.NoProgress writing why = why
 sending_so start now end error writing why = absurd writing
 
-pub read_unsent : (before now : Traffic) (old new : End) (octets : List ℕ) (error : LinkError)
-    → EndsWriting error → SendsAllOver before now old new (Err error)
-    → ReadsOver before now old new octets (Err error)
+pub read_unsent : (credit : Credit) (before now : Traffic) (old new : End) (octets : List ℕ)
+    (error : LinkError) → EndsWriting error → SendsAllOver credit before now old new (Err error)
+    → ReadsOver credit before now old new octets (Err error)
 unfolding ReadSo
-read_unsent before now old new octets error writing sends values asking start end is was linked up =
-    let sent = sends values asking start end [] is was linked up in
+read_unsent credit before now old new octets error writing sends values asking start end is was
+    allows linked up =
+    let sent = sends values asking start end [] is was allows linked up in
     record {
       after = sent.after;
       asks = sent.asks;
@@ -50,15 +52,15 @@ takes_none start middle now octets taken none =
     subst (Appends start.taken now.taken) (append-nil octets)
     (Appends-trans start.taken middle.taken now.taken octets [] taken none)
 
-module _ (before middle : Traffic) (now : Traffic) (old new : End) (done : Unit {0})
+module _ (credit : Credit) (before middle now : Traffic) (old new : End) (done : Unit {0})
     (gone : Appends middle.taken now.taken [])
-    (sends : SendsAllOver before middle old new (Ok done)) where
+    (sends : SendsAllOver credit before middle old new (Ok done)) where
   -- A piece was read,
   pub read_some : (octets : List ℕ) → Appends middle.given now.given octets
-      → ReadsOver before now old new octets (Ok done)
+      → ReadsOver credit before now old new octets (Ok done)
   unfolding ReadSo
-  read_some octets gives values asking start end is was linked up =
-      let sent = sends values asking start end [] is was linked up in
+  read_some octets gives values asking start end is was allows linked up =
+      let sent = sends values asking start end [] is was allows linked up in
       let went = written_links [] sent.given sent.taken in
       record {
         after = sent.after;
@@ -77,10 +79,10 @@ module _ (before middle : Traffic) (now : Traffic) (old new : End) (done : Unit 
 
   module _ (octets : List ℕ) (gives : Appends middle.given now.given []) where
     -- or none, at the end of the input,
-    pub read_none : ReadsOver before now old new octets (Err errors.CutOff)
+    pub read_none : ReadsOver credit before now old new octets (Err errors.CutOff)
     unfolding ReadSo
-    read_none values asking start end is was linked up =
-        let sent = sends values asking start end [] is was linked up in
+    read_none values asking start end is was allows linked up =
+        let sent = sends values asking start end [] is was allows linked up in
         let went = written_links [] sent.given sent.taken in
         let given = gives_more start middle now sent.after.log [] went.given gives in
         let still = sent.same.failed ∙ up in
@@ -104,10 +106,10 @@ module _ (before middle : Traffic) (now : Traffic) (old new : End) (done : Unit 
     -- where the read has failed, or where there is no room for one.
     pub read_fails : (error : LinkError)
         → ((start : Traffic) (end : EndLog) → end.log.failed ≡ None
-        → StopsAllFor start now end error) → ReadsOver before now old new octets (Err error)
+        → StopsAllFor start now end error) → ReadsOver credit before now old new octets (Err error)
     unfolding ReadSo
-    read_fails error stops values asking start end is was linked up =
-        let sent = sends values asking start end [] is was linked up in
+    read_fails error stops values asking start end is was allows linked up =
+        let sent = sends values asking start end [] is was allows linked up in
         let went = written_links [] sent.given sent.taken in
         record {
           after = sent.after;

@@ -13,6 +13,7 @@ use Rattle.h2_fetch.specs.Sends.{AsksOne}
 use Rattle.h2_fetch.specs.Several.{StopsAllFor}
 use Rattle.h2_fetch.specs.declared.fetch.PartFetch.{PartFetch}
 use Rattle.h2_fetch.specs.declared.part.ResponsePart.{ResponsePart}
+use Rattle.h2_fetch.specs.declared.sending.Credit.TheVariants.{All}
 use Rattle.h2_fetch.proofs.Comings.{NextOn, going_first}
 use Rattle.h2_link.specs.declared.error.LinkError.TheVariants as errors
 
@@ -53,10 +54,10 @@ module _ {values : Values} {message : SentMessage} {start : Traffic} (before now
 
 pub refilled : (before now : Traffic) (old new : PartFetch) (result : Result (Unit {0}) LinkError)
     → new.id ≡ old.id → new.used ≡ 0
-    → ReadsOver before now old.client.end new.client.end new.input.items result
+    → ReadsOver All before now old.client.end new.client.end new.input.items result
     → Refills before now old new result
 refilled before now old new result stream first reads values message start end is empty =
-    let read = reads values (AsksOne message) start end is.represents is.fetching
+    let read = reads values (AsksOne message) start end is.represents is.fetching tt
     (subst (IsLinked start before end.log) empty is.linked) is.up in
     (read.after, read.same.handed, refilled_so before now old new is stream first result read)
 

@@ -1,45 +1,17 @@
 -- What is sent over a link in rounds: credit and what waits of the request, and then all output.
 use Rattle.h2_engines.proofs.Names
 use Names.{◌≡◌, ◌≤◌, ℕ, ◌+◌, ◌-◌, ◌^◌, List, length, None, Result, Ok, Err, ◌∙◌, inl, inr, arith}
-use Names.{Values, End, EndLog, EndRepresents, LinkError, EndRefusal, MayPump, MayReleaseAll}
-use Names.{EndsWriting, IsSameOfMessages, SendsWaiting, StallsWriting, Traffic, IsLinked, sends}
-use Rattle.h2_engines.specs.ClientHistories.{pumps as one_pumps, releases as one_releases}
-use Rattle.h2_engines.specs.WithoutLink.{HasSent, has_failed, releases_no_more, sends_no_more}
+use Names.{Values, End, EndLog, EndRepresents, LinkError, EndsWriting, IsSameOfMessages}
+use Names.{StallsWriting, Traffic, IsLinked}
 use Rattle.h2_engines.proofs.MachineWrites.{written_links}
 use Rattle.h2_engines.proofs.ResponderEnds.{given_first, given_within, same_itself, same_twice}
 use Rattle.h2_engines.proofs.ServeLinkLogs.{goes_links}
-use Rattle.h2_engines.proofs.WithoutLinkSends.{sent_error, sent_same, sent_stays, sent_turns}
-use Rattle.h2_fetch.specs.Sends.{Asking, AsksOne, AsksSeveral, HasAsked, SentOver, StopsSending}
-use Rattle.h2_fetch.specs.Sends.{WritesOver}
-use Rattle.h2_fetch.specs.Several.{pumps, releases}
+use Rattle.h2_fetch.specs.Sends.{AllowsCredit, Asking, HasAsked, SendsCredit, SentOver}
+use Rattle.h2_fetch.specs.Sends.{StopsSending, WritesOver}
+use Rattle.h2_fetch.specs.declared.sending.Credit.{Credit}
+use Rattle.h2_fetch.proofs.ReturningCredit.{sent_asks, sent_error, sent_same}
+use Rattle.h2_fetch.proofs.ReturningCredit.{sent_stays, sent_turns}
 use Rattle.h2_link.specs.declared.error.LinkError.TheVariants as errors
-
--- Requests that were made stay so where credit is given back and what waits is sent.
-releases_at : (values : Values) (asking : Asking) (before after : EndLog)
-    (released : Result (Unit {0}) EndRefusal) → HasAsked values asking before
-    → MayReleaseAll before released after → HasAsked values asking after
-releases_at values (AsksOne message) before after released was may = one_releases was released may
-releases_at values (AsksSeveral asked) before after released was may = releases was released may
-
-pumps_at : (values : Values) (asking : Asking) (before after : EndLog)
-    (sent : Result ℕ EndRefusal) → HasAsked values asking before → MayPump before sent after
-    → HasAsked values asking after
-pumps_at values (AsksOne message) before after sent was may = one_pumps was sent may
-pumps_at values (AsksSeveral asked) before after sent was may = pumps was sent may
-
-pub sent_asks : (values : Values) (asking : Asking) (before after : EndLog)
-    {result : Result (Unit {0}) LinkError} → HasAsked values asking before
-    → HasSent before after result → HasAsked values asking after
-sent_asks values asking before after was (has_failed failed same) = rw same was
-sent_asks values asking before after was (sends middle released sent up may all then) =
-    pumps_at values asking middle after (Ok sent)
-    (releases_at values asking before middle released was may) then
-sent_asks values asking before after was (releases_no_more released error is up may) =
-    releases_at values asking before after released was may
-sent_asks values asking before after was
-    (sends_no_more middle released sent error is up may then) =
-    pumps_at values asking middle after sent
-    (releases_at values asking before middle released was may) then
 
 -- What ends writing ends sending so.
 pub stops_by : (now : Traffic) (end : EndLog) (error : LinkError) → EndsWriting error
@@ -61,16 +33,17 @@ pub record IsSending (values : Values) (asking : Asking) (start now : Traffic)
   pub up : after.log.failed ≡ None
 
 -- Whatever had happened at first, it is so now.
-abbrev pub SendsFrom : (before now : Traffic) → (old new : End) → (rounds : ℕ) → Type 0
-SendsFrom before now old new rounds =
+abbrev pub SendsFrom : Credit → (before now : Traffic) → (old new : End) → (rounds : ℕ) → Type 0
+SendsFrom credit before now old new rounds =
     (values : Values) (asking : Asking) (start : Traffic) (end : EndLog) (unused : List ℕ)
-    → EndRepresents values old end → HasAsked values asking end
+    → EndRepresents values old end → HasAsked values asking end → AllowsCredit credit asking
     → IsLinked start before end.log unused → end.log.failed ≡ None
     → IsSending values asking start now end new unused rounds
 
 -- Nothing was sent yet.
-pub sends_first : (now : Traffic) (end : End) → SendsFrom now now end end 0
-sends_first now old values asking start end unused is was linked up =
+pub sends_first : (credit : Credit) (now : Traffic) (end : End)
+    → SendsFrom credit now now end end 0
+sends_first credit now old values asking start end unused is was allows linked up =
     record {
       after = end;
       asks = was;
@@ -82,17 +55,18 @@ sends_first now old values asking start end unused is was linked up =
     }
 
 module _ {values : Values} {asking : Asking} {start now : Traffic} {before : EndLog}
-    {old : End} (new : End) {unused : List ℕ} {rounds : ℕ}
+    {old : End} (new : End) {unused : List ℕ} {rounds : ℕ} (credit : Credit)
+    (allows : AllowsCredit credit asking)
     (on : IsSending values asking start now before old unused rounds) where
-  -- Credit is given back, and what waits is sent;
-  pub waited : (result : Result (Unit {0}) LinkError) → SendsWaiting old new result
+  -- Credit is returned, and what waits is sent;
+  pub waited : (result : Result (Unit {0}) LinkError) → SendsCredit credit old new result
       → IsSending values asking start now before new unused rounds
   waited result waits =
       let sent = waits values on.after on.represents in
       let stays = sent_stays sent.2 in
       record {
         after = sent.0;
-        asks = sent_asks values asking on.after sent.0 on.asks sent.2;
+        asks = sent_asks values asking on.asks allows sent.2;
         represents = sent.1;
         same = same_twice on.same (sent_same sent.2);
         linked = goes_links (given_within on.represents) stays.goes on.linked;
@@ -101,7 +75,7 @@ module _ {values : Values} {asking : Asking} {start now : Traffic} {before : End
       }
 
   -- or there is no memory for that.
-  pub not_waited : (error : LinkError) → SendsWaiting old new (Err error)
+  pub not_waited : (error : LinkError) → SendsCredit credit old new (Err error)
       → SentOver values asking start now before new unused (Err error)
   not_waited error waits =
       let then = waited (Err error) waits in

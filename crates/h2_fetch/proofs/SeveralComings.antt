@@ -15,14 +15,15 @@ use Rattle.h2_fetch.specs.Several.{all_on, AnsweredOn, AreComing, AreDropped, As
 use Rattle.h2_fetch.specs.Several.{answered_next, IsFetchingSeveral, kept_on, several_unused}
 use Rattle.h2_fetch.specs.Several.{takes}
 use Rattle.h2_fetch.specs.SeveralComings.{HaveTakenLast, lacks_memory}
-use Rattle.h2_fetch.specs.SeveralTakes.{HandsCame, IsAsCame, TakesCameOnce, TakesCameSo}
+use Rattle.h2_fetch.specs.SeveralTakes.{IsAsCame, TakesCameOnce, TakesCameSo, without_empty}
 use Rattle.h2_fetch.specs.declared.coming.CameNext.TheVariants as nexts
 use Rattle.h2_fetch.specs.declared.coming.CameTaken.{CameTaken}
 use Rattle.h2_fetch.specs.declared.several.Came.{Came}
 use Rattle.h2_fetch.specs.declared.several.Came.TheVariants.{Dropped}
 use Rattle.h2_fetch.specs.declared.several.SeveralFetch.{SeveralFetch}
 use Rattle.h2_fetch.proofs.KeptParts.{parts_answered, parts_kept, parts_lost}
-use Rattle.h2_fetch.proofs.SeveralTaking.{IsNothing, dropped_as, handed_came, nothing_came}
+use Rattle.h2_fetch.proofs.SeveralTaking.{AddsCame, SaysSome, IsNothing, adds_came, dropped_as}
+use Rattle.h2_fetch.proofs.SeveralTaking.{handed_came, nothing_came, still_done}
 use Rattle.h2_fetch.proofs.SeveralTaking.{something_came, stay_dropped, stays_handed}
 use Rattle.h2_link.specs.declared.error.LinkError.TheVariants as errors
 
@@ -55,9 +56,9 @@ pub record HasTakenCame (values : Values) (start now : Traffic) (asked : List As
   pub linked : IsLinked start now after.log (several_unused fetch)
   pub turns : length before.log.turns < length after.log.turns
   pub handed : Option Handed
-  pub hands : HandsCame ids handed taken.next
+  pub hands : AddsCame ids handed (without_empty taken.next)
   pub same : after.handed ≡ handed_after (EndTook taken.used handed) before.handed
-  pub done : taken.next ≡ nexts.Done → several_unused fetch ≡ []
+  pub done : without_empty taken.next ≡ nexts.Done → several_unused fetch ≡ []
 
 -- what the octets are that a client hands to `take`
 abbrev pub piece_of : SeveralFetch → List ℕ
@@ -94,10 +95,10 @@ module _ {values : Values} {start now : Traffic} {asked : List AskedOn} {old : S
             (took_links (given_within is.represents) is.linked first.uses first.says.0);
         turns = turns_of_take may;
         handed = so.0;
-        hands = so.2;
+        hands = adds_came old.ids.items so.0 taken.next so.2;
         same = says.handed;
         done = λ is_done. sym left ∙ drop_all taken.used (several_unused old)
-            (omega (arith, so.3 is_done, ap length (rest_is old)));
+            (omega (arith, so.3 (still_done taken.next is_done), ap length (rest_is old)));
       }
 
 -- Nothing has come: it goes on.
@@ -106,7 +107,7 @@ module _ {values : Values} {start now : Traffic} {asked : List AskedOn} {old : S
     (is : AreComing values start now asked old end answered)
     (took : HasTakenCame values start now asked new end old.ids.items taken)
     (ids : new.ids ≡ old.ids) where
-  pub took_none : IsNothing taken.next → new.kept ≡ old.kept
+  pub took_none : IsNothing (without_empty taken.next) → new.kept ≡ old.kept
       → AreComing values start now asked new took.after answered
   took_none nothing kept =
       record {
@@ -118,14 +119,15 @@ module _ {values : Values} {start now : Traffic} {asked : List AskedOn} {old : S
         linked = took.linked;
         parts = λ id one.
             let there : Contains old.ids.items id = rw ids at one in
-            nothing_came old.ids.items taken.next taken.used took.handed end.handed nothing
-            took.hands took.same id there
+            nothing_came old.ids.items (without_empty taken.next) taken.used took.handed
+            end.handed nothing took.hands took.same id there
             ∙ rw kept (is.parts id there);
         dropped = rw kept (stay_dropped end took.after old.kept.items
             (stays_handed (EndTook taken.used took.handed) end.handed took.same) is.dropped);
       }
 
-  module _ (stream : ℕ) (came : Came) (next : taken.next ≡ nexts.On stream came) where
+  module _ (stream : ℕ) (came : Came) (next : without_empty taken.next ≡ nexts.On stream came)
+      (final : SaysSome stream came) where
     -- Something has come, which was handed out last.
     last_came : (one : Handed) × IsAsCame stream came one
         × (took.after.handed ≡ one ∷ end.handed)
@@ -136,7 +138,7 @@ module _ {values : Values} {start now : Traffic} {asked : List AskedOn} {old : S
         → all_on i took.after.handed ≡ all_on i end.handed ++ came_on stream came i
     more_came i =
         let (one, is_as, same) = last_came in
-        ap (all_on i) same ∙ handed_came i stream came one end.handed is_as
+        ap (all_on i) same ∙ handed_came i stream came one end.handed final is_as
 
     pub came_dropped : (code : ℕ) → came ≡ Dropped code → WasDropped took.after stream code
     came_dropped code dropped =

@@ -12,7 +12,7 @@ use Rattle.h2_fetch.specs.Several.{OnStream, all_on, as_on, AnsweredOn, AreComin
 use Rattle.h2_fetch.specs.Several.{kept_on, several_unused, answered_next, takes}
 use Rattle.h2_fetch.specs.SeveralComings.{TakesNoneMore, TakesUntilCame, TookCame, fails}
 use Rattle.h2_fetch.specs.SeveralComings.{lacks_memory, out_of_rounds}
-use Rattle.h2_fetch.specs.SeveralTakes.{TakesCameOnce, TakesCameSo}
+use Rattle.h2_fetch.specs.SeveralTakes.{TakesCameOnce, TakesCameSo, without_empty}
 use Rattle.h2_fetch.specs.declared.coming.CameNext.TheVariants as nexts
 use Rattle.h2_fetch.specs.declared.coming.CameTaken.{CameTaken}
 use Rattle.h2_fetch.specs.declared.several.Came.{Came}
@@ -21,7 +21,7 @@ use Rattle.h2_fetch.proofs.KeptParts.{none_more}
 use Rattle.h2_fetch.proofs.SeveralComings.{AreGoing, are_going, came_answered, came_dropped}
 use Rattle.h2_fetch.proofs.SeveralComings.{came_kept, came_lost, piece_of, rest_is, taken_came}
 use Rattle.h2_fetch.proofs.SeveralComings.{took_none}
-use Rattle.h2_fetch.proofs.SeveralTaking.{IsNothing}
+use Rattle.h2_fetch.proofs.SeveralTaking.{SaysSome, IsNothing}
 use Rattle.h2_link.specs.declared.error.LinkError.TheVariants as errors
 
 -- In a call of `take_next` nothing goes over the link.
@@ -44,7 +44,7 @@ module _ (old middle new : SeveralFetch) (id rounds : ℕ) (on : TakesCame old m
       (part : TakesCameOnce middle.client.end new.client.end middle.ids.items (piece_of middle)
       (Ok taken)) where
     -- Nothing has come: it goes on,
-    pub next_nothing : IsNothing taken.next → new.kept ≡ middle.kept
+    pub next_nothing : IsNothing (without_empty taken.next) → new.kept ≡ middle.kept
         → TakesCame old new id (rounds + 1)
     next_nothing nothing kept values start now asked end answered is none =
         let go = on values start now asked end answered is none in
@@ -57,7 +57,7 @@ module _ (old middle new : SeveralFetch) (id rounds : ℕ) (on : TakesCame old m
         }
 
     -- or all octets were used;
-    pub next_done : taken.next ≡ nexts.Done → new.kept ≡ middle.kept
+    pub next_done : without_empty taken.next ≡ nexts.Done → new.kept ≡ middle.kept
         → TakesUntilCame old new id (Ok None)
     unfolding TookCame
     next_done done kept values start now asked end answered is none =
@@ -71,23 +71,25 @@ module _ (old middle new : SeveralFetch) (id rounds : ℕ) (on : TakesCame old m
         )
 
     -- something has come on the stream,
-    pub next_came : (stream : ℕ) (came : Came) → taken.next ≡ nexts.On stream came → stream ≡ id
-        → new.kept ≡ middle.kept → TakesUntilCame old new id (Ok (Some came))
+    pub next_came : (stream : ℕ) (came : Came)
+        → without_empty taken.next ≡ nexts.On stream came
+        → SaysSome stream came → stream ≡ id → new.kept ≡ middle.kept
+        → TakesUntilCame old new id (Ok (Some came))
     unfolding TookCame CameSo
-    next_came stream came next same kept values start now asked end answered is none =
+    next_came stream came next final same kept values start now asked end answered is none =
         let go = on values start now asked end answered is none in
         let took = taken_came new go.coming taken input used part in
         let first : kept_on stream middle.kept.items ≡ [] = rw same go.none in (
           took.after,
           subst (λ (i : ℕ). AreComing values start now asked new took.after
               (answered_next answered i came)) same
-              (came_answered new go.coming took ids stream came next first kept),
+              (came_answered new go.coming took ids stream came next final first kept),
           λ code dropped. subst (λ (i : ℕ). WasDropped took.after i code) same
-              (came_dropped new go.coming took ids stream came next code dropped),
+              (came_dropped new go.coming took ids stream came next final code dropped),
         )
 
-    module _ (stream : ℕ) (came : Came) (next : taken.next ≡ nexts.On stream came)
-        (other : stream ≢ id) where
+    module _ (stream : ℕ) (came : Came) (next : without_empty taken.next ≡ nexts.On stream came)
+        (final : SaysSome stream came) (other : stream ≢ id) where
       -- or on another: that is kept,
       pub next_kept : new.kept.items ≡ middle.kept.items ++ (stream, came) ∷ []
           → TakesCame old new id (rounds + 1)
@@ -96,7 +98,7 @@ module _ (old middle new : SeveralFetch) (id rounds : ℕ) (on : TakesCame old m
           let took = taken_came new go.coming taken input used part in
           record {
             after = took.after;
-            coming = came_kept new go.coming took ids stream came next kept;
+            coming = came_kept new go.coming took ids stream came next final kept;
             none = rw kept (none_more id stream came middle.kept.items other go.none);
             turns = omega (arith, go.turns, took.turns);
           }
@@ -108,7 +110,7 @@ module _ (old middle new : SeveralFetch) (id rounds : ℕ) (on : TakesCame old m
       next_lost kept values start now asked end answered is none =
           let go = on values start now asked end answered is none in
           let took = taken_came new go.coming taken input used part in
-          (took.after, came_lost new go.coming took ids stream came next kept)
+          (took.after, came_lost new go.coming took ids stream came next final kept)
 
 -- or the client can take no more: the connection has failed, or memory was refused for what was
 -- handed out, which is lost.

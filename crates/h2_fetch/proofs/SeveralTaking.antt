@@ -1,17 +1,18 @@
 -- What a client that makes several requests makes of octets, by what `take` has answered.
 use Rattle.h2_engines.proofs.Names
-use Names.{◌≡◌, ◌≢◌, ℕ, false, [], List, ◌∷◌, ◌++◌, length, Option, Some, None, Ok, Err, refl, ap}
-use Names.{◌∙◌, append-nil, inl, inr, Contains, End, EndLog, EndTook, EndFailed, Handed, EndTaken}
-use Names.{EndTakes, LentPart, LinkError, ConnFault, event_handed, error_with, later_in}
+use Names.{◌≡◌, ◌≢◌, ℕ, true, false, [], List, ◌∷◌, ◌++◌, length, Option, Some, None, Ok, Err}
+use Names.{refl, ap, ◌∙◌, append-nil, inl, inr, Contains, End, EndLog, EndTook, EndFailed, Handed}
+use Names.{EndTaken, EndTakes, LentPart, LinkError, ConnFault, event_handed, error_with, later_in}
 use Names.{EndAnswer, InterimHanded, HeadHanded, BodyHanded, TrailersHanded, Passed, ne_eqb, ◌==◌}
+use Names.{subst, arith, cases_Bool, eqb-true, if◌then◌else◌}
 use Rattle.h2_spec_log.specs.Events.{ResetEvent, UnprocessedEvent}
 use Rattle.h2_engines.specs.Fetches.{WasDropped}
 use Rattle.h2_engines.specs.ServerSteps.{ErrsServing}
 use Rattle.h2_engines.proofs.TakeMessages.{handed_after}
 use Rattle.h2_fetch.specs.Kept.{came_on}
-use Rattle.h2_fetch.specs.Several.{AreDropped, OnStream, all_on, as_on}
+use Rattle.h2_fetch.specs.Several.{AreDropped, OnStream, PartOn, all_on, as_on}
 use Rattle.h2_fetch.specs.SeveralTakes.{HandsCame, IsAsCame, TakesCameOnce, TakesCameSo}
-use Rattle.h2_fetch.specs.SeveralTakes.{stream_of_handed}
+use Rattle.h2_fetch.specs.SeveralTakes.{says_nothing, stream_of_handed, without_empty}
 use Rattle.h2_fetch.specs.declared.coming.CameNext.{CameNext}
 use Rattle.h2_fetch.specs.declared.coming.CameNext.TheVariants as nexts
 use Rattle.h2_fetch.specs.declared.part.ResponsePart.TheVariants as parts
@@ -67,40 +68,130 @@ came_fault old new ids piece fault is takes values end represents =
     let (after, may, now) = takes values end represents in
     (after, now, (EndFailed fault.code, may, is))
 
--- What was handed out last adds to its stream what has come there,
-pub handed_came : (i id : ℕ) (came : Came) (handed : Handed) (before : List Handed)
-    → IsAsCame id came handed
-    → all_on i (handed ∷ before) ≡ all_on i before ++ came_on id came i
-unfolding all_on
-handed_came i id (Part (parts.Interim list)) handed before is = rw is refl
-handed_came i id (Part (parts.Head list end)) handed before is = rw is refl
-handed_came i id (Part (parts.Body octets end)) handed before is = rw is refl
-handed_came i id (Part (parts.Trailers list)) handed before is = rw is refl
-handed_came i id (Dropped code) handed before (inl reset) = rw reset.1 refl
-handed_came i id (Dropped code) handed before (inr left) = rw (left.1, left.0) refl
-
--- and nothing to one where nothing has.
+-- What was handed out adds nothing to a stream where nothing has come,
 off_by : (i id : ℕ) → Some id ≢ Some i → (id == i) ≡ false
 off_by i id other = ne_eqb id i (λ same. other (ap Some same))
 
 off_stream : (i : ℕ) (handed : Handed) → stream_of_handed handed ≢ Some i → as_on i handed ≡ []
-off_stream i (InterimHanded id list) other = rw (off_by i id other) refl
+off_stream i (InterimHanded id list) other = refl
 off_stream i (HeadHanded id list end) other = rw (off_by i id other) refl
-off_stream i (BodyHanded id octets end) other = rw (off_by i id other) refl
+off_stream i (BodyHanded id [] false) other = refl
+off_stream i (BodyHanded id [] true) other = rw (off_by i id other) refl
+off_stream i (BodyHanded id (octet ∷ octets) end) other = rw (off_by i id other) refl
 off_stream i (TrailersHanded id list) other = rw (off_by i id other) refl
 off_stream i (Passed (ResetEvent id code ours)) other = rw (off_by i id other) refl
 off_stream i (Passed (UnprocessedEvent id)) other = rw (off_by i id other) refl
 off_stream i (Passed event) other = refl
 
-handed_off : (i : ℕ) (handed : Handed) (before : List Handed) → stream_of_handed handed ≢ Some i
+-- and an empty part of a body that ends nothing adds nothing to any;
+empty_on : (i id : ℕ) (octets : List ℕ) → (length octets == 0) ≡ true
+    → as_on i (BodyHanded id octets false) ≡ []
+empty_on i id [] none = refl
+empty_on i id (octet ∷ octets) none =
+    absurd (omega (arith, eqb-true (length (octet ∷ octets)) 0 none))
+
+-- one with octets adds itself to its stream,
+body_on : (i id : ℕ) (octets : List ℕ) → (length octets == 0) ≡ false
+    → as_on i (BodyHanded id octets false)
+    ≡ (if id == i then PartOn (BodyHanded id octets false) ∷ [] else [])
+body_on i id [] some = absurd (cc)
+body_on i id (octet ∷ octets) some = refl
+
+-- and so does the last one, with octets or without.
+last_on : (i id : ℕ) (octets : List ℕ)
+    → as_on i (BodyHanded id octets true)
+    ≡ (if id == i then PartOn (BodyHanded id octets true) ∷ [] else [])
+last_on i id [] = refl
+last_on i id (octet ∷ octets) = refl
+
+-- What was handed out is what has come on a stream, or adds nothing to any of these.
+abbrev pub AddsCame : (ids : List ℕ) → Option Handed → CameNext → Type 0
+AddsCame ids None (nexts.On id came) = ⊥
+AddsCame ids None next = Unit {0}
+AddsCame ids (Some handed) (nexts.On id came) = IsAsCame id came handed
+AddsCame ids (Some handed) next = (i : ℕ) → Contains ids i → as_on i handed ≡ []
+
+-- What comes adds what was handed out, and nothing does where nothing comes.
+adds_same : (ids : List ℕ) (handed : Option Handed) (next : CameNext)
+    → HandsCame ids handed next → AddsCame ids handed next
+adds_same ids None (nexts.On id came) hands = absurd hands
+adds_same ids None nexts.Again hands = tt
+adds_same ids None nexts.Done hands = tt
+adds_same ids (Some handed) (nexts.On id came) hands = hands
+adds_same ids (Some handed) nexts.Again hands = λ i one. off_stream i handed (hands i one)
+adds_same ids (Some handed) nexts.Done hands = λ i one. off_stream i handed (hands i one)
+
+-- What says nothing adds nothing:
+adds_nothing : (ids : List ℕ) (handed : Option Handed) (next : CameNext)
+    → says_nothing next ≡ true → HandsCame ids handed next → AddsCame ids handed nexts.Again
+adds_nothing ids None next says hands = tt
+adds_nothing ids (Some handed) (nexts.On id (Part (parts.Interim list))) says hands =
+    λ i one. rw hands refl
+adds_nothing ids (Some handed) (nexts.On id (Part (parts.Body octets false))) says hands =
+    λ i one. rw hands (empty_on i id octets.items says)
+adds_nothing ids (Some handed) (nexts.On id (Part (parts.Body octets true))) says hands =
+    absurd (cc)
+adds_nothing ids (Some handed) (nexts.On id (Part (parts.Head list end))) says hands = absurd (cc)
+adds_nothing ids (Some handed) (nexts.On id (Part (parts.Trailers list))) says hands = absurd (cc)
+adds_nothing ids (Some handed) (nexts.On id (Dropped code)) says hands = absurd (cc)
+adds_nothing ids (Some handed) nexts.Again says hands = absurd (cc)
+adds_nothing ids (Some handed) nexts.Done says hands = absurd (cc)
+
+-- it is dropped.
+pub adds_came : (ids : List ℕ) (handed : Option Handed) (next : CameNext)
+    → HandsCame ids handed next → AddsCame ids handed (without_empty next)
+adds_came ids handed next hands = elim (cases_Bool (says_nothing next)) [
+  | inl says ↦ rw says (adds_nothing ids handed next says hands)
+  | inr some ↦ rw some (adds_same ids handed next hands)
+]
+
+-- Where all octets are used once that is dropped, they were before.
+pub still_done : (next : CameNext) → without_empty next ≡ nexts.Done → next ≡ nexts.Done
+still_done next is = elim (cases_Bool (says_nothing next)) [
+  | inl says ↦ let other : nexts.Again ≡ nexts.Done = rw says at is in absurd (cc)
+  | inr some ↦ rw some at is
+]
+
+-- What has come on a stream says something.
+abbrev pub SaysSome : ℕ → Came → Type 0
+SaysSome id came = says_nothing (nexts.On id came) ≡ false
+
+-- So does what isn't dropped.
+pub says_some : (next : CameNext) (stream : ℕ) (came : Came)
+    → without_empty next ≡ nexts.On stream came → SaysSome stream came
+says_some next stream came is = elim (cases_Bool (says_nothing next)) [
+  | inl says ↦ let other : nexts.Again ≡ nexts.On stream came = rw says at is in absurd (cc)
+  | inr some ↦
+      let same : next ≡ nexts.On stream came = rw some at is in
+      subst (λ (one : CameNext). says_nothing one ≡ false) same some
+]
+
+-- What was handed out last adds to its stream what has come there,
+pub handed_came : (i id : ℕ) (came : Came) (handed : Handed) (before : List Handed)
+    → SaysSome id came → IsAsCame id came handed
+    → all_on i (handed ∷ before) ≡ all_on i before ++ came_on id came i
+unfolding all_on
+handed_came i id (Part (parts.Interim list)) handed before final is = absurd (cc)
+handed_came i id (Part (parts.Head list end)) handed before final is = rw is refl
+handed_came i id (Part (parts.Body octets false)) handed before final is =
+    rw is (ap (λ (last : List OnStream). all_on i before ++ last)
+    (body_on i id octets.items final))
+handed_came i id (Part (parts.Body octets true)) handed before final is =
+    rw is (ap (λ (last : List OnStream). all_on i before ++ last) (last_on i id octets.items))
+handed_came i id (Part (parts.Trailers list)) handed before final is = rw is refl
+handed_came i id (Dropped code) handed before final (inl reset) = rw reset.1 refl
+handed_came i id (Dropped code) handed before final (inr left) = rw (left.1, left.0) refl
+
+-- and nothing to one where nothing has.
+handed_off : (i : ℕ) (handed : Handed) (before : List Handed) → as_on i handed ≡ []
     → all_on i (handed ∷ before) ≡ all_on i before
 unfolding all_on
 handed_off i handed before off =
-    ap (λ (last : List OnStream). all_on i before ++ last) (off_stream i handed off)
+    ap (λ (last : List OnStream). all_on i before ++ last) off
     ∙ append-nil (all_on i before)
 
 pub nothing_came : (ids : List ℕ) (next : CameNext) (count : ℕ) (handed : Option Handed)
-    (before : List Handed) {after : List Handed} → IsNothing next → HandsCame ids handed next
+    (before : List Handed) {after : List Handed} → IsNothing next → AddsCame ids handed next
     → after ≡ handed_after (EndTook count handed) before → (i : ℕ) → Contains ids i
     → all_on i after ≡ all_on i before
 nothing_came ids next count None before nothing hands same i one = ap (all_on i) same
@@ -114,7 +205,7 @@ nothing_came ids nexts.Done count (Some handed) before nothing hands same i one 
 -- Where something has come on a stream, it was handed out.
 pub something_came : (ids : List ℕ) (id : ℕ) (came : Came) {next : CameNext} (count : ℕ)
     (handed : Option Handed) (before : List Handed) {after : List Handed}
-    → next ≡ nexts.On id came → HandsCame ids handed next
+    → next ≡ nexts.On id came → AddsCame ids handed next
     → after ≡ handed_after (EndTook count handed) before
     → (one : Handed) × IsAsCame id came one × (after ≡ one ∷ before)
 something_came ids id came count None before is hands same = absurd (rw is at hands)

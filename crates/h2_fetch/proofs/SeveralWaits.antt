@@ -11,6 +11,7 @@ use Rattle.h2_fetch.specs.Several.{OnStream, AnsweredOn, AreComing, AskedOn, Cam
 use Rattle.h2_fetch.specs.Several.{IsFetchingSeveral, StopsAllFor, kept_on, several_unused}
 use Rattle.h2_fetch.specs.SeveralComings.{FilledSo, FillsSeveral, TakesNoneMore, TakesUntilCame}
 use Rattle.h2_fetch.specs.SeveralComings.{TookCame, WaitsFor, fails, lacks_memory, out_of_rounds}
+use Rattle.h2_fetch.specs.declared.sending.Credit.TheVariants.{On}
 use Rattle.h2_fetch.specs.declared.several.Came.{Came}
 use Rattle.h2_fetch.specs.declared.several.SeveralFetch.{SeveralFetch}
 use Rattle.h2_fetch.proofs.SeveralComings.{AreGoing, are_going}
@@ -73,13 +74,13 @@ module _ {values : Values} {start : Traffic} (before now : Traffic) {asked : Lis
     },
   )
 
-pub filled : (before now : Traffic) (old new : SeveralFetch)
+pub filled : (before now : Traffic) (old new : SeveralFetch) (id : ℕ)
     (result : Result (Unit {0}) LinkError) → new.ids ≡ old.ids → new.kept ≡ old.kept
     → new.used ≡ 0
-    → ReadsOver before now old.client.end new.client.end new.input.items result
+    → ReadsOver (On id) before now old.client.end new.client.end new.input.items result
     → FillsSeveral before now old new result
-filled before now old new result ids kept first reads values start asked end answered is empty =
-    let read = reads values (AsksSeveral asked) start end is.represents is.fetching
+filled before now old new id result ids kept first reads values start asked end answered is empty =
+    let read = reads values (AsksSeveral asked) start end is.represents is.fetching tt
     (subst (IsLinked start before end.log) empty is.linked) is.up in
     filled_so before now old new is ids (ap (λ queue. queue.items) kept) result first read
 

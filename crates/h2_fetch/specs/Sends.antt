@@ -1,6 +1,5 @@
 -- What a client that has made requests sends over a link, whatever has happened at it.
 use Rattle.std.specs.Prelude.{◌≡◌, ◌≢◌, ◌⊎◌, ◌<◌, List, ℕ, length, None, Result, Ok, Err, OnOk}
-use Rattle.h2_spec_log.specs.declared.refusal.Refusal.{Refusal}
 use Rattle.h2_spec_log.specs.declared.refusal.Refusal.TheVariants.{OutputFull}
 use Rattle.h2_spec_log.specs.Acts.{Values, Answer, Done, Refused, IsTypedAct, Release}
 use Rattle.h2_spec_log.specs.Log.{owed}
@@ -34,7 +33,7 @@ abbrev pub HasAsked : Values → Asking → EndLog → Type 0
 HasAsked values (AsksOne message) end = IsFetching values message end
 HasAsked values (AsksSeveral asked) end = IsFetchingSeveral values asked end
 
--- Whose credit may be given back on one stream alone: that of several requests.
+-- Whose credit may be returned on one stream alone: that of several requests.
 abbrev pub AllowsCredit : Credit → Asking → Type 0
 AllowsCredit (On id) (AsksOne message) = ⊥
 AllowsCredit credit asking = Unit {0}
@@ -57,40 +56,42 @@ pub data ReleasesOn (end : EndLog) (id : ℕ) (result : Result (Unit {0}) EndRef
       → after ≡ end_with_log end (with_call end.log (Release id (owed end.log id)) answer)
       → ReleasesOn end id result after
 
--- what giving credit back may have made of a client
+-- what returning credit may have made of a client
 -- rule: engines (own) A response that is waited for has its window, and no other
-abbrev pub MayGiveBack : Credit → EndLog → Result (Unit {0}) EndRefusal → EndLog → Type 0
-MayGiveBack All end result after = MayReleaseAll end result after
-MayGiveBack (On id) end result after = ReleasesOn end id result after
+abbrev pub MayReturnCredit : Credit → EndLog → Result (Unit {0}) EndRefusal → EndLog → Type 0
+MayReturnCredit All end result after = MayReleaseAll end result after
+MayReturnCredit (On id) end result after = ReleasesOn end id result after
 
-abbrev pub GivesBack : Credit → (old new : End) → Result (Unit {0}) EndRefusal → Type 0
-GivesBack credit old new result =
-    (values : Values) (end : EndLog) → EndRepresents values old end
-    → (after : EndLog) × MayGiveBack credit end result after × EndRepresents values new after
+-- Whatever has happened at a client, this credit is returned while the connection is up.
+abbrev pub ReturnsCredit : Credit → (old new : End) → Result (Unit {0}) EndRefusal → Type 0
+ReturnsCredit credit old new result =
+    (values : Values) (end : EndLog) → EndRepresents values old end → end.log.failed ≡ None
+    → (after : EndLog) × MayReturnCredit credit end result after × EndRepresents values new after
 
--- What a client has sent: while the connection is up this credit was given back, and what could be
+-- What a client has sent: while the connection is up this credit was returned, and what could be
 -- sent was, but for what a full output holds back, or as far as there was memory; once it has
 -- failed, nothing.
-pub data HasSentBack (credit : Credit) (before after : EndLog) : Result (Unit {0}) LinkError
+pub data HasSentWaiting (credit : Credit) (before after : EndLog) : Result (Unit {0}) LinkError
     → Type 0 where
   sends_nothing : before.log.failed ≢ None → after ≡ before
-      → HasSentBack credit before after (Ok tt)
+      → HasSentWaiting credit before after (Ok tt)
   sends_more : (middle : EndLog) (released : Result (Unit {0}) EndRefusal) (sent : ℕ)
-      → before.log.failed ≡ None → MayGiveBack credit before released middle
+      → before.log.failed ≡ None → MayReturnCredit credit before released middle
       → (released ≡ Ok tt) ⊎ (released ≡ Err (Conn OutputFull))
-      → MayPump middle (Ok sent) after → HasSentBack credit before after (Ok tt)
-  gives_none_back : (released : Result (Unit {0}) EndRefusal) (error : LinkError)
+      → MayPump middle (Ok sent) after → HasSentWaiting credit before after (Ok tt)
+  returns_none : (released : Result (Unit {0}) EndRefusal) (error : LinkError)
       → error ≡ errors.Memory → before.log.failed ≡ None
-      → MayGiveBack credit before released after → HasSentBack credit before after (Err error)
+      → MayReturnCredit credit before released after
+      → HasSentWaiting credit before after (Err error)
   pumps_no_more : (middle : EndLog) (released : Result (Unit {0}) EndRefusal)
       (sent : Result ℕ EndRefusal) (error : LinkError) → error ≡ errors.Memory
-      → before.log.failed ≡ None → MayGiveBack credit before released middle
-      → MayPump middle sent after → HasSentBack credit before after (Err error)
+      → before.log.failed ≡ None → MayReturnCredit credit before released middle
+      → MayPump middle sent after → HasSentWaiting credit before after (Err error)
 
 abbrev pub SendsCredit : Credit → (old new : End) → Result (Unit {0}) LinkError → Type 0
 SendsCredit credit old new result =
     (values : Values) (end : EndLog) → EndRepresents values old end
-    → (after : EndLog) × EndRepresents values new after × HasSentBack credit end after result
+    → (after : EndLog) × EndRepresents values new after × HasSentWaiting credit end after result
 
 -- What waits is written, or as far as that went, in a turn at least.
 abbrev pub WritesOver : (before now : Traffic) → (old new : End) → Result (Unit {0}) LinkError
@@ -108,7 +109,7 @@ StopsSending now end (Err errors.Memory) = IsOutOfMemory end.log
 StopsSending now end (Err errors.NoProgress) = HasStalled now end
 StopsSending now end result = Unit {0}
 
--- Credit was given back, what could go of the request was sent, and all of that was written, or as
+-- Credit was returned, what could go of the request was sent, and all of that was written, or as
 -- far as it went.
 pub record SentOver (values : Values) (asking : Asking) (start now : Traffic)
     (before : EndLog) (new : End) (unused : List ℕ) (result : Result (Unit {0}) LinkError) : Type 0

@@ -11,7 +11,8 @@ use Rattle.h2_message.specs.Messages.{SentMessage}
 use Rattle.h2_laws_pair.specs.Tokens.{at_once}
 use Rattle.h2_ends.specs.declared.refusal.EndRefusal.{EndRefusal}
 use Rattle.h2_ends.specs.declared.refusal.EndRefusal.TheVariants.{BadMessage, Conn}
-use Rattle.h2_ends.specs.Ends.{EndLog, EndAnswer, Handed, InterimHanded, Passed, said_for}
+use Rattle.h2_ends.specs.Ends.{EndLog, EndAnswer, Handed, BodyHanded, InterimHanded, Passed}
+use Rattle.h2_ends.specs.Ends.{said_for}
 use Rattle.h2_ends.specs.EndTakes.{EndMayTake, end_with_log}
 use Rattle.h2_ends.specs.EndCalls.{MayRequest, MayPump, MayReleaseAll}
 use Rattle.h2_ends.specs.Represents.{EndRepresents, new_end_log}
@@ -69,9 +70,11 @@ pub data OnStream : Type 0 where
   PartOn : (handed : Handed) → OnStream
   DropOn : (code : ℕ) → OnStream
 
--- what was handed out, where it has come on a stream; interim responses are dropped
+-- what was handed out, where it has come on a stream; interim responses are dropped, and parts of a
+-- body without octets that end nothing
 abbrev pub as_on : ℕ → Handed → List OnStream
 as_on i (InterimHanded id list) = []
+as_on i (BodyHanded id [] false) = []
 as_on i (Passed (ResetEvent id code ours)) = if id == i then DropOn code ∷ [] else []
 as_on i (Passed (UnprocessedEvent id)) = if id == i then DropOn refused_stream ∷ [] else []
 as_on i handed = if is_on i handed then PartOn handed ∷ [] else []

@@ -1,5 +1,6 @@
 -- What a call of `take` has made of a client that makes several requests.
-use Rattle.std.specs.Prelude.{◌≡◌, ◌≢◌, ◌⊎◌, ℕ, Bool, List, length, Option, Some, None, Result}
+use Rattle.std.specs.Prelude.{◌≡◌, ◌≢◌, ◌⊎◌, ◌==◌, ℕ, Bool, true, false, List, length, Option}
+use Rattle.std.specs.Prelude.{Some, None, Result, if◌then◌else◌}
 use Rattle.std.specs.Prelude.{Ok, Err}
 use Rattle.std.specs.List.{Contains}
 use Rattle.h2_spec_log.specs.Acts.{Values}
@@ -18,6 +19,7 @@ use Rattle.h2_engines.specs.ServerSteps.{ErrsServing}
 use Rattle.h2_fetch.specs.declared.coming.CameNext.{CameNext}
 use Rattle.h2_fetch.specs.declared.coming.CameNext.TheVariants as nexts
 use Rattle.h2_fetch.specs.declared.coming.CameTaken.{CameTaken}
+use Rattle.h2_fetch.specs.declared.part.ResponsePart.TheVariants as parts
 use Rattle.h2_fetch.specs.declared.several.Came.{Came}
 use Rattle.h2_fetch.specs.declared.several.Came.TheVariants.{Part, Dropped}
 use Rattle.h2_fetch.specs.Parts.{handed_of}
@@ -47,6 +49,17 @@ HandsCame ids None (nexts.On id came) = ⊥
 HandsCame ids None next = Unit {0}
 HandsCame ids (Some handed) (nexts.On id came) = IsAsCame id came handed
 HandsCame ids (Some handed) next = (i : ℕ) → Contains ids i → stream_of_handed handed ≢ Some i
+
+-- whether what has come says nothing: an interim response, or a part of a body without octets that
+-- ends nothing; no window bounds how many of them come
+abbrev pub says_nothing : CameNext → Bool
+says_nothing (nexts.On id (Part (parts.Interim list))) = true
+says_nothing (nexts.On id (Part (parts.Body octets false))) = length octets.items == 0
+says_nothing next = false
+
+-- what comes of octets, but for what says nothing, which is dropped
+abbrev pub without_empty : CameNext → CameNext
+without_empty next = if says_nothing next then nexts.Again else next
 
 -- what came of the octets that were handed to it: something on one of these streams, nothing with
 -- some octets left, or nothing and all of them used

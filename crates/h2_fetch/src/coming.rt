@@ -4,9 +4,10 @@ ghost use Rattle.std.specs.Prelude.{◌≡◌, ◌≢◌, ◌≤◌, IfErr, IfOk
 ghost use Rattle.h2_ends.specs.Loans.{event_handed};
 ghost use Rattle.h2_engines.specs.Failures.{IsOfClient};
 ghost use Rattle.h2_fetch.specs.SeveralTakes.{HandsCame, TakesCameOnce, stream_of_handed};
+ghost use Rattle.h2_fetch.specs.SeveralTakes.{says_nothing, without_empty};
 
 use crate::errors::unless_failed;
-use crate::part::part_of;
+use crate::part::{ResponsePart, part_of};
 use crate::several::Came;
 use h2_ends::{Client, Code, EndEvent, FieldList};
 use h2_link::LinkError;
@@ -60,6 +61,28 @@ pub(crate) fn take_came(
             let next = came_of(alloc, ids, event)?;
             Ok(CameTaken { used, next })
         }
+    }
+}
+
+/// What comes of octets, but for what says nothing, which is dropped.
+pub(crate) fn without_empty(next: CameNext) -> CameNext
+    ensures { result ≡ without_empty next }
+{
+    if says_nothing(&next) {
+        return CameNext::Again;
+    }
+    next
+}
+
+/// Whether what has come says nothing: an interim response, or a part of a body without octets that
+/// ends nothing. No window bounds how many of them come.
+fn says_nothing(next: &CameNext) -> bool
+    ensures { result ≡ says_nothing next.now }
+{
+    match next {
+        CameNext::On(_, Came::Part(ResponsePart::Interim { .. })) => true,
+        CameNext::On(_, Came::Part(ResponsePart::Body { octets, end: false })) => octets.is_empty(),
+        _ => false,
     }
 }
 

@@ -12,7 +12,7 @@ use h2_link::{Link, LinkError};
 /// How many octets are read at a time, at most.
 const PIECE: usize = 16_384;
 
-/// Gives this credit back, sends what could go, and reads a piece in the place of the one before,
+/// Returns this credit, sends what could go, and reads a piece in the place of the one before,
 /// all of which was used.
 pub(crate) fn read_piece<L: Link>(
     client: &mut Client,

@@ -6,7 +6,7 @@ ghost use Rattle.h2_engines.specs.Failures.{failures_by};
 ghost use Rattle.h2_engines.specs.Linked.{traffic};
 ghost use Rattle.h2_engines.specs.ServerSteps.{PumpsSome};
 ghost use Rattle.h2_fetch.specs.Reads.{EndsOver};
-ghost use Rattle.h2_fetch.specs.Sends.{GivesBack, SendsAllOver, SendsCredit, WritesOver};
+ghost use Rattle.h2_fetch.specs.Sends.{ReturnsCredit, SendsAllOver, SendsCredit, WritesOver};
 
 use crate::errors::unless_refused;
 use h2_ends::{Client, EndRefusal, Refusal};
@@ -14,7 +14,7 @@ use h2_engines::write_waiting;
 use h2_frame::limits::FULL_OUTPUT;
 use h2_link::{Link, LinkError};
 
-/// Which credit is given back before a read.
+/// Which credit is returned before a read.
 #[derive(Clone, Copy, Debug)]
 pub(crate) enum Credit {
     /// All that is owed.
@@ -24,7 +24,7 @@ pub(crate) enum Credit {
 }
 
 // rule: engines (own) Over a link credit is returned and what could be sent is sent
-/// Gives back what is owed, sends what waits of the requests, and writes all of that, until nothing
+/// Returns what is owed, sends what waits of the requests, and writes all of that, until nothing
 /// more could go.
 pub(crate) fn send_all<L: Link>(
     client: &mut Client,
@@ -51,8 +51,8 @@ pub(crate) fn send_all<L: Link>(
 }
 
 // rule: engines (own) Over a link credit is returned and what could be sent is sent
-/// Gives back what is owed and sends what waits of the requests, while the connection is up. What a
-/// full output holds back is given back later.
+/// Returns what is owed and sends what waits of the requests, while the connection is up. What a
+/// full output holds back is returned later.
 fn send_waiting(client: &mut Client, credit: Credit) -> Result<(), LinkError>
     ensures sends { SendsCredit credit client.old.end client.new.end result }
     ensures err { IfErr result IsOfCall }
@@ -60,7 +60,7 @@ fn send_waiting(client: &mut Client, credit: Credit) -> Result<(), LinkError>
     if client.conn().failed().is_some() {
         return Ok(());
     }
-    let released = give_back(client, credit);
+    let released = return_credit(client, credit);
     match released {
         Ok(()) | Err(EndRefusal::Conn(Refusal::OutputFull)) => pump(client),
         _ => unless_refused(released),
@@ -68,9 +68,9 @@ fn send_waiting(client: &mut Client, credit: Credit) -> Result<(), LinkError>
 }
 
 // rule: engines (own) A response that is waited for has its window, and no other
-/// Gives back what is owed: all of it, or that of one stream.
-fn give_back(client: &mut Client, credit: Credit) -> Result<(), EndRefusal>
-    ensures { GivesBack credit client.old.end client.new.end result }
+/// Returns what is owed while the connection is up: all of it, or that of one stream.
+fn return_credit(client: &mut Client, credit: Credit) -> Result<(), EndRefusal>
+    ensures { ReturnsCredit credit client.old.end client.new.end result }
 {
     match credit {
         Credit::All => client.release_all(),

@@ -7,7 +7,7 @@ ghost use Rattle.h2_engines.specs.Failures.{CutsOffAtEnd, IsOfClient, failures_a
 ghost use Rattle.h2_engines.specs.Linked.{traffic};
 
 use crate::asking::request_next;
-use crate::coming::{CameNext, take_came};
+use crate::coming::{CameNext, take_came, without_empty};
 use crate::kept::{keep, take_kept};
 use crate::part::ResponsePart;
 use crate::reading::read_piece;
@@ -30,7 +30,8 @@ pub enum Came {
 /// A client that makes several requests at once over a link, and answers the response of each part
 /// by part, of whichever stream is asked for. What comes of the others meanwhile is kept until it
 /// is asked for: no more of a body than a stream's window, since that is opened again only for the
-/// stream that is asked for. Interim responses are dropped.
+/// stream that is asked for. Interim responses and parts of a body without octets, which no window
+/// bounds, are dropped.
 ///
 /// The connection's window is 65,535 octets, and what is kept takes its part of that. So with `n`
 /// requests, the windows of streams ([`Config::initial_window`]) are to be 65,535 / `n` octets at
@@ -111,9 +112,9 @@ impl SeveralFetch {
     // contract: engines (own) Responses of several requests are what is handed out, each in order
     // rule: engines (own) Responses of several requests are what is handed out, each in order
     /// The next part of the response on a stream of its requests. Where none is there, what is owed
-    /// on that stream is released, what waits is written, and then the link is read. Nothing is to be asked
-    /// for after the part with which the response is whole, or after [`Came::Dropped`]. A link that
-    /// has failed isn't used any more.
+    /// on that stream is released, what waits is written, and then the link is read. Nothing is to
+    /// be asked for after the part with which the response is whole, or after [`Came::Dropped`]. A
+    /// link that has failed isn't used any more.
     ///
     /// # Errors
     ///
@@ -170,7 +171,7 @@ impl SeveralFetch {
             let piece = &self.input[self.used..];
             let taken = take_came(self.alloc, &mut self.client, &self.ids, piece)?;
             self.used += taken.used;
-            match taken.next {
+            match without_empty(taken.next) {
                 CameNext::On(stream, came) => {
                     if stream == id {
                         return Ok(Some(came));
@@ -184,7 +185,7 @@ impl SeveralFetch {
         Err(LinkError::NoProgress)
     }
 
-    /// Gives back what is owed on a stream, sends what could go, and reads a piece.
+    /// Returns what is owed on a stream, sends what could go, and reads a piece.
     fn refill<L: Link>(&mut self, id: u32, link: &mut L) -> Result<(), LinkError>
         requires { L.faults link.old < 2 ^ 64 - 1 }
         ensures fills { FillsSeveral

@@ -7,7 +7,7 @@ abbrev pub invariant-loop : goal.invariant-loop
 invariant-loop g l =
     record {
       failures : g.L.Link.faults l.link ≡ g.L.Link.faults l.initial.link;
-      sends : SendsFrom
+      sends : SendsFrom l.fn.credit
           (traffic (g.L.Link.given l.initial.link) (g.L.Link.taken l.initial.link)
           (g.L.Link.stalled l.initial.link))
           (traffic (g.L.Link.given l.link) (g.L.Link.taken l.link) (g.L.Link.stalled l.link))

@@ -5,4 +5,5 @@ use Rattle.h2_fetch.proofs.several.SeveralFetch.refill.Goals as goal
 
 pub returns-clause-fills : goal.returns-clause-fills
 returns-clause-fills g c =
-    filled _ _ c.args.self.now _ c.read_piece.result refl refl refl c.read_piece.ensures.reads
+    filled _ _ c.args.self.now _ c.args.id c.read_piece.result refl refl refl
+    c.read_piece.ensures.reads

@@ -1,8 +1,9 @@
 -- By the lemmas on how takes follow one another.
-use Rattle.h2_engines.proofs.Names.{refl, arith, ◌+◌, ◌≤◌, length, err_from_is_err_and}
+use Rattle.h2_engines.proofs.Names.{refl, sym, ◌∙◌, arith, ◌+◌, ◌≤◌, length, err_from_is_err_and}
 use Rattle.std.proofs.Common.{length-drop}
 use Rattle.h2_fetch.proofs.SeveralRounds.{came_first, next_came, next_done, next_failed}
 use Rattle.h2_fetch.proofs.SeveralRounds.{next_kept, next_lost, next_nothing, next_out}
+use Rattle.h2_fetch.proofs.SeveralTaking.{says_some}
 use Rattle.h2_fetch.proofs.several.SeveralFetch.take_next.Goals as goal
 use goal.{in-Again, in-On+else-stream-id+in_ok-keep-in-On}
 
@@ -25,14 +26,16 @@ returns-in-Done-clause-takes c =
     next_done c.args.self.now c.loop.self _ c.args.id c.loop.counter c.loop.invariant.takes refl
     c.in_ok-taken.taken refl refl
     (rw (c.deref.ensures.value, c.deref-in-loop.ensures.value) at c.in_ok-taken.ensures.takes)
-    c.in-Done.is refl
+    (sym c.without_empty.ensures ∙ c.in-Done.is) refl
 
 pub returns-then-stream-id-clause-takes : goal.returns-then-stream-id-clause-takes
 returns-then-stream-id-clause-takes c =
+    let next = sym c.without_empty.ensures ∙ c.in-On.is in
     next_came c.args.self.now c.loop.self _ c.args.id c.loop.counter c.loop.invariant.takes refl
     c.in_ok-taken.taken refl refl
     (rw (c.deref.ensures.value, c.deref-in-loop.ensures.value) at c.in_ok-taken.ensures.takes)
-    c.in-On.stream _ (rw c.in-On.is refl) c.if-stream-id.true refl
+    c.in-On.stream c.in-On.came next
+    (says_some c.in_ok-taken.taken.next c.in-On.stream c.in-On.came next) c.if-stream-id.true refl
 
 pub loop-preserved : goal.loop-preserved
 loop-preserved c =
@@ -44,24 +47,28 @@ loop-preserved c =
       c.deref.ensures.len,
       length-drop c.loop.self.used c.loop.self.input.items,
     ) in
-    elim c.match-taken.branch [
-      | in-On+else-stream-id+in_ok-keep-in-On w ↦ rw w.self-is (record {
-        within = within;
-        streams = c.loop.invariant.streams;
-        takes = next_kept c.args.self.now c.loop.self _ c.args.id c.loop.counter
-            c.loop.invariant.takes refl c.in_ok-taken.taken refl refl
-            (rw (c.deref.ensures.value, c.deref-in-loop.ensures.value)
-            at c.in_ok-taken.ensures.takes)
-            w.in-On.stream _ (rw w.in-On.is refl) w.if-stream-id.false
-            w.in_ok-keep-in-On.ensures.ok;
-      })
+    elim c.match-without_empty.branch [
+      | in-On+else-stream-id+in_ok-keep-in-On w ↦
+          let next = sym c.without_empty.ensures ∙ w.in-On.is in
+          rw w.self-is (record {
+            within = within;
+            streams = c.loop.invariant.streams;
+            takes = next_kept c.args.self.now c.loop.self _ c.args.id c.loop.counter
+                c.loop.invariant.takes refl c.in_ok-taken.taken refl refl
+                (rw (c.deref.ensures.value, c.deref-in-loop.ensures.value)
+                at c.in_ok-taken.ensures.takes)
+                w.in-On.stream w.in-On.came next
+                (says_some c.in_ok-taken.taken.next w.in-On.stream w.in-On.came next)
+                w.if-stream-id.false w.in_ok-keep-in-On.ensures.ok;
+          })
       | in-Again w ↦ rw w.self-is (record {
         within = within;
         streams = c.loop.invariant.streams;
         takes = next_nothing c.args.self.now c.loop.self _ c.args.id c.loop.counter
             c.loop.invariant.takes refl c.in_ok-taken.taken refl refl
             (rw (c.deref.ensures.value, c.deref-in-loop.ensures.value)
-            at c.in_ok-taken.ensures.takes) (rw w.in-Again.is tt) refl;
+            at c.in_ok-taken.ensures.takes)
+            (rw (sym c.without_empty.ensures ∙ w.in-Again.is) tt) refl;
       })
     ]
 
@@ -69,11 +76,13 @@ pub returns-in_err-keep-in-On-clause-takes : goal.returns-in_err-keep-in-On-clau
 returns-in_err-keep-in-On-clause-takes c =
     let answer = err_from_is_err_and c.from_residual-in_err-keep-in-On.result
     c.from_residual-in_err-keep-in-On.ensures.1 in
+    let next = sym c.without_empty.ensures ∙ c.in-On.is in
     rw (answer.1, answer.2) (next_lost c.args.self.now c.loop.self _ c.args.id c.loop.counter
     c.loop.invariant.takes refl c.in_ok-taken.taken refl refl
     (rw (c.deref.ensures.value, c.deref-in-loop.ensures.value) at c.in_ok-taken.ensures.takes)
-    c.in-On.stream c.in-On.came c.in-On.is c.if-stream-id.false
-    c.in_err-keep-in-On.ensures.err)
+    c.in-On.stream c.in-On.came next
+    (says_some c.in_ok-taken.taken.next c.in-On.stream c.in-On.came next)
+    c.if-stream-id.false c.in_err-keep-in-On.ensures.err)
 
 pub returns-clause-takes : goal.returns-clause-takes
 returns-clause-takes c =
