@@ -10,12 +10,13 @@ use Rattle.std.proofs.lemmas.List.{length-map, map-append}
 use Rattle.std.specs.Io.KnownBytes.{Appends}
 use Rattle.std.specs.List.{Contains}
 use Rattle.hpack.specs.declared.types.field.Field.{Field}
-use Rattle.h2_spec_log.specs.Acts.{Values, Number, PutOut}
+use Rattle.h2_spec_log.specs.Acts.{Values, Number, PutOut, Release}
 use Rattle.h2_spec_log.specs.Events.{ResetEvent, UnprocessedEvent}
 use Rattle.h2_laws_pair.specs.Tokens.{at_once}
 use Rattle.h2_ends.specs.EndCalls.{MayAsk, opened_with}
 use Rattle.h2_ends.specs.EndTakes.{EndMayTake}
-use Rattle.h2_ends.specs.Ends.{EndAnswer, EndFailed, EndLog, EndTook, Handed, Passed}
+use Rattle.h2_ends.specs.Ends.{EndAnswer, EndFailed, EndLog, EndTook, Handed, InterimHanded}
+use Rattle.h2_ends.specs.Ends.{Passed}
 use Rattle.h2_link.specs.declared.error.LinkError.{LinkError}
 use Rattle.h2_link.specs.declared.error.LinkError.TheVariants as errors
 use Rattle.h2_engines.specs.Linked.{Traffic}
@@ -29,7 +30,8 @@ use Rattle.h2_fetch.specs.declared.several.SeveralFetch.{SeveralFetch}
 use Rattle.h2_fetch.specs.Parts.{handed_of, is_on}
 use Rattle.h2_fetch.specs.Several.{AnsweredOn, AnswersNextOn, AreComing, AskedOn, CameSo, DropOn}
 use Rattle.h2_fetch.specs.Several.{HaveStopped, IsFetchingSeveral, OnStream, PartOn, all_on, as_on}
-use Rattle.h2_fetch.specs.Several.{begins, gives_out, kept_on, pumps, releases, requests, takes}
+use Rattle.h2_fetch.specs.Several.{begins, gives_out, kept_on, pumps, releases, releases_on}
+use Rattle.h2_fetch.specs.Several.{requests, takes}
 use Rattle.h2_get.specs.declared.pass_error.PassError.{PassError}
 use Rattle.h2_get.specs.declared.pass_error.PassError.TheVariants as passes
 use Rattle.h2_get.specs.declared.pass_error.Passed.TheVariants.{Whole}
@@ -175,6 +177,8 @@ handed_within (requests {end = before} was id message may) =
 handed_within (takes was piece answer may) = take_within answer may (handed_within was)
 handed_within (releases {end = before} {after = after} was result may) =
     released_keeps IsWithinTurns calls_within before result after may (handed_within was)
+handed_within (releases_on {end = before} was id count answer typed may) =
+    omega (arith, handed_within was, turns_of_call before.log (Release id count) answer)
 handed_within (pumps {end = before} {after = after} was result may) =
     pumped_keeps IsWithinTurns calls_within before result after may (handed_within was)
 handed_within (gives_out {end = before} was count answer typed may) =
@@ -185,6 +189,7 @@ one_at_most true one = omega arith
 one_at_most false one = omega arith
 
 on_one : (id : ℕ) (one : Handed) → length (as_on id one) ≤ 1
+on_one id (InterimHanded i list) = omega arith
 on_one id (Passed (ResetEvent i code ours)) = one_at_most (i == id) (DropOn code)
 on_one id (Passed (UnprocessedEvent i)) = one_at_most (i == id) (DropOn refused_stream)
 on_one id one = one_at_most (is_on id one) (PartOn one)

@@ -2,3 +2,4 @@
 -- otherwise is refused.
 pub mod AskedFor
 pub mod PrintedLines
+pub mod StreamWindows
