@@ -15,8 +15,8 @@ use Rattle.h2_spec_log.specs.Events.{ResetEvent, UnprocessedEvent}
 use Rattle.h2_laws_pair.specs.Tokens.{at_once}
 use Rattle.h2_ends.specs.EndCalls.{MayAsk, opened_with}
 use Rattle.h2_ends.specs.EndTakes.{EndMayTake}
-use Rattle.h2_ends.specs.Ends.{EndAnswer, EndFailed, EndLog, EndTook, Handed, InterimHanded}
-use Rattle.h2_ends.specs.Ends.{Passed}
+use Rattle.h2_ends.specs.Ends.{BodyHanded, EndAnswer, EndFailed, EndLog, EndTook, Handed}
+use Rattle.h2_ends.specs.Ends.{InterimHanded, Passed}
 use Rattle.h2_link.specs.declared.error.LinkError.{LinkError}
 use Rattle.h2_link.specs.declared.error.LinkError.TheVariants as errors
 use Rattle.h2_engines.specs.Linked.{Traffic}
@@ -190,6 +190,12 @@ one_at_most false one = omega arith
 
 on_one : (id : ℕ) (one : Handed) → length (as_on id one) ≤ 1
 on_one id (InterimHanded i list) = omega arith
+on_one id (BodyHanded i [] false) = omega arith
+on_one id (BodyHanded i [] true) =
+    one_at_most (is_on id (BodyHanded i [] true)) (PartOn (BodyHanded i [] true))
+on_one id (BodyHanded i (octet ∷ octets) end) =
+    one_at_most (is_on id (BodyHanded i (octet ∷ octets) end))
+    (PartOn (BodyHanded i (octet ∷ octets) end))
 on_one id (Passed (ResetEvent i code ours)) = one_at_most (i == id) (DropOn code)
 on_one id (Passed (UnprocessedEvent i)) = one_at_most (i == id) (DropOn refused_stream)
 on_one id one = one_at_most (is_on id one) (PartOn one)
