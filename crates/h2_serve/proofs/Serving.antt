@@ -223,7 +223,8 @@ module _ {H W : Type 0} {rel : Relations H W} {begin : Beginning H} where
         taken = is.taken;
         untaken = is.untaken;
         has = subst (λ (given : List ℕ). HasHandled rel begin (is.used ++ []) given after
-            (handling_of new.exchanges)) (append-nil (is.taken ++ is.untaken)) (has_more is.has made);
+            (handling_of new.exchanges)) (append-nil (is.taken ++ is.untaken))
+            (has_more is.has made);
         represents = there;
         input = subst (λ (used : List ℕ). Appends begin.start.given now.given (used ++ is.unused))
             (sym (append-nil is.used)) is.input;

@@ -2,7 +2,8 @@
 use Rattle.h2_engines.proofs.Names
 use Names.{◌≡◌, ℕ, List, [], ◌++◌, length, take, drop, Ok, Err, Result, refl, sym, ap, ◌∙◌}
 use Names.{subst, append-nil, append_assoc, arith, take-append-drop, drop-take, drop-append_seam}
-use Names.{Appends, Appends-nil, Appends-trans, Answer, Count, PutOut, Refusal, Values, Log, End, EndLog}
+use Names.{Appends, Appends-nil, Appends-trans, Answer, Count, PutOut, Refusal, Values, Log, End}
+use Names.{EndLog}
 use Names.{EndAnswers, EndRepresents, EndsWriting, LinkError, Traffic, answer_by, end_with_log}
 use Names.{given_out, with_call, ConnRepresents, false, log_view, returns_before_put_out, IsOk}
 use Rattle.h2_engines.proofs.ResponderEnds.{given_within}
