@@ -1,11 +1,11 @@
 -- What has happened at a server with its handler, and over its link.
 -- contract: h2_serve::serve_handler
-use Rattle.std.specs.Prelude.{◌≡◌, ◌⊎◌, ℕ, List, [], ◌++◌, true, false, None, Some, Result, Ok, Err}
+use Rattle.std.specs.Prelude.{◌≡◌, ℕ, List, [], ◌++◌, Some, Result, Ok, Err}
 use Rattle.std.specs.Io.KnownBytes.{Appends}
 use Rattle.h2_frame.specs.declared.code.Code.{Code}
 use Rattle.h2_spec_log.specs.declared.role.Role.TheVariants.{Server}
 use Rattle.h2_spec_log.specs.Acts.{Values}
-use Rattle.h2_spec_log.specs.Log.{Log, active, waiting}
+use Rattle.h2_spec_log.specs.Log.{Log, waiting}
 use Rattle.h2_ends.specs.Ends.{EndLog}
 use Rattle.h2_ends.specs.Represents.{EndRepresents, new_end_log}
 use Rattle.h2_link.specs.declared.error.LinkError.{LinkError}

@@ -60,6 +60,9 @@ pub fn serve_handler<W: Drop, H: Handler<Work = W>, L: Link>(
     handled.close();
     driven?;
     let conn = handled.conn();
+    if let Some(code) = conn.failed() {
+        return Err(error_of_code(code));
+    }
     if conn.held() > 0 || conn.next_live(0).is_some() {
         return Err(LinkError::CutOff);
     }
@@ -177,11 +180,14 @@ fn end_for<W: Drop, H: Handler<Work = W>, L: Link>(
     if stop == Stop::TooManyResets {
         handled.fail(Code::EnhanceYourCalm);
     }
-    let Some(code) = handled.conn().failed() else {
+    if handled.conn().failed().is_none() {
         return LinkError::Memory;
-    };
-    match write_out(handled, link) {
-        Ok(()) => error_of_code(code),
-        Err(unwritten) => unwritten,
+    }
+    if let Err(unwritten) = write_out(handled, link) {
+        return unwritten;
+    }
+    match handled.conn().failed() {
+        Some(code) => error_of_code(code),
+        None => LinkError::Memory,
     }
 }
