@@ -23,7 +23,7 @@ pub serving_first : {H W : Type 0} {rel : Relations H W} (begin : Beginning H)
     (handled : Handled H W)
     → EndRepresents begin.values handled.server.end (new_end_log Server begin.values)
     → handling_of handled.exchanges ≡ handling_first begin.handler
-    → IsServing rel begin begin.start [] handled
+    → IsServing rel begin false begin.start [] handled
 serving_first begin handled represents first = record {
   after = new_end_log Server begin.values;
   used = [];
@@ -68,7 +68,7 @@ none_failed None never = refl
 none_failed (Some code) never = absurd (never code refl)
 
 module _ {H W : Type 0} {rel : Relations H W} {begin : Beginning H} {now : Traffic}
-    (handled : Handled H W) (is : HasWritten rel begin now [] handled)
+    (handled : Handled H W) (is : HasWritten rel begin false now [] handled)
     (emptied : IsEmptied (handling_of handled.exchanges)) where
   -- What the connection answers of itself is so of what has happened at it.
   conn_is : ConnRepresents begin.values handled.server.end.conn is.serving.after.log
@@ -115,13 +115,13 @@ module _ {H W : Type 0} {rel : Relations H W} {begin : Beginning H} {now : Traff
             (lives begin.values is.serving.after.log conn_is) some).1 up_is)
 
         -- or all has come to rest.
-        pub served_all : (count held : ℕ)
+        pub served_all : (count held : ℕ) → count ≡ handled.exchanges.totals.requests
             → ((values : Values) (log : Log) → ConnRepresents values handled.server.end.conn log
             → held ≡ reader_held log) → held ≤ 0 → is_some next ≡ false
             → HasServed rel begin now (Ok count)
         unfolding FinishedSo
-        served_all count held reads few rest =
+        served_all count held counted reads few rest =
             is_served count handled is emptied
             ((finishes_at_rest is.serving.after 0
             (reads begin.values is.serving.after.log conn_is)
-            (lives begin.values is.serving.after.log conn_is) few rest).1 up_is)
+            (lives begin.values is.serving.after.log conn_is) few rest).1 up_is) counted

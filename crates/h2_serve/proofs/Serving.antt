@@ -1,6 +1,6 @@
 -- What steps of a server with its handler make of how it is served over a link.
 use Rattle.h2_engines.proofs.Names
-use Names.{◌≡◌, ◌≤◌, ◌+◌, ℕ, List, [], ◌++◌, length, take, drop, Err, Some, refl, sym, ap}
+use Names.{◌≡◌, ◌≤◌, ◌+◌, ℕ, Bool, true, false, List, [], ◌++◌, length, take, drop, Err, Some, refl, sym, ap}
 use Names.{drop-drop, drop_all}
 use Names.{◌∙◌, subst, append-nil, append_assoc, take-append-drop, Appends, Appends-trans, Code}
 use Names.{End, EndLog, EndRepresents, EndsWriting, IsOfCall, LinkError, Log, Traffic, error_with}
@@ -12,7 +12,7 @@ use Rattle.h2_handlers.specs.declared.handled.Handled.{Handled}
 use Rattle.h2_handlers.specs.declared.stop.Stop.{Stop}
 use Rattle.h2_handlers.specs.Exchanges.{Handling, Relations, handling_of}
 use Rattle.h2_handlers.specs.Steps.{Handles, HandlesPiece, Steps}
-use Rattle.h2_handlers.proofs.StepsMade.{steps_then}
+use Rattle.h2_handlers.proofs.StepsMade.{steps_losing, steps_may_lose, steps_then}
 use Rattle.h2_serve.specs.Serving.{Beginning, HasHandled, HasStoppedServing, HasWritten, IsServing}
 use Rattle.h2_serve.specs.Serving.{StopsServingFor}
 
@@ -42,7 +42,12 @@ same_so : (before after : Log) (untaken : List ℕ) (error : LinkError)
     → StopsServingFor before untaken error → StopsServingFor after untaken error
 same_so before after untaken (errors.Stream number) failed waits so =
     let (code, was, is) = so.0 in ((code, failed ∙ was, is), waits ∙ so.1, so.2)
-same_so before after untaken other failed waits so = tt
+same_so before after untaken errors.Device failed waits so = tt
+same_so before after untaken errors.Memory failed waits so = tt
+same_so before after untaken errors.NoProgress failed waits so = tt
+same_so before after untaken errors.CutOff failed waits so = absurd so
+same_so before after untaken errors.Refused failed waits so = absurd so
+same_so before after untaken (errors.Reset number) failed waits so = absurd so
 
 -- What waits is what was written and not given out.
 waits_as : (log : Log) → waiting log ≡ length (drop log.given log.written)
@@ -69,30 +74,48 @@ same_waits end {one} {two} first second =
 abbrev pub ServesFrom : {H W : Type 0} → Relations H W → (before now : Traffic)
     → (old new : Handled H W) → Type 0
 ServesFrom {H} rel before now old new =
-    (begin : Beginning H) (unused : List ℕ) → IsServing rel begin before unused old
-    → IsServing rel begin now unused new
+    (begin : Beginning H) (loses : Bool) (unused : List ℕ)
+    → IsServing rel begin loses before unused old → IsServing rel begin loses now unused new
 
--- The same, where these octets were unused, and now these are.
+-- Where nothing was lost, and these octets were unused, it is still so, and now these are.
 abbrev pub TakesFrom : {H W : Type 0} → Relations H W → (before now : Traffic)
     → (old new : Handled H W) → (piece unused : List ℕ) → Type 0
 TakesFrom {H} rel before now old new piece unused =
-    (begin : Beginning H) → IsServing rel begin before piece old
-    → IsServing rel begin now unused new
+    (begin : Beginning H) → IsServing rel begin false before piece old
+    → IsServing rel begin false now unused new
 
 module _ {H W : Type 0} {rel : Relations H W} {begin : Beginning H} where
   -- More steps were made.
-  pub has_more : {used given more_used more_given : List ℕ} {mid after : EndLog}
-      {a b : Handling H W} → HasHandled rel begin used given mid a
-      → Steps rel after b more_used more_given mid a
-      → HasHandled rel begin (used ++ more_used) (given ++ more_given) after b
+  pub has_more : {loses : Bool} {used given more_used more_given : List ℕ} {mid after : EndLog}
+      {a b : Handling H W} → HasHandled rel begin loses used given mid a
+      → Steps rel loses after b more_used more_given mid a
+      → HasHandled rel begin loses (used ++ more_used) (given ++ more_given) after b
   has_more has then = record { steps = steps_then has.steps then }
 
+  -- The same though something may be lost.
+  pub has_lost : {loses : Bool} {used given : List ℕ} {after : EndLog} {a : Handling H W}
+      → HasHandled rel begin loses used given after a → HasHandled rel begin true used given after a
+  has_lost has = record { steps = steps_may_lose has.steps }
+
+  pub serving_lost : {loses : Bool} {now : Traffic} {handled : Handled H W} {unused : List ℕ}
+      → IsServing rel begin loses now unused handled → IsServing rel begin true now unused handled
+  serving_lost is = record {
+    after = is.after;
+    used = is.used;
+    given = is.given;
+    has = has_lost is.has;
+    represents = is.represents;
+    input = is.input;
+    output = is.output;
+  }
+
   -- They have used the first of the octets that weren't used, and given none out.
-  serving_after : {now : Traffic} {old new : Handled H W} {unused : List ℕ}
-      (is : IsServing rel begin now unused old) (used rest : List ℕ) → unused ≡ used ++ rest
+  serving_after : {loses : Bool} {now : Traffic} {old new : Handled H W} {unused : List ℕ}
+      (is : IsServing rel begin loses now unused old) (used rest : List ℕ) → unused ≡ used ++ rest
       → (after : EndLog)
-      → Steps rel after (handling_of new.exchanges) used [] is.after (handling_of old.exchanges)
-      → EndRepresents begin.values new.server.end after → IsServing rel begin now rest new
+      → Steps rel loses after (handling_of new.exchanges) used [] is.after
+      (handling_of old.exchanges)
+      → EndRepresents begin.values new.server.end after → IsServing rel begin loses now rest new
   serving_after {now} is used rest split after made there = record {
     after = after;
     used = is.used ++ used;
@@ -105,50 +128,61 @@ module _ {H W : Type 0} {rel : Relations H W} {begin : Beginning H} where
     output = subst (Appends begin.start.taken now.taken) (sym (append-nil is.given)) is.output;
   }
 
+  -- The same, where something may be lost then.
+  lost_after : {loses : Bool} {now : Traffic} {old new : Handled H W} {unused : List ℕ}
+      (is : IsServing rel begin loses now unused old) (used rest : List ℕ) → unused ≡ used ++ rest
+      → (after : EndLog)
+      → Steps rel true after (handling_of new.exchanges) used [] is.after
+      (handling_of old.exchanges)
+      → EndRepresents begin.values new.server.end after → IsServing rel begin true now rest new
+  unfolding serving_lost
+  lost_after is used rest split after made there =
+      serving_after (serving_lost is) used rest split after made there
+
   -- No octets were used;
-  pub serving_on : {now : Traffic} {old new : Handled H W} {unused : List ℕ}
+  pub serving_on : {loses : Bool} {now : Traffic} {old new : Handled H W} {unused : List ℕ}
       → Handles rel [] old.server.end (handling_of old.exchanges) new.server.end
-      (handling_of new.exchanges) → IsServing rel begin now unused old
-      → IsServing rel begin now unused new
+      (handling_of new.exchanges) → IsServing rel begin loses now unused old
+      → IsServing rel begin loses now unused new
   serving_on {unused} handles is =
       let (after, made, there) = handles begin.values is.after is.represents in
-      serving_after is [] unused refl after made there
+      serving_after is [] unused refl after (steps_losing _ made) there
 
   -- or so many of those that were left of a piece,
-  pub serving_next : {now : Traffic} {old new : Handled H W} (piece : List ℕ) (used count : ℕ)
+  pub serving_next : {loses : Bool} {now : Traffic} {old new : Handled H W} (piece : List ℕ) (used count : ℕ)
       → Handles rel (take count (drop used piece)) old.server.end (handling_of old.exchanges)
-      new.server.end (handling_of new.exchanges) → IsServing rel begin now (drop used piece) old
-      → IsServing rel begin now (drop (used + count) piece) new
-  serving_next {now} {new = new} piece used count handles is =
+      new.server.end (handling_of new.exchanges) → IsServing rel begin loses now (drop used piece) old
+      → IsServing rel begin loses now (drop (used + count) piece) new
+  serving_next {loses} {now} {new = new} piece used count handles is =
       let (after, made, there) = handles begin.values is.after is.represents in
       let first = serving_after is (take count (drop used piece)) (drop count (drop used piece))
-      (sym (take-append-drop count (drop used piece))) after made there in
-      subst (λ (unused : List ℕ). IsServing rel begin now unused new) (drop-drop count used piece)
+      (sym (take-append-drop count (drop used piece))) after (steps_losing _ made) there in
+      subst (λ (unused : List ℕ). IsServing rel begin loses now unused new) (drop-drop count used piece)
       first
 
   -- which may be all,
-  pub serving_all : {now : Traffic} {handled : Handled H W} (piece : List ℕ) {used : ℕ}
-      → length piece ≤ used → IsServing rel begin now (drop used piece) handled
-      → IsServing rel begin now [] handled
-  serving_all {now} {handled} piece {used} all is =
-      subst (λ (unused : List ℕ). IsServing rel begin now unused handled) (drop_all used piece all)
+  pub serving_all : {loses : Bool} {now : Traffic} {handled : Handled H W} (piece : List ℕ) {used : ℕ}
+      → length piece ≤ used → IsServing rel begin loses now (drop used piece) handled
+      → IsServing rel begin loses now [] handled
+  serving_all {loses} {now} {handled} piece {used} all is =
+      subst (λ (unused : List ℕ). IsServing rel begin loses now unused handled) (drop_all used piece all)
       is
 
   -- or some, after which the connection can't go on.
   pub serving_some : {now : Traffic} {old new : Handled H W} (piece : List ℕ) (stop : Stop)
       → HandlesPiece rel piece old.server.end (handling_of old.exchanges) new.server.end
-      (handling_of new.exchanges) (Err stop) → IsServing rel begin now piece old
-      → (rest : List ℕ) × IsServing rel begin now rest new
+      (handling_of new.exchanges) (Err stop) → IsServing rel begin false now piece old
+      → (rest : List ℕ) × IsServing rel begin true now rest new
   serving_some piece stop handles is =
       let (used, rest, split, (after, made, there)) =
       handles begin.values is.after is.represents in
-      (rest, serving_after is used rest split after made there)
+      (rest, lost_after is used rest split after (steps_may_lose made) there)
 
   -- Octets have gone over the link since: it gave these, and took none.
-  pub serving_read : {middle : Traffic} (now : Traffic) {handled : Handled H W}
+  pub serving_read : {loses : Bool} {middle : Traffic} (now : Traffic) {handled : Handled H W}
       (octets : List ℕ) → Appends middle.given now.given octets
-      → Appends middle.taken now.taken [] → IsServing rel begin middle [] handled
-      → IsServing rel begin now octets handled
+      → Appends middle.taken now.taken [] → IsServing rel begin loses middle [] handled
+      → IsServing rel begin loses now octets handled
   serving_read {middle} now octets gives none is = record {
     after = is.after;
     used = is.used;
@@ -163,16 +197,16 @@ module _ {H W : Type 0} {rel : Relations H W} {begin : Beginning H} where
   }
 
   -- Where all was written it still is.
-  pub written_read : {middle : Traffic} (now : Traffic) {handled : Handled H W}
+  pub written_read : {loses : Bool} {middle : Traffic} (now : Traffic) {handled : Handled H W}
       → Appends middle.given now.given [] → Appends middle.taken now.taken []
-      → HasWritten rel begin middle [] handled → HasWritten rel begin now [] handled
+      → HasWritten rel begin loses middle [] handled → HasWritten rel begin loses now [] handled
   unfolding serving_read
   written_read now gives none is =
       record { serving = serving_read now [] gives none is.serving; all = is.all }
 
   -- It is served no more, by what ends a write;
-  pub stops_so : {now : Traffic} {handled : Handled H W} {unused : List ℕ} (error : LinkError)
-      → EndsWriting error → IsServing rel begin now unused handled
+  pub stops_so : {loses : Bool} {now : Traffic} {handled : Handled H W} {unused : List ℕ} (error : LinkError)
+      → EndsWriting error → IsServing rel begin loses now unused handled
       → HasStoppedServing rel begin now handled error
   stops_so {handled} {unused} error writing is = record {
     after = is.after;
@@ -180,8 +214,8 @@ module _ {H W : Type 0} {rel : Relations H W} {begin : Beginning H} where
     unused = unused;
     taken = is.given;
     untaken = [];
-    has = subst (λ (given : List ℕ). HasHandled rel begin is.used given is.after
-        (handling_of handled.exchanges)) (sym (append-nil is.given)) is.has;
+    has = subst (λ (given : List ℕ). HasHandled rel begin true is.used given is.after
+        (handling_of handled.exchanges)) (sym (append-nil is.given)) (has_lost is.has);
     represents = is.represents;
     input = is.input;
     output = is.output;
@@ -189,8 +223,8 @@ module _ {H W : Type 0} {rel : Relations H W} {begin : Beginning H} where
   }
 
   -- or by the code with which the connection has failed, once all was written.
-  pub stops_failed : {now : Traffic} {handled : Handled H W} {unused : List ℕ} (code : Code)
-      (is : HasWritten rel begin now unused handled) → is.serving.after.log.failed ≡ Some code
+  pub stops_failed : {loses : Bool} {now : Traffic} {handled : Handled H W} {unused : List ℕ} (code : Code)
+      (is : HasWritten rel begin loses now unused handled) → is.serving.after.log.failed ≡ Some code
       → HasStoppedServing rel begin now handled (error_with code)
   stops_failed {handled} {unused} code is failed =
       let serving = is.serving in record {
@@ -199,8 +233,8 @@ module _ {H W : Type 0} {rel : Relations H W} {begin : Beginning H} where
         unused = unused;
         taken = serving.given;
         untaken = [];
-        has = subst (λ (given : List ℕ). HasHandled rel begin serving.used given serving.after
-            (handling_of handled.exchanges)) (sym (append-nil serving.given)) serving.has;
+        has = subst (λ (given : List ℕ). HasHandled rel begin true serving.used given serving.after
+            (handling_of handled.exchanges)) (sym (append-nil serving.given)) (has_lost serving.has);
         represents = serving.represents;
         input = serving.input;
         output = serving.output;
@@ -222,9 +256,9 @@ module _ {H W : Type 0} {rel : Relations H W} {begin : Beginning H} where
         unused = is.unused;
         taken = is.taken;
         untaken = is.untaken;
-        has = subst (λ (given : List ℕ). HasHandled rel begin (is.used ++ []) given after
+        has = subst (λ (given : List ℕ). HasHandled rel begin true (is.used ++ []) given after
             (handling_of new.exchanges)) (append-nil (is.taken ++ is.untaken))
-            (has_more is.has made);
+            (has_more is.has (steps_may_lose made));
         represents = there;
         input = subst (λ (used : List ℕ). Appends begin.start.given now.given (used ++ is.unused))
             (sym (append-nil is.used)) is.input;
@@ -235,11 +269,11 @@ module _ {H W : Type 0} {rel : Relations H W} {begin : Beginning H} where
       }
 
   -- and so that all was written.
-  pub written_on : {now : Traffic} {old new : Handled H W} {unused : List ℕ}
+  pub written_on : {loses : Bool} {now : Traffic} {old new : Handled H W} {unused : List ℕ}
       → new.server ≡ old.server
       → Handles rel [] old.server.end (handling_of old.exchanges) new.server.end
-      (handling_of new.exchanges) → HasWritten rel begin now unused old
-      → HasWritten rel begin now unused new
+      (handling_of new.exchanges) → HasWritten rel begin loses now unused old
+      → HasWritten rel begin loses now unused new
   written_on {new} same handles is =
       let on = serving_on handles is.serving in
       let before = rw (← same) at is.serving.represents in record {

@@ -1,6 +1,7 @@
 -- What writing to a link what waits makes of how a connection is served.
 use Rattle.h2_engines.proofs.Names
-use Names.{◌≡◌, ℕ, List, [], ◌++◌, length, take, drop, Ok, Err, Result, refl, sym, ap, ◌∙◌}
+use Names.{Bool, true, ◌≡◌, ℕ, List, [], ◌++◌, length, take, drop, Ok, Err, Result, refl, sym}
+use Names.{ap, ◌∙◌}
 use Names.{subst, append-nil, append_assoc, arith, take-append-drop, drop-take, drop-append_seam}
 use Names.{Appends, Appends-nil, Appends-trans, Answer, Count, PutOut, Refusal, Values, Log, End}
 use Names.{EndLog}
@@ -12,11 +13,11 @@ use Rattle.h2_engines.proofs.ResponderWrites.{LendsAll, most}
 use Rattle.h2_engines.proofs.WithoutLinkOutput.{consumes_all}
 use Rattle.h2_handlers.specs.declared.handled.Handled.{Handled}
 use Rattle.h2_handlers.specs.Exchanges.{IsSameHandling, Relations, handling_of}
-use Rattle.h2_handlers.specs.Steps.{given_since, puts_out}
+use Rattle.h2_handlers.specs.Steps.{given_between, puts_out}
 use Rattle.h2_handlers.proofs.StepsMade.{one_step}
 use Rattle.h2_handlers.proofs.StepsMade.{same as same_handling}
 use Rattle.h2_serve.specs.Serving.{Beginning, HasHandled, HasStoppedServing, IsServing}
-use Rattle.h2_serve.proofs.Serving.{has_more, writing_so}
+use Rattle.h2_serve.proofs.Serving.{has_lost, has_more, writing_so}
 
 -- A call that puts output out was made, and so these octets are given out next.
 pub record PutsOut (old new : End) (octets : List ℕ) : Type 0 where
@@ -80,17 +81,18 @@ puts_lent (Err refusal) lends answers free = record {
       absurd (cc);
 }
 
-module _ {H W : Type 0} {rel : Relations H W} {begin : Beginning H} (middle now : Traffic)
+module _ {H W : Type 0} {rel : Relations H W} {begin : Beginning H} {loses : Bool}
+    (middle now : Traffic)
     (old new : Handled H W) {octets unused : List ℕ}
     (puts : PutsOut old.server.end new.server.end octets) (same : new.exchanges ≡ old.exchanges)
     (none : Appends middle.given now.given [])
-    (is : IsServing rel begin middle unused old) where
+    (is : IsServing rel begin loses middle unused old) where
   -- the log then
   abbrev after_put : EndLog
   after_put = end_with_log is.after (with_call is.after.log (PutOut puts.count) puts.answer)
 
   -- These octets were given out since.
-  given_put : given_since is.after after_put ≡ octets
+  given_put : given_between is.after after_put ≡ octets
   given_put =
       ap (λ (all : List ℕ). drop (length (given_out is.after.log)) all)
       (puts.next begin.values is.after is.represents)
@@ -101,14 +103,14 @@ module _ {H W : Type 0} {rel : Relations H W} {begin : Beginning H} (middle now 
   same_put = rw same (same_handling (handling_of old.exchanges))
 
   -- That is one of the steps of the server.
-  has_put : HasHandled rel begin is.used (is.given ++ octets) after_put (handling_of new.exchanges)
+  has_put : HasHandled rel begin loses is.used (is.given ++ octets) after_put (handling_of new.exchanges)
   has_put =
       let answered = puts.answers begin.values is.after is.represents in
       let more = has_more is.has
       (one_step (puts_out puts.count puts.answer answered.0 refl same_put)) in
-      subst (λ (used : List ℕ). HasHandled rel begin used (is.given ++ octets) after_put
+      subst (λ (used : List ℕ). HasHandled rel begin loses used (is.given ++ octets) after_put
       (handling_of new.exchanges)) (append-nil is.used)
-      (subst (λ (given : List ℕ). HasHandled rel begin (is.used ++ []) (is.given ++ given)
+      (subst (λ (given : List ℕ). HasHandled rel begin loses (is.used ++ []) (is.given ++ given)
       after_put (handling_of new.exchanges)) given_put more)
 
   -- The link gives nothing where octets are written to it.
@@ -118,7 +120,7 @@ module _ {H W : Type 0} {rel : Relations H W} {begin : Beginning H} (middle now 
       (Appends-trans begin.start.given middle.given now.given _ [] is.input none)
 
   -- It has taken all that was given out,
-  pub serving_put : Appends middle.taken now.taken octets → IsServing rel begin now unused new
+  pub serving_put : Appends middle.taken now.taken octets → IsServing rel begin loses now unused new
   serving_put took = record {
     after = after_put;
     used = is.used;
@@ -138,10 +140,10 @@ module _ {H W : Type 0} {rel : Relations H W} {begin : Beginning H} (middle now 
     unused = unused;
     taken = is.given ++ take some octets;
     untaken = drop some octets;
-    has = subst (λ (given : List ℕ). HasHandled rel begin is.used given after_put
+    has = subst (λ (given : List ℕ). HasHandled rel begin true is.used given after_put
         (handling_of new.exchanges))
         (ap (λ (more : List ℕ). is.given ++ more) (sym (take-append-drop some octets))
-        ∙ sym (append_assoc is.given (take some octets) (drop some octets))) has_put;
+        ∙ sym (append_assoc is.given (take some octets) (drop some octets))) (has_lost has_put);
     represents = (puts.answers begin.values is.after is.represents).1;
     input = input_put;
     output = Appends-trans begin.start.taken middle.taken now.taken is.given (take some octets)
@@ -150,10 +152,11 @@ module _ {H W : Type 0} {rel : Relations H W} {begin : Beginning H} (middle now 
   }
 
 -- Output is made ready.
-pub serving_ready : {H W : Type 0} {rel : Relations H W} {begin : Beginning H} (now : Traffic)
+pub serving_ready : {H W : Type 0} {rel : Relations H W} {begin : Beginning H} {loses : Bool}
+    (now : Traffic)
     (old new : Handled H W) {unused : List ℕ} (result : Result (Unit {0}) Refusal)
     → EndAnswers old.server.end (PutOut 0) (answer_by (λ done. Count 0) result) new.server.end
-    → new.exchanges ≡ old.exchanges → IsServing rel begin now unused old
-    → IsServing rel begin now unused new
+    → new.exchanges ≡ old.exchanges → IsServing rel begin loses now unused old
+    → IsServing rel begin loses now unused new
 serving_ready now old new result answers same is =
     serving_put now now old new (puts_ready result answers) same (Appends-nil _) is (Appends-nil _)

@@ -1,6 +1,6 @@
 -- What has happened at a server with its handler, and over its link.
 -- contract: h2_serve::serve_handler
-use Rattle.std.specs.Prelude.{◌≡◌, ℕ, List, [], ◌++◌, Some, Result, Ok, Err}
+use Rattle.std.specs.Prelude.{◌≡◌, ℕ, Bool, true, false, List, [], ◌++◌, Some, Result, Ok, Err}
 use Rattle.std.specs.Io.KnownBytes.{Appends}
 use Rattle.h2_frame.specs.declared.code.Code.{Code}
 use Rattle.h2_spec_log.specs.declared.role.Role.TheVariants.{Server}
@@ -27,38 +27,42 @@ pub record Beginning (H : Type 0) : Type 0 where
 abbrev pub handling_first : {H W : Type 0} → H → Handling H W
 handling_first handler = record { handler = handler; entries = [] }
 
--- Since then the server with its handler has made such steps as its handler allows, and no others:
--- it has used these octets and given out these, and now this is its log, and so it is handled.
-pub record HasHandled {H W : Type 0} (rel : Relations H W) (begin : Beginning H)
+-- Since then the server with its handler has made such steps as its handler allows, and beside them
+-- only calls of its own: it has used these octets and given out these, and now this is its log, and
+-- so it is handled. What was handed out was told, unless something may be lost, for memory.
+pub record HasHandled {H W : Type 0} (rel : Relations H W) (begin : Beginning H) (loses : Bool)
     (used given : List ℕ) (after : EndLog) (now : Handling H W) : Type 0 where
-  pub steps : Steps rel after now used given (new_end_log Server begin.values)
+  pub steps : Steps rel loses after now used given (new_end_log Server begin.values)
       (handling_first begin.handler)
 
 -- It is served: of the octets that the link gave it has used all but these, and the link has taken
 -- all that it has given out.
 -- rule: engines (own) A handler answers over any link
-pub record IsServing {H W : Type 0} (rel : Relations H W) (begin : Beginning H) (now : Traffic)
-    (unused : List ℕ) (handled : Handled H W) : Type 0 where
+pub record IsServing {H W : Type 0} (rel : Relations H W) (begin : Beginning H) (loses : Bool)
+    (now : Traffic) (unused : List ℕ) (handled : Handled H W) : Type 0 where
   pub after : EndLog
   pub used : List ℕ
   pub given : List ℕ
-  pub has : HasHandled rel begin used given after (handling_of handled.exchanges)
+  pub has : HasHandled rel begin loses used given after (handling_of handled.exchanges)
   pub represents : EndRepresents begin.values handled.server.end after
   pub input : Appends begin.start.given now.given (used ++ unused)
   pub output : Appends begin.start.taken now.taken given
 
--- Why it can't be served on, by the error, where so much of what it has given out was not taken:
--- the connection has failed with this code, and its GOAWAY, which ends the output, was taken; a
--- write of octets has taken none, or as many rounds were made as can be counted.
+-- Why it can't be served on, by the error, where so much of what it has given out was not taken: of
+-- N2 that the connection has failed with this code, and its GOAWAY, which ends the output, was taken.
+-- Of the others nothing is said.
 -- rule: engines (own) N2 has the code with which the connection failed; memory is N3
 abbrev pub StopsServingFor : Log → (untaken : List ℕ) → LinkError → Type 0
 StopsServingFor log untaken (errors.Stream number) =
     ((code : Code) × (log.failed ≡ Some code) × (errors.Stream number ≡ error_with code))
     × (waiting log ≡ 0) × (untaken ≡ [])
+StopsServingFor log untaken (errors.Reset number) = ⊥
+StopsServingFor log untaken errors.Refused = ⊥
+StopsServingFor log untaken errors.CutOff = ⊥
 StopsServingFor log untaken error = Unit {0}
 
 -- It is served no more: it has used the first of the octets that the link gave, and the link has
--- taken the first of those that it has given out.
+-- taken the first of those that it has given out. What was handed out last may be lost, for memory.
 -- rule: engines (own) A handler answers over any link
 pub record HasStoppedServing {H W : Type 0} (rel : Relations H W) (begin : Beginning H)
     (now : Traffic) (handled : Handled H W) (error : LinkError) : Type 0 where
@@ -67,62 +71,58 @@ pub record HasStoppedServing {H W : Type 0} (rel : Relations H W) (begin : Begin
   pub unused : List ℕ
   pub taken : List ℕ
   pub untaken : List ℕ
-  pub has : HasHandled rel begin used (taken ++ untaken) after (handling_of handled.exchanges)
+  pub has : HasHandled rel begin true used (taken ++ untaken) after (handling_of handled.exchanges)
   pub represents : EndRepresents begin.values handled.server.end after
   pub input : Appends begin.start.given now.given (used ++ unused)
   pub output : Appends begin.start.taken now.taken taken
   pub so : StopsServingFor after.log untaken error
 
 -- All that could be written was, and the link has taken it.
-pub record HasWritten {H W : Type 0} (rel : Relations H W) (begin : Beginning H) (now : Traffic)
-    (unused : List ℕ) (handled : Handled H W) : Type 0 where
-  pub serving : IsServing rel begin now unused handled
+pub record HasWritten {H W : Type 0} (rel : Relations H W) (begin : Beginning H) (loses : Bool)
+    (now : Traffic) (unused : List ℕ) (handled : Handled H W) : Type 0 where
+  pub serving : IsServing rel begin loses now unused handled
   pub all : waiting serving.after.log ≡ 0
 
--- how it is after some of its steps
+-- how it is after some of its steps, in which nothing was lost
 abbrev pub ServesSo : {H W : Type 0} → Relations H W → Beginning H → (now : Traffic)
     → (unused : List ℕ) → Handled H W → Result (Unit {0}) LinkError → Type 0
-ServesSo rel begin now unused handled (Ok done) = IsServing rel begin now unused handled
+ServesSo rel begin now unused handled (Ok done) = IsServing rel begin false now unused handled
 ServesSo rel begin now unused handled (Err error) = HasStoppedServing rel begin now handled error
 
--- Whatever has happened, what waits is written.
-abbrev pub WritesOut : {H W : Type 0} → Relations H W → (before now : Traffic)
+-- Whatever has happened, it goes on, and then all that waits is written, or it can't be.
+abbrev pub WritesServing : {H W : Type 0} → Relations H W → (before now : Traffic)
     → (old new : Handled H W) → Result (Unit {0}) LinkError → Type 0
-WritesOut {H} rel before now old new (Ok done) =
-    (begin : Beginning H) (unused : List ℕ) → IsServing rel begin before unused old
-    → HasWritten rel begin now unused new
-WritesOut {H} rel before now old new (Err error) =
-    (begin : Beginning H) (unused : List ℕ) → IsServing rel begin before unused old
-    → HasStoppedServing rel begin now new error
-
--- Whatever has happened, what can be sent is sent, and written.
-abbrev pub SendsAll : {H W : Type 0} → Relations H W → (before now : Traffic)
-    → (old new : Handled H W) → Result (Unit {0}) LinkError → Type 0
-SendsAll = WritesOut
+WritesServing {H} rel before now old new (Ok done) =
+    (begin : Beginning H) (loses : Bool) (unused : List ℕ)
+    → IsServing rel begin loses before unused old → HasWritten rel begin loses now unused new
+WritesServing {H} rel before now old new (Err error) =
+    (begin : Beginning H) (loses : Bool) (unused : List ℕ)
+    → IsServing rel begin loses before unused old → HasStoppedServing rel begin now new error
 
 -- Whatever has happened, and a piece was read, all of it is used.
-abbrev pub TakesAll : {H W : Type 0} → Relations H W → (before now : Traffic)
+abbrev pub TakesServing : {H W : Type 0} → Relations H W → (before now : Traffic)
     → (old new : Handled H W) → (piece : List ℕ) → Result (Unit {0}) LinkError → Type 0
-TakesAll {H} rel before now old new piece result =
-    (begin : Beginning H) → IsServing rel begin before piece old
+TakesServing {H} rel before now old new piece result =
+    (begin : Beginning H) → IsServing rel begin false before piece old
     → ServesSo rel begin now [] new result
 
 -- Whatever has happened, and all that was read was used, it is served until the input ends; then
 -- all of its output was written.
-abbrev pub Drives : {H W : Type 0} → Relations H W → (before now : Traffic)
+abbrev pub DrivesServing : {H W : Type 0} → Relations H W → (before now : Traffic)
     → (old new : Handled H W) → Result (Unit {0}) LinkError → Type 0
-Drives {H} rel before now old new (Ok done) =
-    (begin : Beginning H) → IsServing rel begin before [] old → HasWritten rel begin now [] new
-Drives {H} rel before now old new (Err error) =
-    (begin : Beginning H) → IsServing rel begin before [] old
+DrivesServing {H} rel before now old new (Ok done) =
+    (begin : Beginning H) → IsServing rel begin false before [] old
+    → HasWritten rel begin false now [] new
+DrivesServing {H} rel before now old new (Err error) =
+    (begin : Beginning H) → IsServing rel begin false before [] old
     → HasStoppedServing rel begin now new error
 
 -- Whatever has happened, and the connection can't go on, it ends so.
 abbrev pub EndsFor : {H W : Type 0} → Relations H W → (before now : Traffic)
     → (old new : Handled H W) → LinkError → Type 0
 EndsFor {H} rel before now old new error =
-    (begin : Beginning H) (unused : List ℕ) → IsServing rel begin before unused old
-    → HasStoppedServing rel begin now new error
+    (begin : Beginning H) (loses : Bool) (unused : List ℕ)
+    → IsServing rel begin loses before unused old → HasStoppedServing rel begin now new error
 
 -- How serving a connection has ended: its input has ended where it may, all of that was used and
 -- all of the output was taken, and of each exchange the handler has learned that it is over; or it
@@ -130,10 +130,10 @@ EndsFor {H} rel before now old new error =
 -- rule: engines (own) A handler answers over any link
 pub data HasServed {H W : Type 0} (rel : Relations H W) (begin : Beginning H) (now : Traffic)
     : Result ℕ LinkError → Type 0 where
-  is_served : (count : ℕ) (handled : Handled H W) (is : HasWritten rel begin now [] handled)
+  is_served : (count : ℕ) (handled : Handled H W) (is : HasWritten rel begin false now [] handled)
       → IsEmptied (handling_of handled.exchanges) → IsAtRest is.serving.after.log
-      → HasServed rel begin now (Ok count)
-  is_cut_off : (handled : Handled H W) (is : HasWritten rel begin now [] handled)
+      → count ≡ handled.exchanges.totals.requests → HasServed rel begin now (Ok count)
+  is_cut_off : (handled : Handled H W) (is : HasWritten rel begin false now [] handled)
       → IsEmptied (handling_of handled.exchanges) → IsCutOff is.serving.after.log
       → HasServed rel begin now (Err errors.CutOff)
   has_stopped : (handled : Handled H W) (error : LinkError)

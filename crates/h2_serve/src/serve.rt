@@ -7,7 +7,8 @@ ghost use Rattle.h2_engines.specs.Failures.{failures_by};
 ghost use Rattle.h2_engines.specs.Linked.{traffic};
 ghost use Rattle.h2_handlers.specs.Exchanges.{relations};
 ghost use Rattle.h2_serve.specs.Endings.{IsOfDriving};
-ghost use Rattle.h2_serve.specs.Serving.{Drives, EndsFor, SendsAll, ServesBy, TakesAll};
+ghost use Rattle.h2_serve.specs.Serving.{DrivesServing, EndsFor, ServesBy, TakesServing};
+ghost use Rattle.h2_serve.specs.Serving.{WritesServing};
 
 use crate::errors::error_of_code;
 use crate::writing::write_out;
@@ -25,9 +26,15 @@ const PART: usize = 16_384;
 // rule: engines (own) A handler answers over any link
 /// Serves a connection until its input ends, with a handler that answers its requests, and answers
 /// how many requests came. What the handler is told and asked, and what is sent of its answers, is
-/// what [`Handled`] says. All that could be sent is written before each read; a handler that had
-/// no part is asked again after each. At the end the handler has learned of each exchange that it
-/// is over.
+/// what [`Handled`] says. At the end the handler has learned of each exchange that it is over.
+///
+/// All that could be sent is written before each read, as far as the windows of the client go: so
+/// a client that resets a stream, or asks for something else, is heard once they are used up. A
+/// handler that had no part ([`h2_handlers::Part::Later`]) is asked again after each read, and at no
+/// other time: one that waits for something else has to wait in `part`.
+///
+/// What was written may wait in the link: a link over a stream is to be flushed once this returns,
+/// and drained after an error, so that the client gets the GOAWAY.
 ///
 /// # Errors
 ///
@@ -77,7 +84,7 @@ fn drive<W: Drop, H: Handler<Work = W>, L: Link>(
     link: &mut L,
 ) -> Result<(), LinkError>
     requires { L.faults link.old < 2 ^ 64 - 1 }
-    ensures drives { Drives (relations H.heads H.bodies H.trails H.gives H.ends)
+    ensures drives { DrivesServing (relations H.heads H.bodies H.trails H.gives H.ends)
         (traffic (L.given link.old) (L.taken link.old) (L.stalled link.old))
         (traffic (L.given link.new) (L.taken link.new) (L.stalled link.new))
         handled.old handled.new result }
@@ -109,7 +116,7 @@ fn take_all<W: Drop, H: Handler<Work = W>, L: Link>(
     link: &mut L,
 ) -> Result<(), LinkError>
     requires { L.faults link.old < 2 ^ 64 - 1 }
-    ensures takes { TakesAll (relations H.heads H.bodies H.trails H.gives H.ends)
+    ensures takes { TakesServing (relations H.heads H.bodies H.trails H.gives H.ends)
         (traffic (L.given link.old) (L.taken link.old) (L.stalled link.old))
         (traffic (L.given link.new) (L.taken link.new) (L.stalled link.new))
         handled.old handled.new piece.now result }
@@ -131,15 +138,15 @@ fn take_all<W: Drop, H: Handler<Work = W>, L: Link>(
     Err(LinkError::NoProgress)
 }
 
-// rule: engines (own) Over a link credit is returned and what could be sent is sent
-/// Gives back what is owed, sends all that can be sent of what the handler answers, and writes it.
+// rule: engines (own) A handler answers over any link
+/// Returns what is owed, sends all that can be sent of what the handler answers, and writes it.
 fn send_all<W: Drop, H: Handler<Work = W>, L: Link>(
     handled: &mut Handled<H, W>,
     room: &mut [u8],
     link: &mut L,
 ) -> Result<(), LinkError>
     requires { L.faults link.old < 2 ^ 64 - 1 }
-    ensures sends { SendsAll (relations H.heads H.bodies H.trails H.gives H.ends)
+    ensures sends { WritesServing (relations H.heads H.bodies H.trails H.gives H.ends)
         (traffic (L.given link.old) (L.taken link.old) (L.stalled link.old))
         (traffic (L.given link.new) (L.taken link.new) (L.stalled link.new))
         handled.old handled.new result }

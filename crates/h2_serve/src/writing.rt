@@ -4,7 +4,7 @@ ghost use Rattle.std.specs.Prelude.{◌≡◌, ◌<◌, ◌-◌, ◌^◌, IfErr}
 ghost use Rattle.h2_engines.specs.Failures.{EndsWriting, failures_at_end};
 ghost use Rattle.h2_engines.specs.Linked.{traffic};
 ghost use Rattle.h2_handlers.specs.Exchanges.{relations};
-ghost use Rattle.h2_serve.specs.Serving.{WritesOut};
+ghost use Rattle.h2_serve.specs.Serving.{WritesServing};
 
 use crate::errors::unless_refused;
 use h2_engines::write_waiting;
@@ -18,7 +18,7 @@ pub(crate) fn write_out<W: Drop, H: Handler<Work = W>, L: Link>(
     link: &mut L,
 ) -> Result<(), LinkError>
     requires { L.faults link.old < 2 ^ 64 - 1 }
-    ensures writes { WritesOut (relations H.heads H.bodies H.trails H.gives H.ends)
+    ensures writes { WritesServing (relations H.heads H.bodies H.trails H.gives H.ends)
         (traffic (L.given link.old) (L.taken link.old) (L.stalled link.old))
         (traffic (L.given link.new) (L.taken link.new) (L.stalled link.new))
         handled.old handled.new result }

@@ -1,5 +1,5 @@
 -- In each round what can be sent is written, and a piece is read and taken.
-use Rattle.h2_engines.proofs.Names.{refl, sym, ◌∙◌, [], drop, length, take, err_from_is_err_and}
+use Rattle.h2_engines.proofs.Names.{false, refl, sym, ◌∙◌, [], drop, length, take, err_from_is_err_and}
 use Rattle.std.specs.List.{length_refill}
 use Rattle.h2_engines.proofs.MachineDrives.{gives_none, gives_piece, meets_end}
 use Rattle.h2_link.specs.declared.error.LinkError.TheVariants as errors
@@ -29,7 +29,7 @@ pub returns-in_err-send_all-clause-drives : goal.returns-in_err-send_all-clause-
 returns-in_err-send_all-clause-drives g c =
     let answer = err_from_is_err_and c.from_residual-in_err-send_all.result
     c.from_residual-in_err-send_all.ensures.1 in
-    rw (answer.1, answer.2) (λ begin was. c.in_err-send_all.ensures.sends begin []
+    rw (answer.1, answer.2) (λ begin was. c.in_err-send_all.ensures.sends begin false []
     (c.loop.invariant.drives begin was))
 
 pub returns-in_err-count-clause-drives : goal.returns-in_err-count-clause-drives
@@ -38,13 +38,13 @@ returns-in_err-count-clause-drives g c =
     c.from_residual-in_err-count.ensures.1 in
     rw (answer.1, answer.2) (λ begin was. stops_so errors.Device tt (serving_read _ []
     c.in_err-count.ensures.gives c.in_err-count.ensures.takes_none
-    (c.in_ok-send_all.ensures.sends begin [] (c.loop.invariant.drives begin was)).serving))
+    (c.in_ok-send_all.ensures.sends begin false [] (c.loop.invariant.drives begin was)).serving))
 
 pub returns-then-count-eq0-clause-drives : goal.returns-then-count-eq0-clause-drives
 returns-then-count-eq0-clause-drives g c begin was =
     written_read _ (gives_none _ _ c.read.new.buffer c.in_ok-count.count
     c.if-count-eq0.true c.in_ok-count.ensures.gives.1) c.in_ok-count.ensures.takes_none
-    (c.in_ok-send_all.ensures.sends begin [] (c.loop.invariant.drives begin was))
+    (c.in_ok-send_all.ensures.sends begin false [] (c.loop.invariant.drives begin was))
 
 pub returns-then-count-eq0-clause-ended : goal.returns-then-count-eq0-clause-ended
 returns-then-count-eq0-clause-ended g c =
@@ -63,7 +63,7 @@ returns-in_err-take_all-clause-drives g c =
     c.deref.result.now c.deref.ensures.value
     (c.in_ok-count.ensures.length ∙ c.deref_mut-in-loop.ensures.len)
     c.in_ok-count.ensures.gives.1) c.in_ok-count.ensures.takes_none
-    (c.in_ok-send_all.ensures.sends begin [] (c.loop.invariant.drives begin was)).serving)))
+    (c.in_ok-send_all.ensures.sends begin false [] (c.loop.invariant.drives begin was)).serving)))
 
 pub loop-preserved : goal.loop-preserved
 loop-preserved g c =
@@ -81,7 +81,7 @@ loop-preserved g c =
           c.deref.ensures.value
           (c.in_ok-count.ensures.length ∙ c.deref_mut-in-loop.ensures.len)
           c.in_ok-count.ensures.gives.1) c.in_ok-count.ensures.takes_none
-          (c.in_ok-send_all.ensures.sends begin [] (c.loop.invariant.drives begin was)).serving));
+          (c.in_ok-send_all.ensures.sends begin false [] (c.loop.invariant.drives begin was)).serving));
     }
 
 pub returns-clause-drives : goal.returns-clause-drives

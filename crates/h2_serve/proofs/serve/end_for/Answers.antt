@@ -6,22 +6,22 @@ use Rattle.h2_serve.proofs.serve.end_for.Goals.{then-eq, else-eq}
 use Rattle.h2_serve.proofs.serve.end_for.Goals as goal
 
 pub returns-then-is_none-clause-ends : goal.returns-then-is_none-clause-ends
-returns-then-is_none-clause-ends g c begin unused was =
-    stops_so {unused = unused} errors.Memory tt (elim c.if-eq.branch [
+returns-then-is_none-clause-ends g c begin loses unused was =
+    stops_so {loses = loses} {unused = unused} errors.Memory tt (elim c.if-eq.branch [
       | then-eq w ↦ rw w.handled-is (serving_on w.fail.ensures.handles was)
       | else-eq w ↦ rw w.handled-is was
     ])
 
 pub returns-in-Err-clause-ends : goal.returns-in-Err-clause-ends
-returns-in-Err-clause-ends g c begin unused was =
-    c.in-Err.ensures.writes begin unused (elim c.if-eq.branch [
+returns-in-Err-clause-ends g c begin loses unused was =
+    c.in-Err.ensures.writes begin loses unused (elim c.if-eq.branch [
       | then-eq w ↦ rw w.handled-is (serving_on w.fail.ensures.handles was)
       | else-eq w ↦ rw w.handled-is was
     ])
 
 pub returns-in-Some-clause-ends : goal.returns-in-Some-clause-ends
-returns-in-Some-clause-ends g c begin unused was =
-    let written = c.in_default.ensures.writes begin unused (elim c.if-eq.branch [
+returns-in-Some-clause-ends g c begin loses unused was =
+    let written = c.in_default.ensures.writes begin loses unused (elim c.if-eq.branch [
       | then-eq w ↦ rw w.handled-is (serving_on w.fail.ensures.handles was)
       | else-eq w ↦ rw w.handled-is was
     ]) in
@@ -31,8 +31,8 @@ returns-in-Some-clause-ends g c begin unused was =
     (sym failed ∙ c.in-Some.is))
 
 pub returns-in-None-clause-ends : goal.returns-in-None-clause-ends
-returns-in-None-clause-ends g c begin unused was =
-    let written = c.in_default.ensures.writes begin unused (elim c.if-eq.branch [
+returns-in-None-clause-ends g c begin loses unused was =
+    let written = c.in_default.ensures.writes begin loses unused (elim c.if-eq.branch [
       | then-eq w ↦ rw w.handled-is (serving_on w.fail.ensures.handles was)
       | else-eq w ↦ rw w.handled-is was
     ]) in

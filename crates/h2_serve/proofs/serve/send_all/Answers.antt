@@ -5,12 +5,12 @@ use Rattle.h2_serve.proofs.Serving.{serving_on, stops_so}
 use Rattle.h2_serve.proofs.serve.send_all.Goals as goal
 
 pub loop-init : goal.loop-init
-loop-init g c = record { failures = refl; room = refl; sends = λ begin unused was. was }
+loop-init g c = record { failures = refl; room = refl; sends = λ begin loses unused was. was }
 
 pub returns-in-Err-clause-sends : goal.returns-in-Err-clause-sends
-returns-in-Err-clause-sends g c begin unused was =
-    c.end_for.ensures.ends begin unused
-    (serving_on c.send_some.ensures.handles (c.loop.invariant.sends begin unused was))
+returns-in-Err-clause-sends g c begin loses unused was =
+    c.end_for.ensures.ends begin loses unused
+    (serving_on c.send_some.ensures.handles (c.loop.invariant.sends begin loses unused was))
 
 pub returns-in-Err-clause-failures : goal.returns-in-Err-clause-failures
 returns-in-Err-clause-failures g c =
@@ -21,24 +21,24 @@ returns-in-Err-clause-failures g c =
 pub returns-in_err-write_out-clause-sends : goal.returns-in_err-write_out-clause-sends
 returns-in_err-write_out-clause-sends g c =
     let answer = err_from_is_err_and c.from_residual.result c.from_residual.ensures.1 in
-    rw (answer.1, answer.2) (λ begin unused was. c.in_err-write_out.ensures.writes begin unused
-    (serving_on c.send_some.ensures.handles (c.loop.invariant.sends begin unused was)))
+    rw (answer.1, answer.2) (λ begin loses unused was. c.in_err-write_out.ensures.writes begin loses unused
+    (serving_on c.send_some.ensures.handles (c.loop.invariant.sends begin loses unused was)))
 
 pub returns-then-not-may_send-clause-sends : goal.returns-then-not-may_send-clause-sends
-returns-then-not-may_send-clause-sends g c begin unused was =
-    c.in_ok-write_out.ensures.writes begin unused
-    (serving_on c.send_some.ensures.handles (c.loop.invariant.sends begin unused was))
+returns-then-not-may_send-clause-sends g c begin loses unused was =
+    c.in_ok-write_out.ensures.writes begin loses unused
+    (serving_on c.send_some.ensures.handles (c.loop.invariant.sends begin loses unused was))
 
 pub loop-preserved : goal.loop-preserved
 loop-preserved g c =
     record {
       failures = c.in_ok-write_out.ensures.failures ∙ c.loop.invariant.failures;
       room = c.send_some.ensures.room ∙ c.loop.invariant.room;
-      sends = λ begin unused was. (c.in_ok-write_out.ensures.writes begin unused
+      sends = λ begin loses unused was. (c.in_ok-write_out.ensures.writes begin loses unused
           (serving_on c.send_some.ensures.handles
-          (c.loop.invariant.sends begin unused was))).serving;
+          (c.loop.invariant.sends begin loses unused was))).serving;
     }
 
 pub returns-clause-sends : goal.returns-clause-sends
-returns-clause-sends g c begin unused was =
-    stops_so _ tt (c.loop.invariant.sends begin unused was)
+returns-clause-sends g c begin loses unused was =
+    stops_so _ tt (c.loop.invariant.sends begin loses unused was)

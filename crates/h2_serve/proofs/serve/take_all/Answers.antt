@@ -1,5 +1,5 @@
 -- In each round octets of the piece are taken, and what can be sent is written.
-use Rattle.h2_engines.proofs.Names.{ℕ, refl, ap, sym, ◌+◌, ◌-◌, ◌∙◌, arith, drop, length}
+use Rattle.h2_engines.proofs.Names.{true, false, ℕ, refl, ap, sym, ◌+◌, ◌-◌, ◌∙◌, arith, drop, length}
 use Rattle.h2_engines.proofs.Names.{failures_by}
 use Rattle.h2_engines.proofs.Names.{err_from_is_err_and, take_rest}
 use Rattle.std.proofs.Common.{length-take, length-drop}
@@ -17,7 +17,7 @@ returns-in-Err-clause-takes g c begin was =
     let some = serving_some (drop c.loop.used piece) c.in-Err.stop
     (rw (take_rest piece c.loop.used) at c.in-Err.ensures.handles)
     (c.loop.invariant.takes begin was) in
-    c.end_for.ensures.ends begin some.0 some.1
+    c.end_for.ensures.ends begin true some.0 some.1
 
 pub returns-in-Err-clause-failures : goal.returns-in-Err-clause-failures
 returns-in-Err-clause-failures g c =
@@ -36,7 +36,7 @@ pub returns-in_err-send_all-clause-takes : goal.returns-in_err-send_all-clause-t
 returns-in_err-send_all-clause-takes g c =
     let piece = c.args.piece.now in
     let answer = err_from_is_err_and c.from_residual.result c.from_residual.ensures.1 in
-    rw (answer.1, answer.2) (λ begin was. c.in_err-send_all.ensures.sends begin
+    rw (answer.1, answer.2) (λ begin was. c.in_err-send_all.ensures.sends begin false
     (drop (c.loop.used + c.in-Ok.count) piece)
     (serving_next piece c.loop.used c.in-Ok.count
     (rw (take_rest piece c.loop.used) at c.in-Ok.ensures.handles)
@@ -55,7 +55,7 @@ loop-preserved g c =
       );
       failures = c.in_ok-send_all.ensures.failures ∙ c.loop.invariant.failures;
       room = c.send_all.ensures.room ∙ c.loop.invariant.room;
-      takes = λ begin was. (c.in_ok-send_all.ensures.sends begin
+      takes = λ begin was. (c.in_ok-send_all.ensures.sends begin false
           (drop (c.loop.used + c.in-Ok.count) piece)
           (serving_next piece c.loop.used c.in-Ok.count
           (rw (take_rest piece c.loop.used) at c.in-Ok.ensures.handles)

@@ -8,21 +8,21 @@ use Rattle.h2_serve.proofs.WrittenOutput.{puts_lent, serving_put, serving_ready,
 use Rattle.h2_serve.proofs.writing.write_out.Goals as goal
 
 pub loop-init : goal.loop-init
-loop-init g c = record { failures = refl; writes = λ begin unused was. was }
+loop-init g c = record { failures = refl; writes = λ begin loses unused was. was }
 
 pub returns-in_err-unless_refused-clause-writes : goal.returns-in_err-unless_refused-clause-writes
 returns-in_err-unless_refused-clause-writes g c =
     let answer = err_from_is_err_and c.from_residual.result c.from_residual.ensures.1 in
     let error = c.in_err-unless_refused.field-0.0 in
     let writing = call_writes error c.in_err-unless_refused.ensures.kind in
-    rw (answer.1, answer.2) (λ begin unused was. stops_so error writing
+    rw (answer.1, answer.2) (λ begin loses unused was. stops_so error writing
     (serving_ready _ c.loop.handled c.ready.new.self c.ready.result c.ready.ensures.answers
-    c.ready.ensures.exchanges (c.loop.invariant.writes begin unused was)))
+    c.ready.ensures.exchanges (c.loop.invariant.writes begin loses unused was)))
 
 pub returns-then-waiting-eq0-clause-writes : goal.returns-then-waiting-eq0-clause-writes
-returns-then-waiting-eq0-clause-writes g c begin unused was =
+returns-then-waiting-eq0-clause-writes g c begin loses unused was =
     let ready = serving_ready _ c.loop.handled c.ready.new.self c.ready.result
-    c.ready.ensures.answers c.ready.ensures.exchanges (c.loop.invariant.writes begin unused was) in
+    c.ready.ensures.answers c.ready.ensures.exchanges (c.loop.invariant.writes begin loses unused was) in
     record {
       serving = ready;
       all = sym ((rw c.conn.ensures at c.waiting.ensures.count) _ _ ready.represents.streams.conn)
@@ -41,7 +41,7 @@ returns-in_err-written g c =
     let some = written_some _ _ _ _ _ _ written in
     let writing = written_ends _ _ _ _ _ _ written in
     rw (answer.1, answer.2) (record {
-      writes = λ begin unused was. stops_put _ now c.ready.new.self c.consume-consumed.new.self
+      writes = λ begin loses unused was. stops_put _ now c.ready.new.self c.consume-consumed.new.self
           (puts_lent c.consume-consumed.result (record {
             few = rw c.conn.ensures at c.waiting.ensures.bound;
             all = rw c.conn.ensures at c.waiting.ensures.count;
@@ -51,7 +51,7 @@ returns-in_err-written g c =
           c.consume-consumed.ensures.exchanges c.write_waiting-written.ensures.gives_none
           (serving_ready _ c.loop.handled c.ready.new.self c.ready.result
           c.ready.ensures.answers c.ready.ensures.exchanges
-          (c.loop.invariant.writes begin unused was))
+          (c.loop.invariant.writes begin loses unused was))
           some.0 some.1.took c.in_err-written.field-0.0 writing;
       failures = written_failures (Unit {0}) _ _ _ _ _ c.loop.invariant.failures written;
       err = writing;
@@ -77,7 +77,7 @@ loop-preserved g c =
     at c.write_waiting-written.ensures.writes in
     record {
       failures = written.1 ∙ c.loop.invariant.failures;
-      writes = λ begin unused was. serving_put _ now c.ready.new.self c.consume-consumed.new.self
+      writes = λ begin loses unused was. serving_put _ now c.ready.new.self c.consume-consumed.new.self
           (puts_lent c.consume-consumed.result (record {
             few = rw c.conn.ensures at c.waiting.ensures.bound;
             all = rw c.conn.ensures at c.waiting.ensures.count;
@@ -87,7 +87,7 @@ loop-preserved g c =
           c.consume-consumed.ensures.exchanges c.write_waiting-written.ensures.gives_none
           (serving_ready _ c.loop.handled c.ready.new.self c.ready.result
           c.ready.ensures.answers c.ready.ensures.exchanges
-          (c.loop.invariant.writes begin unused was)) written.0;
+          (c.loop.invariant.writes begin loses unused was)) written.0;
     }
 
 pub returns-in_err-unless_refused-2-clause-writes :
@@ -102,7 +102,7 @@ returns-in_err-unless_refused-2-clause-writes g c =
     let error = c.in_err-unless_refused-2.field-0.0 in
     let answer = err_from_is_err_and c.from_residual-in_err-unless_refused-2.result
     c.from_residual-in_err-unless_refused-2.ensures.1 in
-    rw (answer.1, answer.2) (λ begin unused was. stops_so error
+    rw (answer.1, answer.2) (λ begin loses unused was. stops_so error
     (call_writes error c.in_err-unless_refused-2.ensures.kind)
     (serving_put _ now c.ready.new.self c.consume-consumed.new.self
     (puts_lent c.consume-consumed.result (record {
@@ -113,8 +113,8 @@ returns-in_err-unless_refused-2-clause-writes g c =
     }) c.consume-consumed.ensures.answers c.consume-consumed.ensures.room)
     c.consume-consumed.ensures.exchanges c.write_waiting-written.ensures.gives_none
     (serving_ready _ c.loop.handled c.ready.new.self c.ready.result c.ready.ensures.answers
-    c.ready.ensures.exchanges (c.loop.invariant.writes begin unused was)) written.0))
+    c.ready.ensures.exchanges (c.loop.invariant.writes begin loses unused was)) written.0))
 
 pub returns-clause-writes : goal.returns-clause-writes
-returns-clause-writes g c begin unused was =
-    stops_so _ tt (c.loop.invariant.writes begin unused was)
+returns-clause-writes g c begin loses unused was =
+    stops_so _ tt (c.loop.invariant.writes begin loses unused was)
