@@ -1,6 +1,7 @@
 -- What steps of a server with its handler make of how it is served over a link.
 use Rattle.h2_engines.proofs.Names
-use Names.{◌≡◌, ◌≤◌, ◌+◌, ℕ, Bool, true, false, List, [], ◌++◌, length, take, drop, Err, Some, refl, sym, ap}
+use Names.{◌≡◌, ◌≤◌, ◌+◌, ℕ, Bool, true, false, List, [], ◌++◌, length, take, drop, Err, Some, refl}
+use Names.{sym, ap}
 use Names.{drop-drop, drop_all}
 use Names.{◌∙◌, subst, append-nil, append_assoc, take-append-drop, Appends, Appends-trans, Code}
 use Names.{End, EndLog, EndRepresents, EndsWriting, IsOfCall, LinkError, Log, Traffic, error_with}
@@ -149,23 +150,28 @@ module _ {H W : Type 0} {rel : Relations H W} {begin : Beginning H} where
       serving_after is [] unused refl after (steps_losing _ made) there
 
   -- or so many of those that were left of a piece,
-  pub serving_next : {loses : Bool} {now : Traffic} {old new : Handled H W} (piece : List ℕ) (used count : ℕ)
+  pub serving_next : {loses : Bool} {now : Traffic} {old new : Handled H W} (piece : List ℕ)
+      (used count : ℕ)
       → Handles rel (take count (drop used piece)) old.server.end (handling_of old.exchanges)
-      new.server.end (handling_of new.exchanges) → IsServing rel begin loses now (drop used piece) old
+      new.server.end (handling_of new.exchanges) → IsServing rel begin loses now
+      (drop used piece) old
       → IsServing rel begin loses now (drop (used + count) piece) new
   serving_next {loses} {now} {new = new} piece used count handles is =
       let (after, made, there) = handles begin.values is.after is.represents in
       let first = serving_after is (take count (drop used piece)) (drop count (drop used piece))
       (sym (take-append-drop count (drop used piece))) after (steps_losing _ made) there in
-      subst (λ (unused : List ℕ). IsServing rel begin loses now unused new) (drop-drop count used piece)
+      subst (λ (unused : List ℕ). IsServing rel begin loses now unused new)
+      (drop-drop count used piece)
       first
 
   -- which may be all,
-  pub serving_all : {loses : Bool} {now : Traffic} {handled : Handled H W} (piece : List ℕ) {used : ℕ}
+  pub serving_all : {loses : Bool} {now : Traffic} {handled : Handled H W}
+      (piece : List ℕ) {used : ℕ}
       → length piece ≤ used → IsServing rel begin loses now (drop used piece) handled
       → IsServing rel begin loses now [] handled
   serving_all {loses} {now} {handled} piece {used} all is =
-      subst (λ (unused : List ℕ). IsServing rel begin loses now unused handled) (drop_all used piece all)
+      subst (λ (unused : List ℕ). IsServing rel begin loses now unused handled)
+      (drop_all used piece all)
       is
 
   -- or some, after which the connection can't go on.
@@ -205,7 +211,8 @@ module _ {H W : Type 0} {rel : Relations H W} {begin : Beginning H} where
       record { serving = serving_read now [] gives none is.serving; all = is.all }
 
   -- It is served no more, by what ends a write;
-  pub stops_so : {loses : Bool} {now : Traffic} {handled : Handled H W} {unused : List ℕ} (error : LinkError)
+  pub stops_so : {loses : Bool} {now : Traffic} {handled : Handled H W} {unused : List ℕ}
+      (error : LinkError)
       → EndsWriting error → IsServing rel begin loses now unused handled
       → HasStoppedServing rel begin now handled error
   stops_so {handled} {unused} error writing is = record {
@@ -223,7 +230,8 @@ module _ {H W : Type 0} {rel : Relations H W} {begin : Beginning H} where
   }
 
   -- or by the code with which the connection has failed, once all was written.
-  pub stops_failed : {loses : Bool} {now : Traffic} {handled : Handled H W} {unused : List ℕ} (code : Code)
+  pub stops_failed : {loses : Bool} {now : Traffic} {handled : Handled H W} {unused : List ℕ}
+      (code : Code)
       (is : HasWritten rel begin loses now unused handled) → is.serving.after.log.failed ≡ Some code
       → HasStoppedServing rel begin now handled (error_with code)
   stops_failed {handled} {unused} code is failed =
@@ -234,7 +242,8 @@ module _ {H W : Type 0} {rel : Relations H W} {begin : Beginning H} where
         taken = serving.given;
         untaken = [];
         has = subst (λ (given : List ℕ). HasHandled rel begin true serving.used given serving.after
-            (handling_of handled.exchanges)) (sym (append-nil serving.given)) (has_lost serving.has);
+            (handling_of handled.exchanges)) (sym (append-nil serving.given))
+            (has_lost serving.has);
         represents = serving.represents;
         input = serving.input;
         output = serving.output;

@@ -103,7 +103,8 @@ module _ {H W : Type 0} {rel : Relations H W} {begin : Beginning H} {loses : Boo
   same_put = rw same (same_handling (handling_of old.exchanges))
 
   -- That is one of the steps of the server.
-  has_put : HasHandled rel begin loses is.used (is.given ++ octets) after_put (handling_of new.exchanges)
+  has_put : HasHandled rel begin loses is.used (is.given ++ octets) after_put
+      (handling_of new.exchanges)
   has_put =
       let answered = puts.answers begin.values is.after is.represents in
       let more = has_more is.has

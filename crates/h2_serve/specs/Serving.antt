@@ -49,7 +49,8 @@ pub record IsServing {H W : Type 0} (rel : Relations H W) (begin : Beginning H) 
   pub output : Appends begin.start.taken now.taken given
 
 -- Why it can't be served on, by the error, where so much of what it has given out was not taken: of
--- N2 that the connection has failed with this code, and its GOAWAY, which ends the output, was taken.
+-- N2 that the connection has failed with this code, and its GOAWAY, which ends the output, was
+-- taken.
 -- Of the others nothing is said.
 -- rule: engines (own) N2 has the code with which the connection failed; memory is N3
 abbrev pub StopsServingFor : Log → (untaken : List ℕ) → LinkError → Type 0

@@ -30,8 +30,8 @@ const PART: usize = 16_384;
 ///
 /// All that could be sent is written before each read, as far as the windows of the client go: so
 /// a client that resets a stream, or asks for something else, is heard once they are used up. A
-/// handler that had no part ([`h2_handlers::Part::Later`]) is asked again after each read, and at no
-/// other time: one that waits for something else has to wait in `part`.
+/// handler that had no part ([`h2_handlers::Part::Later`]) is asked again after each read, and at
+/// no other time: one that waits for something else has to wait in `part`.
 ///
 /// What was written may wait in the link: a link over a stream is to be flushed once this returns,
 /// and drained after an error, so that the client gets the GOAWAY.
@@ -168,8 +168,8 @@ fn send_all<W: Drop, H: Handler<Work = W>, L: Link>(
 }
 
 // rule: engines (own) N2 has the code with which the connection failed; memory is N3
-/// How serving ends where the connection can't go on: with N3 where it is up. Where no stream can be
-/// reset any more it fails with ENHANCE_YOUR_CALM; and once it has failed, all that waits is
+/// How serving ends where the connection can't go on: with N3 where it is up. Where no stream can
+/// be reset any more it fails with ENHANCE_YOUR_CALM; and once it has failed, all that waits is
 /// written.
 fn end_for<W: Drop, H: Handler<Work = W>, L: Link>(
     handled: &mut Handled<H, W>,

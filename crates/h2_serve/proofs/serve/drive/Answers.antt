@@ -1,5 +1,6 @@
 -- In each round what can be sent is written, and a piece is read and taken.
-use Rattle.h2_engines.proofs.Names.{false, refl, sym, ◌∙◌, [], drop, length, take, err_from_is_err_and}
+use Rattle.h2_engines.proofs.Names.{false, refl, sym, ◌∙◌, [], drop, length, take}
+use Rattle.h2_engines.proofs.Names.{err_from_is_err_and}
 use Rattle.std.specs.List.{length_refill}
 use Rattle.h2_engines.proofs.MachineDrives.{gives_none, gives_piece, meets_end}
 use Rattle.h2_link.specs.declared.error.LinkError.TheVariants as errors
@@ -81,7 +82,8 @@ loop-preserved g c =
           c.deref.ensures.value
           (c.in_ok-count.ensures.length ∙ c.deref_mut-in-loop.ensures.len)
           c.in_ok-count.ensures.gives.1) c.in_ok-count.ensures.takes_none
-          (c.in_ok-send_all.ensures.sends begin false [] (c.loop.invariant.drives begin was)).serving));
+          (c.in_ok-send_all.ensures.sends begin false []
+          (c.loop.invariant.drives begin was)).serving));
     }
 
 pub returns-clause-drives : goal.returns-clause-drives

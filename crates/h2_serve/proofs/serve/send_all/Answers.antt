@@ -21,7 +21,8 @@ returns-in-Err-clause-failures g c =
 pub returns-in_err-write_out-clause-sends : goal.returns-in_err-write_out-clause-sends
 returns-in_err-write_out-clause-sends g c =
     let answer = err_from_is_err_and c.from_residual.result c.from_residual.ensures.1 in
-    rw (answer.1, answer.2) (λ begin loses unused was. c.in_err-write_out.ensures.writes begin loses unused
+    rw (answer.1, answer.2) (λ begin loses unused was. c.in_err-write_out.ensures.writes begin loses
+    unused
     (serving_on c.send_some.ensures.handles (c.loop.invariant.sends begin loses unused was)))
 
 pub returns-then-not-may_send-clause-sends : goal.returns-then-not-may_send-clause-sends

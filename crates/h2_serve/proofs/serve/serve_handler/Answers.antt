@@ -112,4 +112,5 @@ returns-clause-serves g c =
     let holds = rw c.conn-conn.ensures at c.held.ensures.value in
     served_all c.close.new.self written c.close.ensures.none c.failed.result failed up
     c.next_live.result (rw c.conn-conn.ensures at c.next_live.ensures.number) c.requests.result
-    c.held.result c.requests.ensures holds c.if-held-gt0.false (sym c.is_some.ensures ∙ c.if-is_some.false)
+    c.held.result c.requests.ensures holds c.if-held-gt0.false
+    (sym c.is_some.ensures ∙ c.if-is_some.false)

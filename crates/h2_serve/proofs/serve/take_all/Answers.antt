@@ -1,5 +1,6 @@
 -- In each round octets of the piece are taken, and what can be sent is written.
-use Rattle.h2_engines.proofs.Names.{true, false, ℕ, refl, ap, sym, ◌+◌, ◌-◌, ◌∙◌, arith, drop, length}
+use Rattle.h2_engines.proofs.Names.{true, false, ℕ, refl, ap, sym, ◌+◌, ◌-◌, ◌∙◌, arith, drop}
+use Rattle.h2_engines.proofs.Names.{length}
 use Rattle.h2_engines.proofs.Names.{failures_by}
 use Rattle.h2_engines.proofs.Names.{err_from_is_err_and, take_rest}
 use Rattle.std.proofs.Common.{length-take, length-drop}

@@ -22,7 +22,8 @@ returns-in_err-unless_refused-clause-writes g c =
 pub returns-then-waiting-eq0-clause-writes : goal.returns-then-waiting-eq0-clause-writes
 returns-then-waiting-eq0-clause-writes g c begin loses unused was =
     let ready = serving_ready _ c.loop.handled c.ready.new.self c.ready.result
-    c.ready.ensures.answers c.ready.ensures.exchanges (c.loop.invariant.writes begin loses unused was) in
+    c.ready.ensures.answers c.ready.ensures.exchanges
+    (c.loop.invariant.writes begin loses unused was) in
     record {
       serving = ready;
       all = sym ((rw c.conn.ensures at c.waiting.ensures.count) _ _ ready.represents.streams.conn)
@@ -41,7 +42,8 @@ returns-in_err-written g c =
     let some = written_some _ _ _ _ _ _ written in
     let writing = written_ends _ _ _ _ _ _ written in
     rw (answer.1, answer.2) (record {
-      writes = λ begin loses unused was. stops_put _ now c.ready.new.self c.consume-consumed.new.self
+      writes = λ begin loses unused was. stops_put _ now c.ready.new.self
+          c.consume-consumed.new.self
           (puts_lent c.consume-consumed.result (record {
             few = rw c.conn.ensures at c.waiting.ensures.bound;
             all = rw c.conn.ensures at c.waiting.ensures.count;
@@ -77,7 +79,8 @@ loop-preserved g c =
     at c.write_waiting-written.ensures.writes in
     record {
       failures = written.1 ∙ c.loop.invariant.failures;
-      writes = λ begin loses unused was. serving_put _ now c.ready.new.self c.consume-consumed.new.self
+      writes = λ begin loses unused was. serving_put _ now c.ready.new.self
+          c.consume-consumed.new.self
           (puts_lent c.consume-consumed.result (record {
             few = rw c.conn.ensures at c.waiting.ensures.bound;
             all = rw c.conn.ensures at c.waiting.ensures.count;
