@@ -48,10 +48,9 @@ pub record IsServing {H W : Type 0} (rel : Relations H W) (begin : Beginning H) 
   pub input : Appends begin.start.given now.given (used ++ unused)
   pub output : Appends begin.start.taken now.taken given
 
--- Why it can't be served on, by the error, where so much of what it has given out was not taken: of
--- N2 that the connection has failed with this code, and its GOAWAY, which ends the output, was
--- taken.
--- Of the others nothing is said.
+-- Why it can't be served on, by the error, where so much of what it has given out was not taken: with
+-- N2 the connection has failed with this code, and its GOAWAY, which ends the output, was taken. Of
+-- N1, N3 and N5 nothing is said here; with the others it doesn't end so.
 -- rule: engines (own) N2 has the code with which the connection failed; memory is N3
 abbrev pub StopsServingFor : Log → (untaken : List ℕ) → LinkError → Type 0
 StopsServingFor log untaken (errors.Stream number) =
@@ -119,9 +118,9 @@ DrivesServing {H} rel before now old new (Err error) =
     → HasStoppedServing rel begin now new error
 
 -- Whatever has happened, and the connection can't go on, it ends so.
-abbrev pub EndsFor : {H W : Type 0} → Relations H W → (before now : Traffic)
+abbrev pub EndsServingFor : {H W : Type 0} → Relations H W → (before now : Traffic)
     → (old new : Handled H W) → LinkError → Type 0
-EndsFor {H} rel before now old new error =
+EndsServingFor {H} rel before now old new error =
     (begin : Beginning H) (loses : Bool) (unused : List ℕ)
     → IsServing rel begin loses before unused old → HasStoppedServing rel begin now new error
 

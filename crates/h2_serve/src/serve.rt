@@ -7,7 +7,7 @@ ghost use Rattle.h2_engines.specs.Failures.{failures_by};
 ghost use Rattle.h2_engines.specs.Linked.{traffic};
 ghost use Rattle.h2_handlers.specs.Exchanges.{relations};
 ghost use Rattle.h2_serve.specs.Endings.{IsOfDriving};
-ghost use Rattle.h2_serve.specs.Serving.{DrivesServing, EndsFor, ServesBy, TakesServing};
+ghost use Rattle.h2_serve.specs.Serving.{DrivesServing, EndsServingFor, ServesBy, TakesServing};
 ghost use Rattle.h2_serve.specs.Serving.{WritesServing};
 
 use crate::errors::error_of_code;
@@ -177,7 +177,7 @@ fn end_for<W: Drop, H: Handler<Work = W>, L: Link>(
     stop: Stop,
 ) -> LinkError
     requires { L.faults link.old < 2 ^ 64 - 1 }
-    ensures ends { EndsFor (relations H.heads H.bodies H.trails H.gives H.ends)
+    ensures ends { EndsServingFor (relations H.heads H.bodies H.trails H.gives H.ends)
         (traffic (L.given link.old) (L.taken link.old) (L.stalled link.old))
         (traffic (L.given link.new) (L.taken link.new) (L.stalled link.new))
         handled.old handled.new result }
