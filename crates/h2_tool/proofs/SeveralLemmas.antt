@@ -30,8 +30,8 @@ use Rattle.h2_tool.specs.Gets.{EndsByRefusal, EndsWithStream, RefusesBody, Refus
 use Rattle.h2_tool.specs.Gets.{RefusesUrl}
 use Rattle.h2_tool.specs.GetsSeveral.{AreSameHost, AsksNone, HasOtherHost, IsRefusedForOne}
 use Rattle.h2_tool.specs.GetsSeveral.{IsUnfit, NameInOrder, RefusesLocations, SeveralAsked}
-use Rattle.h2_tool.specs.GetsSeveral.{SeveralSo, StreamsAll, first_failed, is_same_host}
-use Rattle.h2_tool.specs.GetsSeveral.{status_of_one, urls_of, with_url}
+use Rattle.h2_tool.specs.GetsSeveral.{SeveralSo, StreamsAll, first_failed, has_too_many}
+use Rattle.h2_tool.specs.GetsSeveral.{is_same_host, status_of_one, urls_of, with_url}
 use Rattle.h2_tool.proofs.GetLemmas.{get_asks_nothing, get_has_no_body, get_refuses}
 
 -- The first URL is one of them,
@@ -73,7 +73,13 @@ pub several_into_file : (words : GetWords) (remaining before : Option (List ℕ)
     → AsksNone words remaining before before status
 several_into_file words remaining before status file so = inr (inl file, so, refl)
 
--- Whether they do, by the options.
+-- They name too many URLs.
+pub several_too_many : (words : GetWords) (remaining before : Option (List ℕ)) (status : Status)
+    → has_too_many words ≡ true → EndsByRefusal status
+    → AsksNone words remaining before before status
+several_too_many words remaining before status many so = inr (inr (inl many), so, refl)
+
+-- Whether they name a file, by the options.
 pub output_named : (output : Option (Bor (List ℕ))) (given : Bool) → given ≡ is_some output
     → is_some (option_map (λ path. path.now) output) ≡ given
 output_named None given is = sym is
@@ -111,7 +117,7 @@ others_unfit words remaining before first names (unfits.Url fault) status unfit 
     unfit.2 so
 others_unfit words remaining before first names unfits.OtherHost status unfit so =
     inr (
-      inr (record {
+      inr (inr (record {
         first = first;
         names_first = names;
         url = unfit.0;
@@ -119,7 +125,7 @@ others_unfit words remaining before first names unfits.OtherHost status unfit so
         other = unfit.1;
         names_other = unfit.3;
         differs = unfit.4;
-      }),
+      })),
       so,
       refl,
     )
@@ -156,11 +162,11 @@ module _ (words : GetWords) (remaining before : Option (List ℕ)) (first : Loca
   -- All were made, and their responses were printed.
   pub several_so : (after : Option (List ℕ)) (status : Status) → AreSameHost first others
       → AllByRecursion (IsAskable words body) (first ∷ others) → words.output ≡ None
-      → (messages : List SentMessage)
+      → has_too_many words ≡ false → (messages : List SentMessage)
       → messages ≡ map (request_asked words body) (first ∷ others)
       → StreamsAll words messages before after status
       → SeveralSo words remaining before after status
-  several_so after status same asked no_file messages are so = inr (
+  several_so after status same asked no_file few messages are so = inr (
     so.0,
     record {
       first = first;
@@ -172,6 +178,7 @@ module _ (words : GetWords) (remaining before : Option (List ℕ)) (first : Loca
       is = is;
       asked = asked;
       no_file = no_file;
+      few = few;
       streams = rw are at so.1;
     },
     so.2,

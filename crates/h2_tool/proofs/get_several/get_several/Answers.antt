@@ -1,12 +1,12 @@
 -- The words, a URL, the body or a request are refused, or the requests were made.
-use Rattle.std.proofs.Common.{◌≡◌, ◌∙◌, ℕ, List, inl, is_some, map, rules, subst}
+use Rattle.std.proofs.Common.{◌≡◌, ◌∙◌, ℕ, List, inl, is_some, map, rules, subst, sym}
 use Rattle.h2_args.specs.Words.{asked_by}
 use Rattle.h2_message.specs.Values.{message_value}
 use Rattle.h2_get.specs.Ports.{IsRefusedAtPort, NamesAtPort}
 use Rattle.h2_net.specs.declared.location.Location.{Location}
 use Rattle.h2_tool.proofs.SeveralLemmas.{HaveRequests, first_unfit, others_unfit, several_asks_nothing}
 use Rattle.h2_tool.proofs.SeveralLemmas.{no_output, output_named, several_has_no_body}
-use Rattle.h2_tool.proofs.SeveralLemmas.{several_into_file, several_so}
+use Rattle.h2_tool.proofs.SeveralLemmas.{several_into_file, several_so, several_too_many}
 use Rattle.h2_tool.proofs.get_several.get_several.Goals as goal
 
 pub returns-then-is_some-clause-ends : goal.returns-then-is_some-clause-ends
@@ -15,6 +15,12 @@ returns-then-is_some-clause-ends g c =
     inl (several_into_file (asked_by c.args.options.now) _ _ c.refuse_words.result
     (output_named c.args.options.now.output c.is_some.result named ∙ c.if-is_some.true)
     c.refuse_words.ensures)
+
+pub returns-then-has_too_many-clause-ends : goal.returns-then-has_too_many-clause-ends
+returns-then-has_too_many-clause-ends g c =
+    inl (several_too_many (asked_by c.args.options.now) _ _
+    c.refuse_words-then-has_too_many.result
+    (sym c.has_too_many.ensures ∙ c.if-has_too_many.true) c.refuse_words-then-has_too_many.ensures)
 
 pub returns-in-Err-clause-ends : goal.returns-in-Err-clause-ends
 returns-in-Err-clause-ends g c =
@@ -74,5 +80,5 @@ returns-clause-ends g c =
     c.in-Ok-body_of.body.items c.in-Ok-body_of.ensures.body _ c.ask_several_in_time.result
     c.in-Ok-locations_of.ensures.same all.1
     (no_output words
-    (output_named c.args.options.now.output c.is_some.result named ∙ c.if-is_some.false)) _
-    all.0 c.ask_several_in_time.ensures
+    (output_named c.args.options.now.output c.is_some.result named ∙ c.if-is_some.false))
+    (sym c.has_too_many.ensures ∙ c.if-has_too_many.false) _ all.0 c.ask_several_in_time.ensures
