@@ -210,7 +210,8 @@ no_usage_of_messages true role given why output reports = reports.2
 no_usage_of_messages false role given why output reports = reports
 
 messages_so : (options : ReplayOptions) (remaining before after : Option (List ℕ))
-    (status : Status) → IfSome remaining (λ given. PrintsOfMessages options given before after status)
+    (status : Status) → IfSome remaining (λ given. PrintsOfMessages options given before after
+    status)
     → MessagesSo options remaining before after status
 messages_so options remaining before after Good prints = prints
 messages_so options remaining before after Fault prints = prints

@@ -1,5 +1,6 @@
 -- What `{:06}` writes.
-use Rattle.std.proofs.Common.{◌≡◌, ◌∙◌, ◌++◌, ◌-◌, ℕ, [], List, ap, arith, append-nil, false, length}
+use Rattle.std.proofs.Common.{◌≡◌, ◌∙◌, ◌++◌, ◌-◌, ℕ, [], List, ap, arith, append-nil, false}
+use Rattle.std.proofs.Common.{length}
 use Rattle.std.proofs.Common.{Err, Ok, OnOk, Option, Result}
 use Rattle.std.proofs.KnownBytes.{Appends-trans}
 use Rattle.std.specs.Io.KnownBytes.{Appends}

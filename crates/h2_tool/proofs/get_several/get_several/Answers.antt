@@ -4,7 +4,8 @@ use Rattle.h2_args.specs.Words.{asked_by}
 use Rattle.h2_message.specs.Values.{message_value}
 use Rattle.h2_get.specs.Ports.{IsRefusedAtPort, NamesAtPort}
 use Rattle.h2_net.specs.declared.location.Location.{Location}
-use Rattle.h2_tool.proofs.SeveralLemmas.{HaveRequests, first_unfit, others_unfit, several_asks_nothing}
+use Rattle.h2_tool.proofs.SeveralLemmas.{HaveRequests, first_unfit, others_unfit}
+use Rattle.h2_tool.proofs.SeveralLemmas.{several_asks_nothing}
 use Rattle.h2_tool.proofs.SeveralLemmas.{no_output, output_named, several_has_no_body}
 use Rattle.h2_tool.proofs.SeveralLemmas.{several_into_file, several_so, several_too_many}
 use Rattle.h2_tool.proofs.get_several.get_several.Goals as goal
