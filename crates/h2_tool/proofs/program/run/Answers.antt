@@ -1,6 +1,5 @@
 -- Words that begin with `show`, `replay`, `get`, `loop` or `host` are that command's; words without
--- a
--- command have a fault.
+-- a command have a fault.
 use Rattle.std.proofs.Common.{◌≡◌, ◌∷◌, ℕ, List, codes, map, refl, string_bytes, subst, rules}
 use Rattle.h2_tool.specs.Commands.{EndsHost, EndsLoop, EndsReplay, EndsShow}
 use Rattle.h2_tool.specs.GetsSeveral.{EndsGet}
