@@ -36,14 +36,10 @@ pub(crate) fn ok_head(alloc: Global) -> Result<Vec<Field>, AllocError> {
 
 /// The place of some octets in others, the first one.
 pub(crate) fn place_of(octets: &[u8], some: &[u8]) -> Option<usize> {
-    let mut rest = octets;
-    let mut place = 0usize;
-    while !rest.is_empty() {
-        if rest.starts_with(some) {
+    for place in 0..octets.len() {
+        if octets[place..].starts_with(some) {
             return Some(place);
         }
-        rest = &rest[1..];
-        place = place.saturating_add(1);
     }
     None
 }

@@ -1,5 +1,7 @@
 //! The handler that answers with what was asked, beside `serve_link`.
 
+ghost use Rattle.std.specs.Prelude.{◌≡◌};
+
 use crate::asked::{asked, link_of};
 use h2_ends::{Config, Message};
 use h2_engines::{Link, LinkError, MemoryLink, serve_link};

@@ -1,5 +1,7 @@
 //! A handler that gives its answers part by part, and is told that they are over.
 
+ghost use Rattle.std.specs.Prelude.{◌≡◌};
+
 use crate::asked::{asked, link_of, ok_head, place_of};
 use h2_ends::{Config, Message};
 use h2_engines::{Link, MemoryLink};

@@ -21,12 +21,10 @@ const UPDATE_OF_SECOND: &[u8] = b"\x00\x00\x04\x08\x00\x00\x00\x00\x03\x00\x00\x
 
 /// Whether some octets lie in others.
 fn contains(octets: &[u8], some: &[u8]) -> bool {
-    let mut rest = octets;
-    while !rest.is_empty() {
-        if rest.starts_with(some) {
+    for place in 0..octets.len() {
+        if octets[place..].starts_with(some) {
             return true;
         }
-        rest = &rest[1..];
     }
     false
 }
