@@ -15,11 +15,10 @@ use std::io::Write;
 fn has_parts(fetch: &mut PartFetch, link: &mut MemoryLink) -> bool
     requires { link.old.failures ≡ 0 }
 {
-    match fetch.next(link) {
-        Ok(ResponsePart::Head { list, end: false }) if list.len() == 2 => {}
-        _ => return false,
-    }
-    if link.failures() > 0 {
+    let Ok(ResponsePart::Head { list, end: false }) = fetch.next(link) else {
+        return false;
+    };
+    if list.len() != 2 || link.failures() > 0 {
         return false;
     }
     match fetch.next(link) {
