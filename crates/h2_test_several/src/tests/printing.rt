@@ -129,10 +129,6 @@ fn responses_in_the_order_of_their_urls(rt: HostRuntime) {
             prints(alloc, &[OPENING, SECOND, FIRST], most, wanted),
             "{most}"
         );
-        assert!(rt;
-            prints(alloc, &[OPENING, INTERIM, FIRST, SECOND], most, wanted),
-            "{most}"
-        );
     }
 }
 
