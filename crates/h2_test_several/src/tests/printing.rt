@@ -98,16 +98,25 @@ fn options_print(
     }
 }
 
+/// The words, where they are good.
+fn options_of<'a>(alloc: Global, words: &'a [String]) -> Option<GetOptions<'a>>
+    ensures { IfSome result (λ options. (asked_by options).output ≡ None) }
+{
+    let options = get_args(alloc, words).ok()?;
+    if options.output.is_some() {
+        return None;
+    }
+    Some(options)
+}
+
 /// The same with the words of two URLs.
 fn prints(alloc: Global, octets: &[&[u8]], most: usize, wanted: Wanted<'_>) -> bool {
     let Ok(words) = words_of_two(alloc) else {
         return false;
     };
-    match get_args(alloc, &words) {
-        Ok(options) if options.output.is_none() => {
-            options_print(alloc, &options, octets, most, wanted)
-        }
-        _ => false,
+    match options_of(alloc, &words) {
+        Some(options) => options_print(alloc, &options, octets, most, wanted),
+        None => false,
     }
 }
 
