@@ -10,6 +10,11 @@ abbrev pub MovesWithin : (room : ℕ) → Moved → Type 0
 MovesWithin room (Octets count) = (1 ≤ count) × (count ≤ room)
 MovesWithin room other = Unit {0}
 
+-- how many octets were moved
+abbrev pub count_moved : Moved → ℕ
+count_moved (Octets count) = count
+count_moved other = 0
+
 -- What a read or a write came to that has failed: it may go on later where the socket would have
 -- waited, or a signal came in between; every other error is its end.
 -- rule: hosts (own) A socket that would wait is asked again; one that fails is closed

@@ -11,11 +11,11 @@
 //! changes nothing.
 #![tactic(auto)]
 
-mod both;
 mod driver;
 mod moved;
 mod opens;
 mod sockets;
+mod transport;
 mod turn;
 mod waiting;
 

@@ -1,10 +1,11 @@
 //! What a read or a write of a socket came to.
 
-ghost use Rattle.std.specs.Prelude.{◌≡◌, ◌+◌, length};
-ghost use Rattle.h2_mio.specs.Moving.{MovesWithin, moved_at};
+ghost use Rattle.std.specs.Prelude.{◌≡◌, ◌+◌, ◌++◌, [], length, take};
+ghost use Rattle.std.specs.Io.KnownBytes.{Appends};
+ghost use Rattle.h2_mio.specs.Moving.{MovesWithin, count_moved, moved_at};
 
-use crate::both::WritesBoth;
-use std::io::{ErrorKind, Read};
+use crate::transport::Transport;
+use std::io::ErrorKind;
 
 /// What a read or a write came to.
 #[derive(Clone, Copy, Debug, PartialEq, Eq)]
@@ -19,21 +20,29 @@ pub(crate) enum Moved {
     Broken,
 }
 
+// rule: hosts (own) A connection gets just what its socket gave, and its output alone goes there
 /// Reads once.
-pub(crate) fn read_once<S: Read>(stream: &mut S, room: &mut [u8]) -> Moved
+pub(crate) fn read_once<S: Transport>(stream: &mut S, room: &mut [u8]) -> Moved
     ensures within { MovesWithin (length room.new) result }
     ensures room { length room.new ≡ length room.old }
+    ensures gives { Appends (S.given stream.old) (S.given stream.new)
+        (take (count_moved result) room.new) }
+    ensures takes_none { Appends (S.taken stream.old) (S.taken stream.new) [] }
 {
-    match stream.read(room) {
+    match stream.read_some(room) {
         Ok(0) => Moved::Ended,
         Ok(count) => Moved::Octets(count),
         Err(error) => moved_at(error.kind()),
     }
 }
 
+// rule: hosts (own) A connection gets just what its socket gave, and its output alone goes there
 /// Writes two parts once.
-pub(crate) fn write_once<S: WritesBoth>(stream: &mut S, first: &[u8], second: &[u8]) -> Moved
+pub(crate) fn write_once<S: Transport>(stream: &mut S, first: &[u8], second: &[u8]) -> Moved
     ensures within { MovesWithin (length first.now + length second.now) result }
+    ensures takes { Appends (S.taken stream.old) (S.taken stream.new)
+        (take (count_moved result) (first.now ++ second.now)) }
+    ensures gives_none { Appends (S.given stream.old) (S.given stream.new) [] }
 {
     match stream.write_both(first, second) {
         Ok(0) => Moved::Nothing,

@@ -1,13 +1,13 @@
 //! The turn of one connection: what it reads, does and writes.
 
-ghost use Rattle.std.specs.Prelude.{◌≡◌, length};
-ghost use Rattle.h2_mio.specs.DriverRuns.{MakesOwnSteps};
+ghost use Rattle.std.specs.Prelude.{◌≡◌, [], length};
+ghost use Rattle.h2_host.specs.Steps.{AnswersOwn};
+ghost use Rattle.h2_mio.specs.DriverRuns.{MakesTurn};
 
-use crate::both::WritesBoth;
 use crate::moved::{Moved, read_once, write_once};
 use crate::sockets::Socket;
+use crate::transport::Transport;
 use h2_host::{Answer, Host, MOST_TAKEN, Own, Party, Reply, Step, Token};
-use std::io::Read;
 
 /// So many writes are made in a turn, at most: what a turn may give goes in parts of 4,096 octets
 /// and more.
@@ -23,16 +23,19 @@ pub(crate) enum Fate {
 }
 
 // contract: hosts (own) In a turn a driver makes steps of one connection alone
+// contract: hosts (own) A connection gets just what its socket gave, and its output alone goes there
 // rule: hosts (own) In a turn a driver makes steps of one connection alone
 /// Gives a connection the turn that is its own: octets are read once where it takes some, it does
 /// what it has to, and its output is written until the socket takes no more or the turn is over.
-pub(crate) fn give_turn<P: Party, S: Read + WritesBoth>(
+pub(crate) fn give_turn<P: Party, S: Transport>(
     host: &mut Host<P>,
     token: Token,
     socket: &mut Socket<S>,
     input: &mut [u8],
 ) -> Fate
-    ensures run { MakesOwnSteps P.steps P.held_of token host.new host.old }
+    ensures run { MakesTurn P.steps P.held_of P.output_of token
+        (S.given socket.old.stream) (S.given socket.new.stream) (S.taken socket.old.stream)
+        (S.taken socket.new.stream) host.new host.old }
     ensures input { length input.new ≡ length input.old }
 {
     if take_input(host, token, socket, input) == Fate::Over {
@@ -47,13 +50,15 @@ pub(crate) fn give_turn<P: Party, S: Read + WritesBoth>(
 /// Reads once what the connection takes in a turn, if it takes anything. Where fewer octets come
 /// than there is room for, no more wait, which it learns by their number; unless the peer has ended
 /// its side: then it is ready still.
-fn take_input<P: Party, S: Read>(
+fn take_input<P: Party, S: Transport>(
     host: &mut Host<P>,
     token: Token,
     socket: &mut Socket<S>,
     input: &mut [u8],
 ) -> Fate
-    ensures run { MakesOwnSteps P.steps P.held_of token host.new host.old }
+    ensures run { MakesTurn P.steps P.held_of P.output_of token
+        (S.given socket.old.stream) (S.given socket.new.stream) (S.taken socket.old.stream)
+        (S.taken socket.new.stream) host.new host.old }
     ensures input { length input.new ≡ length input.old }
 {
     if !host.wants_input(token) {
@@ -85,8 +90,10 @@ fn take_input<P: Party, S: Read>(
 
 /// Writes the output of a connection from where it lies, its first two parts at once, until nothing
 /// waits, the socket takes no more, or the turn is over.
-fn write_output<P: Party, S: WritesBoth>(host: &mut Host<P>, token: Token, stream: &mut S) -> Fate
-    ensures run { MakesOwnSteps P.steps P.held_of token host.new host.old }
+fn write_output<P: Party, S: Transport>(host: &mut Host<P>, token: Token, stream: &mut S) -> Fate
+    ensures run { MakesTurn P.steps P.held_of P.output_of token
+        (S.given stream.old) (S.given stream.new) (S.taken stream.old)
+        (S.taken stream.new) host.new host.old }
 {
     for _ in 0..MOST_WRITES {
         let (first, second) = host.output(token);
@@ -111,8 +118,10 @@ fn write_output<P: Party, S: WritesBoth>(host: &mut Host<P>, token: Token, strea
 }
 
 /// Writes what a connection that is over has to say, as a GOAWAY, as far as it goes at once.
-fn last_words<P: Party, S: WritesBoth>(host: &mut Host<P>, token: Token, stream: &mut S) -> Fate
-    ensures run { MakesOwnSteps P.steps P.held_of token host.new host.old }
+fn last_words<P: Party, S: Transport>(host: &mut Host<P>, token: Token, stream: &mut S) -> Fate
+    ensures run { MakesTurn P.steps P.held_of P.output_of token
+        (S.given stream.old) (S.given stream.new) (S.taken stream.old)
+        (S.taken stream.new) host.new host.old }
 {
     let _ = write_output(host, token, stream);
     Fate::Over
@@ -120,7 +129,8 @@ fn last_words<P: Party, S: WritesBoth>(host: &mut Host<P>, token: Token, stream:
 
 /// Makes a step of a connection that has no octets.
 pub(crate) fn own_step<P: Party>(host: &mut Host<P>, token: Token, own: Own) -> Fate
-    ensures run { MakesOwnSteps P.steps P.held_of token host.new host.old }
+    ensures answers { (reply : Reply P)
+        × AnswersOwn P.steps P.held_of host.old host.new token own [] reply }
 {
     fate_of(host.step(Step::Own { token, own }, &[]))
 }
