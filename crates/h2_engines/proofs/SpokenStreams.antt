@@ -81,7 +81,7 @@ stays_unended role i item items received sent events reported alive goes unreset
     })
 
 -- This was reported: that the stream was reset.
-abbrev WasReported : Log → ℕ → Type 0
+abbrev pub WasReported : Log → ℕ → Type 0
 WasReported log i = (code : ℕ) × (ours : Bool) × Contains log.reported (ResetEvent i code ours)
 
 -- A reset of the stream that is reported says so.
@@ -113,7 +113,7 @@ other_unreset i item other = false_from_ne_true _ (λ here.
     (or_right (ends i item) _ here))))
 
 -- An end that has failed isn't up.
-is_down : (log : Log) {code : Code} → log.failed ≡ Some code → log.failed ≡ None → ⊥
+pub is_down : (log : Log) {code : Code} → log.failed ≡ Some code → log.failed ≡ None → ⊥
 is_down log {code} failed up = let wrong : None ≡ Some code = sym up ∙ failed in cc
 
 -- After an item that is no fault of the connection an active stream that this end hasn't ended is
@@ -175,7 +175,7 @@ module _ (before after : Log) (decoded : Option Decoded) (i : ℕ) (alive : acti
       ]
 
   -- So it is after a frame.
-  frame_read : AfterFrame before decoded after → after.failed ≡ None
+  pub frame_read : AfterFrame before decoded after → after.failed ≡ None
       → (active after i ≡ true) ⊎ WasReported after i
   frame_read (stays_same adds failed) up =
       inl (active_added before after [] [] [] i adds ∙ alive)
@@ -185,22 +185,22 @@ module _ (before after : Log) (decoded : Option Decoded) (i : ℕ) (alive : acti
       item_read item verdict credit is on is_credit adds
 
 -- What is reported of a frame.
-frame_adds : {before after : Log} {decoded : Option Decoded} → AfterFrame before decoded after
+pub frame_adds : {before after : Log} {decoded : Option Decoded} → AfterFrame before decoded after
     → (events : List Event) × (after.reported ≡ events ++ before.reported)
 frame_adds (stays_same adds failed) = ([], adds.reported)
 frame_adds (has_broken code last less adds failed) = ([], adds.reported)
 frame_adds (has_read item verdict credit is on is_credit adds failed) = (_, adds.reported)
 
 -- Where the end of a message wasn't sent, this end hasn't ended the stream.
-unended_by : (role : Role) (values : Values) (log : Log) (i : ℕ) → IsLog role values log
+pub unended_by : (role : Role) (values : Values) (log : Log) (i : ℕ) → IsLog role values log
     → list_any is_end (tokens_sent i log.calls) ≡ false → list_any (ends i) log.sent ≡ false
 unended_by role values log i is goes =
     false_from_ne_true _ (λ here. both_ways _ goes (rw (tokens_carried _ _ _ _ is)
     (ended_tokens _ _ _ (blocks_of_lists _ _ _ _ (log_sent _ _ _ is)) here)))
 
 -- What is known of a stream stays known where no call is made.
-read_keeps : (role : Role) (values : Values) (before after : Log) (i : ℕ) → IsLog role values before
-    → after.calls ≡ before.calls → (events : List Event)
+pub read_keeps : (role : Role) (values : Values) (before after : Log) (i : ℕ)
+    → IsLog role values before → after.calls ≡ before.calls → (events : List Event)
     → after.reported ≡ events ++ before.reported
     → (active before i ≡ true → list_any (ends i) before.sent ≡ false → IsSpoken i after)
     → IsSpoken i before → IsSpoken i after
@@ -251,7 +251,7 @@ call_asks : (log : Log) (act : Act) (answer : Answer) (i code : ℕ) → WasAske
 call_asks log act answer i code (inl reset) = inl (rw (call_calls _ _ _) (later_in _ _ _ reset))
 call_asks log act answer i code (inr refused) = inr (rw (call_calls _ _ _) (later_in _ _ _ refused))
 
-call_keeps : (role : Role) (values : Values) (log : Log) (act : Act) (answer : Answer) (i : ℕ)
+pub call_keeps : (role : Role) (values : Values) (log : Log) (act : Act) (answer : Answer) (i : ℕ)
     → IsLog role values log → MayAnswer log act answer → IsSpoken i log
     → IsSpoken i (with_call log act answer)
 call_keeps role values log act answer i is may (goes_on alive) =

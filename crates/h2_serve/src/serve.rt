@@ -63,7 +63,9 @@ pub fn serve_handler<W: Drop, H: Handler<Work = W>, L: Link>(
     let Ok(mut handled) = Handled::new(alloc, config, handler) else {
         return Err(LinkError::Memory);
     };
-    let driven = drive(alloc, &mut handled, link);
+    let mut input = vec![in alloc; 0u8; PIECE]?;
+    let mut room = vec![in alloc; 0u8; PART]?;
+    let driven = drive(&mut handled, &mut input, &mut room, link);
     handled.close();
     driven?;
     let conn = handled.conn();
@@ -79,11 +81,13 @@ pub fn serve_handler<W: Drop, H: Handler<Work = W>, L: Link>(
 // rule: engines (own) A handler answers over any link
 /// Serves until the input ends.
 fn drive<W: Drop, H: Handler<Work = W>, L: Link>(
-    alloc: Global,
     handled: &mut Handled<H, W>,
+    input: &mut [u8],
+    room: &mut [u8],
     link: &mut L,
 ) -> Result<(), LinkError>
-    requires { L.faults link.old < 2 ^ 64 - 1 }
+    requires fails { L.faults link.old < 2 ^ 64 - 1 }
+    requires some { 0 < length input.old }
     ensures drives { DrivesServing (relations H.heads H.bodies H.trails H.gives H.ends)
         (traffic (L.given link.old) (L.taken link.old) (L.stalled link.old))
         (traffic (L.given link.new) (L.taken link.new) (L.stalled link.new))
@@ -92,16 +96,14 @@ fn drive<W: Drop, H: Handler<Work = W>, L: Link>(
     ensures failures { L.faults link.new ≡ failures_at_end (L.faults link.old) result }
     ensures err { IfErr result IsOfDriving }
 {
-    let mut input = vec![in alloc; 0u8; PIECE]?;
-    let mut room = vec![in alloc; 0u8; PART]?;
     for _ in 0..u64::MAX {
-        send_all(handled, &mut room, link)?;
-        let count = link.read(&mut input)?;
+        send_all(handled, room, link)?;
+        let count = link.read(input)?;
         if count == 0 {
             return Ok(());
         }
         handled.ask_again();
-        take_all(handled, &input[..count], &mut room, link)?;
+        take_all(handled, &input[..count], room, link)?;
     }
     Err(LinkError::NoProgress)
 }

@@ -1,0 +1,35 @@
+//! Why a response was not heard whole.
+
+ghost use Rattle.std.specs.Prelude.{◌≡◌};
+ghost use Rattle.h2_receive.specs.declared.errors.FetchError.TheVariants.{Handler, Link};
+
+use h2_handlers::HandlerFault;
+use h2_link::LinkError;
+use thiserror::Error;
+
+/// Why a response was not heard whole.
+#[derive(Clone, Copy, Debug, PartialEq, Eq, Hash, Error)]
+pub enum FetchError {
+    /// The connection or the request has ended early, as it says.
+    #[error("{0}")]
+    Link(LinkError),
+    /// The handler has refused the part that it heard last.
+    #[error("{0}")]
+    Handler(HandlerFault),
+}
+
+impl From<LinkError> for FetchError {
+    ghost from_gives = { λ error fault. fault ≡ Link error };
+
+    fn from(error: LinkError) -> FetchError {
+        FetchError::Link(error)
+    }
+}
+
+impl From<HandlerFault> for FetchError {
+    ghost from_gives = { λ error fault. fault ≡ Handler error };
+
+    fn from(error: HandlerFault) -> FetchError {
+        FetchError::Handler(error)
+    }
+}
