@@ -1,8 +1,17 @@
 //! Handlers that answer whole requests.
 
+ghost use Rattle.std.specs.Prelude.{◌≡◌, ⊤, List, Option, Result, ℕ, option_map};
+ghost use Rattle.hpack.specs.declared.types.field.Field.{Field};
+ghost use Rattle.h2_message.specs.declared.message.Message.{Message};
+ghost use Rattle.h2_handlers.specs.declared.handler.HandlerFault.{HandlerFault};
+ghost use Rattle.h2_handlers.specs.Gathering.{AnswersWith, trailers_of};
+
 use crate::handler::{Cause, Handler, HandlerFault, Part, Reply};
 use h2_ends::{Code, Field, FieldList, Message};
 use std::alloc::Global;
+
+/// So many octets a field takes beside its name and its value.
+const FIELD_SIZE: usize = 64;
 
 /// A request that has come whole.
 #[derive(Debug, Drop)]
@@ -28,15 +37,25 @@ impl Request {
 }
 
 /// Answers whole requests.
+///
+/// What an implementor says of itself is said by a relation, as that of [`Handler`] are.
 pub trait Answerer: Drop {
+    /// A request with this head, this body and these trailers may be answered so.
+    ghost answers: { Self → (head : List Field) → (body : List ℕ)
+        → (trailers : Option (List Field)) → Result Message HandlerFault → Self → Type 0 } =
+        { λ _ _ _ _ _ _. ⊤ };
+
     /// The response to a request.
     ///
     /// # Errors
     ///
     /// The request is answered with status 500.
-    fn answer(&mut self, alloc: Global, request: &Request) -> Result<Message, HandlerFault>;
+    fn answer(&mut self, alloc: Global, request: &Request) -> Result<Message, HandlerFault>
+        ensures { answers self.old request.now.head.items request.now.body.items
+            (trailers_of request.now) result self.new };
 }
 
+// contract: handlers (own) A whole request is answered by what has come of it, all and in order
 /// The handler that keeps each request until it is whole. A stream whose request has a body of
 /// more octets than `most` is reset with ENHANCE_YOUR_CALM.
 #[derive(Drop)]
@@ -47,19 +66,41 @@ pub struct Gather<A> {
 
 impl<A: Answerer> Gather<A> {
     /// A new one, over what answers.
-    pub fn new(answerer: A, most: usize) -> Gather<A> {
+    pub fn new(answerer: A, most: usize) -> Gather<A>
+        ensures { result ≡ record { answerer = answerer; most = most } }
+    {
         Gather { answerer, most }
     }
 
     /// Answers a request that is whole.
-    fn answer(&mut self, alloc: Global, request: &Request) -> Result<Reply, HandlerFault> {
+    fn answer(&mut self, alloc: Global, request: &Request) -> Result<Reply, HandlerFault>
+        ensures answers { AnswersWith A.answers request.now self.old.answerer result
+            self.new.answerer }
+        ensures most { self.new.most ≡ self.old.most }
+    {
         let message = self.answerer.answer(alloc, request)?;
         Ok(Reply::Whole(message))
     }
 }
 
 impl<A: Answerer> Handler for Gather<A> {
+    ghost use Rattle.h2_handlers.specs.Gathering.{GathersHead, GathersBody, GathersTrailers};
+    ghost use Rattle.h2_handlers.specs.Gathering.{GivesNoPart};
+    ghost use Rattle.h2_handlers.specs.declared.gather.Gather.{Gather as GatherOf};
+
     type Work = Request;
+
+    ghost heads = { λ old list end result new. GathersHead A.answers old list end result new };
+
+    ghost bodies = { λ old work octets end result next new.
+        GathersBody A.answers old work octets end result next new };
+
+    ghost trails = { λ old work list result next new.
+        GathersTrailers A.answers old work list result next new };
+
+    ghost gives = { λ old work result room next new. GivesNoPart old work result next new };
+
+    ghost ends = { λ old work cause new. new ≡ old };
 
     fn head(
         &mut self,
@@ -118,12 +159,12 @@ impl<A: Answerer> Handler for Gather<A> {
     }
 
     fn held(&self, work: &Request) -> usize {
-        let mut octets = work.body.len();
-        for field in &work.head {
-            let length = field.name.as_slice().len();
-            octets = octets.saturating_add(length.saturating_add(field.value.as_slice().len()));
-        }
-        octets
+        let trailers = match &work.trailers {
+            Some(list) => octets_of(list),
+            None => 0,
+        };
+        let fields = octets_of(&work.head).saturating_add(trailers);
+        work.body.len().saturating_add(fields)
     }
 
     fn unused(&self, _work: &Request) -> u32 {
@@ -131,6 +172,16 @@ impl<A: Answerer> Handler for Gather<A> {
     }
 
     fn over(&mut self, _work: Request, _cause: Cause) {}
+}
+
+/// How many octets fields hold: those of their names and values, and what each takes beside that.
+fn octets_of(fields: &[Field]) -> usize {
+    let mut octets = 0usize;
+    for field in fields {
+        let own = field.name.as_slice().len().saturating_add(field.value.as_slice().len());
+        octets = octets.saturating_add(own.saturating_add(FIELD_SIZE));
+    }
+    octets
 }
 
 /// Answers each request with its method, a space, its path, a line end and its body; HEAD with the
