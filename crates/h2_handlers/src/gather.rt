@@ -42,8 +42,7 @@ impl Request {
 pub trait Answerer: Drop {
     /// A request with this head, this body and these trailers may be answered so.
     ghost answers: { Self → (head : List Field) → (body : List ℕ)
-        → (trailers : Option (List Field)) → Result Message HandlerFault → Self → Type 0 } =
-        { λ _ _ _ _ _ _. ⊤ };
+        → (trailers : Option (List Field)) → Result Message HandlerFault → Self → Type 0 } = { λ _ _ _ _ _ _. ⊤ };
 
     /// The response to a request.
     ///
@@ -178,7 +177,11 @@ impl<A: Answerer> Handler for Gather<A> {
 fn octets_of(fields: &[Field]) -> usize {
     let mut octets = 0usize;
     for field in fields {
-        let own = field.name.as_slice().len().saturating_add(field.value.as_slice().len());
+        let own = field
+            .name
+            .as_slice()
+            .len()
+            .saturating_add(field.value.as_slice().len());
         octets = octets.saturating_add(own.saturating_add(FIELD_SIZE));
     }
     octets

@@ -1,12 +1,15 @@
 //! Tests of handlers that serve over a link in memory.
 //!
-//! - `echoing`: the handler that answers with what was asked, beside `serve_link`. `parts`: one that
+//! - `echoing`: the handler that answers with what was asked, beside `serve_link`; `differing`:
+//!   where the two don't do the same. `parts`: one that
 //!   gives its answers part by part, and is told that they are over. `sharing`: whole bodies beside
 //!   parts.
 #![tactic(auto)]
 
 #[cfg(test)]
 mod asked;
+#[cfg(test)]
+mod differing;
 #[cfg(test)]
 mod echoing;
 #[cfg(test)]
