@@ -4,19 +4,18 @@ ghost use Rattle.std.specs.Prelude.{◌≡◌, is_some};
 ghost use Rattle.std.specs.Net.Socket.{socket_ip, socket_port};
 ghost use Rattle.h2_hosting.specs.Ending.{EndsHosting, IsFailedHost, in_milliseconds, port_hint};
 
-use crate::guest::Guest;
-use crate::guests::{Guests, Makes};
+use crate::guests::Makes;
 use crate::journal::Journal;
 use crate::logged::Logged;
+use crate::serving::serve;
 use crate::site::Site;
 use h2_cli::{Failure, Hint, Status, write_hint};
 use h2_folder::{Folder, Recent};
-use h2_handlers::{Echo, Gather, Handler};
+use h2_handlers::{Echo, Gather};
 use h2_host::Limits;
-use h2_mio::{Driver, Place};
-use h2_seat::{Seat, SeatLimits};
+use h2_mio::Place;
+use h2_seat::SeatLimits;
 use std::alloc::Global;
-use std::cell::Cell;
 use std::fs::{self, Files};
 use std::io::{self, ErrorKind, Write};
 use std::net::{IpAddr, Net, SocketAddr};
@@ -141,10 +140,12 @@ pub fn host_port<'x, R: Net + Files + Clock, W: Write, E: Write>(
     {
         return refuse_root(root, &error, err);
     }
+    let place = place_of(options);
+    let limits = seat_limits(options.idle);
     let served = match options.root {
         Some(root) => {
             let sites = Sites::new(rt, kept, alloc, root, &recent);
-            serve(rt, alloc, options, sites, &journal, out)
+            serve(rt, alloc, place, limits, sites, &journal, out)
         }
         None => {
             let echoes = Echoes {
@@ -152,7 +153,7 @@ pub fn host_port<'x, R: Net + Files + Clock, W: Write, E: Write>(
                 journal: kept,
                 alloc,
             };
-            serve(rt, alloc, options, echoes, &journal, out)
+            serve(rt, alloc, place, limits, echoes, &journal, out)
         }
     };
     match served {
@@ -177,36 +178,6 @@ fn is_folder<R: Files>(rt: &R, root: &str) -> io::Result<()> {
     } else {
         Err(io::Error::from(ErrorKind::NotADirectory))
     }
-}
-
-/// Serves with the handlers that are made so.
-fn serve<R, V, H, M, W>(
-    rt: &R,
-    alloc: Global,
-    options: HostOptions<'_>,
-    makes: M,
-    journal: &Journal,
-    out: &mut W,
-) -> io::Result<()>
-where
-    R: Net + Files + Clock,
-    V: Drop,
-    H: Handler<Work = V>,
-    M: Makes<H> + Drop,
-    W: Write,
-{
-    let leaving = Cell::new(false);
-    let mut guests = Guests {
-        alloc,
-        makes,
-        limits: seat_limits(options.idle),
-        leaving: &leaving,
-        journal,
-        out,
-    };
-    let place = place_of(options);
-    let mut driver: Driver<Guest<'_, Seat<H, V>>> = Driver::open(rt, alloc, place)?;
-    driver.run(rt, &mut guests)
 }
 
 // contract: hosts (own) The options of a host say what is served, where, and for how long

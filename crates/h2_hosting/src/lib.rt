@@ -2,7 +2,7 @@
 //!
 //! [`host_port`] opens a [`Driver`](h2_mio::Driver) whose connections are [`Guest`]s: a
 //! [`Seat`](h2_seat::Seat) with a handler, which is a [`Site`] or an echo, either of them
-//! [`Logged`].
+//! [`Logged`]. [`host_handlers`] serves them with any other handler.
 #![tactic(auto)]
 
 mod guest;
@@ -11,11 +11,16 @@ mod hosting;
 mod journal;
 mod logged;
 mod note;
+mod serving;
 mod site;
 
 pub use guest::{Guest, Leaves};
 pub use guests::{Guests, Makes};
+pub use h2_host::Limits;
+pub use h2_mio::Place;
+pub use h2_seat::SeatLimits;
 pub use hosting::{HostOptions, host_port};
 pub use journal::{Journal, TakesLines};
 pub use logged::{Logged, Note};
+pub use serving::host_handlers;
 pub use site::Site;
