@@ -1,5 +1,5 @@
 -- What a driver does with its host in the turn of a connection, and with its socket.
-use Rattle.std.specs.Prelude.{◌≡◌, ℕ, List, [], ◌++◌, length, Option}
+use Rattle.std.specs.Prelude.{ℕ, List, [], ◌++◌, length, Option}
 use Rattle.std.specs.Io.{StartsWith}
 use Rattle.std.specs.Io.KnownBytes.{Appends}
 use Rattle.h2_host.specs.declared.host.Reply.{Reply}
