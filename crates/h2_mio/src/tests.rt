@@ -58,7 +58,7 @@ fn gets_what_was_read(alloc: Global) -> Option<bool> {
     Some(goes && some && still && host.party(token)?.has(b"12345"))
 }
 
-// rule (best): hosts (own) A connection gets just what its socket gave, and its output alone goes there
+// rule (best): hosts (own) A connection gets just what its socket gave; its output alone goes there
 #[test]
 fn a_connection_gets_what_was_read(rt: HostRuntime) {
     assert!(rt; gets_what_was_read(rt.alloc()) == Some(true));
@@ -78,7 +78,7 @@ fn counts_what_was_taken(alloc: Global) -> Option<bool> {
     Some(goes && few && still && more && last && all)
 }
 
-// rule: hosts (own) A connection gets just what its socket gave, and its output alone goes there
+// rule: hosts (own) A connection gets just what its socket gave; its output alone goes there
 #[test]
 fn a_write_counts_what_was_taken(rt: HostRuntime) {
     assert!(rt; counts_what_was_taken(rt.alloc()) == Some(true));
@@ -96,7 +96,7 @@ fn learns_of_the_end(alloc: Global) -> Option<bool> {
     Some(goes && came && still && host.party(token)?.ended)
 }
 
-// rule: hosts (own) A connection gets just what its socket gave, and its output alone goes there
+// rule: hosts (own) A connection gets just what its socket gave; its output alone goes there
 #[test]
 fn the_end_comes_after_the_octets(rt: HostRuntime) {
     assert!(rt; learns_of_the_end(rt.alloc()) == Some(true));
