@@ -1,1 +1,2 @@
 mod OwnRuns
+mod OwnMoves

@@ -1,5 +1,5 @@
 -- What a driver does with its host in the turn of a connection, and with its socket.
-use Rattle.std.specs.Prelude.{◌≡◌, ℕ, List, [], ◌++◌, length, Option}
+use Rattle.std.specs.Prelude.{ℕ, List, [], ◌++◌, length, Option}
 use Rattle.std.specs.Io.{StartsWith}
 use Rattle.std.specs.Io.KnownBytes.{Appends}
 use Rattle.h2_host.specs.declared.host.Reply.{Reply}
@@ -48,7 +48,7 @@ pub data MakesOwnSteps {P : Type 0} (steps : P → Own → List ℕ → Answer �
 
 -- A connection has had its turn: such steps were made, in which just the octets that its socket
 -- gave came to it, and just those of its output have gone that the socket took.
--- rule: hosts (own) A connection gets just what its socket gave, and its output alone goes there
+-- rule: hosts (own) A connection gets just what its socket gave; its output alone goes there
 pub record MakesTurn {P : Type 0} (steps : P → Own → List ℕ → Answer → P → Type 0)
     (held_of : P → ℕ) (output_of : P → List ℕ) (token : Token)
     (given_old given_new taken_old taken_new : Option (List ℕ)) (new old : HostState P) : Type 0

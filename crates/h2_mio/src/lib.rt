@@ -15,6 +15,8 @@ mod driver;
 mod moved;
 mod opens;
 mod sockets;
+#[cfg(test)]
+mod tests;
 mod transport;
 mod turn;
 mod waiting;

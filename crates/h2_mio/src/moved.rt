@@ -20,7 +20,7 @@ pub(crate) enum Moved {
     Broken,
 }
 
-// rule: hosts (own) A connection gets just what its socket gave, and its output alone goes there
+// rule: hosts (own) A connection gets just what its socket gave; its output alone goes there
 /// Reads once.
 pub(crate) fn read_once<S: Transport>(stream: &mut S, room: &mut [u8]) -> Moved
     ensures within { MovesWithin (length room.new) result }
@@ -36,7 +36,7 @@ pub(crate) fn read_once<S: Transport>(stream: &mut S, room: &mut [u8]) -> Moved
     }
 }
 
-// rule: hosts (own) A connection gets just what its socket gave, and its output alone goes there
+// rule: hosts (own) A connection gets just what its socket gave; its output alone goes there
 /// Writes two parts once.
 pub(crate) fn write_once<S: Transport>(stream: &mut S, first: &[u8], second: &[u8]) -> Moved
     ensures within { MovesWithin (length first.now + length second.now) result }

@@ -23,7 +23,7 @@ pub(crate) enum Fate {
 }
 
 // contract: hosts (own) In a turn a driver makes steps of one connection alone
-// contract: hosts (own) A connection gets just what its socket gave, and its output alone goes there
+// contract: hosts (own) A connection gets just what its socket gave; its output alone goes there
 // rule: hosts (own) In a turn a driver makes steps of one connection alone
 /// Gives a connection the turn that is its own: octets are read once where it takes some, it does
 /// what it has to, and its output is written until the socket takes no more or the turn is over.

@@ -1,0 +1,81 @@
+//! A party that keeps what has come.
+
+use h2_host::{Answer, Own, Party};
+use std::alloc::Global;
+
+/// A party that keeps what has come, and counts what has gone. It is always ready.
+#[derive(Drop)]
+pub(crate) struct Counter<'a> {
+    /// What has come.
+    came: Vec<u8>,
+    /// Whether the peer has ended its side.
+    pub(crate) ended: bool,
+    /// How many turns it has acted in.
+    pub(crate) acted: usize,
+    /// How many octets of its output have gone.
+    pub(crate) went: usize,
+    /// Its output.
+    put: &'a [u8],
+}
+
+impl<'a> Counter<'a> {
+    /// A party that has this output.
+    pub(crate) fn new(alloc: Global, put: &'a [u8]) -> Counter<'a> {
+        Counter {
+            came: Vec::new(alloc),
+            ended: false,
+            acted: 0,
+            went: 0,
+            put,
+        }
+    }
+
+    /// Whether just these octets have come.
+    pub(crate) fn has(&self, octets: &[u8]) -> bool {
+        self.came.as_slice() == octets
+    }
+}
+
+impl Party for Counter<'_> {
+    ghost use Rattle.std.specs.Prelude.{⊤, ◌≡◌, drop, true};
+
+    ghost steps = { λ _ _ _ _ _. ⊤ };
+
+    ghost held_of = { λ _. 0 };
+
+    ghost ready_of = { λ _. true };
+
+    ghost takes = { λ _ wants. wants ≡ true };
+
+    ghost output_of = { λ counter. drop counter.went counter.put.now };
+
+    fn step(&mut self, own: Own, octets: &[u8], _room: &mut [u8]) -> Answer {
+        match own {
+            Own::Came if self.came.extend_from_slice(octets).is_ok() => {}
+            Own::Came | Own::Refused { .. } => return Answer::Over,
+            Own::Ended => self.ended = true,
+            Own::Turn => self.acted = self.acted.saturating_add(1),
+            Own::Went { count } => self.went = self.went.saturating_add(count),
+            _ => {}
+        }
+        Answer::Goes
+    }
+
+    fn held(&self) -> usize {
+        0
+    }
+
+    fn is_ready(&self) -> bool {
+        true
+    }
+
+    fn wants_input(&self) -> bool {
+        true
+    }
+
+    /// Two octets, and the others.
+    fn output(&self) -> (&[u8], &[u8]) {
+        let rest = &self.put[self.went.min(self.put.len())..];
+        rest.split_at(rest.len().min(2))
+    }
+}
