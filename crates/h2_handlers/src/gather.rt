@@ -54,7 +54,6 @@ pub trait Answerer: Drop {
             (trailers_of request.now) result self.new };
 }
 
-// contract: handlers (own) A whole request is answered by what has come of it, all and in order
 /// The handler that keeps each request until it is whole. A stream whose request has a body of
 /// more octets than `most` is reset with ENHANCE_YOUR_CALM.
 #[derive(Drop)]
@@ -101,6 +100,7 @@ impl<A: Answerer> Handler for Gather<A> {
 
     ghost ends = { λ old work cause new. new ≡ old };
 
+    // rule: handlers (own) A whole request is answered by what has come of it, all and in order
     fn head(
         &mut self,
         alloc: Global,
@@ -120,6 +120,8 @@ impl<A: Answerer> Handler for Gather<A> {
         Ok((request, reply))
     }
 
+    // contract: handlers (own) A whole request is answered by what has come of it, all and in order
+    // rule: handlers (own) A whole request is answered by what has come of it, all and in order
     fn body(
         &mut self,
         alloc: Global,
@@ -138,6 +140,7 @@ impl<A: Answerer> Handler for Gather<A> {
         Ok(Reply::Later)
     }
 
+    // rule: handlers (own) A whole request is answered by what has come of it, all and in order
     fn trailers(
         &mut self,
         alloc: Global,

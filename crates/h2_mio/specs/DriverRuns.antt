@@ -18,10 +18,12 @@ abbrev pub IsFirstOfOutput : {P : Type 0} → (output_of : P → List ℕ) → H
 IsFirstOfOutput {P} output_of host token first =
     (party : P) → IsAt (slots_of host) token party → StartsWith (output_of party) first
 
--- With the step no octets go over the socket.
+-- The step is one of the connection alone, and with it no octets go over the socket.
 abbrev pub MovesNone : Own → Type 0
 MovesNone owns.Came = ⊥
 MovesNone (owns.Went count) = ⊥
+MovesNone (owns.Passed now) = ⊥
+MovesNone (owns.Refused bound) = ⊥
 MovesNone own = Unit {0}
 
 -- Steps of one connection were made, one after another, and none besides: none of another
