@@ -14,8 +14,8 @@ use Rattle.h2_handlers.specs.declared.handler.Reply.TheVariants as replies
 
 -- what an answerer says of itself: that a request with this head, body and trailers may be answered
 -- so
-abbrev pub Answers : (A : Type 0) → Type 1
-Answers A =
+abbrev pub AnswererSays : (A : Type 0) → Type 1
+AnswererSays A =
     A → (head : List Field) → (body : List ℕ) → (trailers : Option (List Field))
     → Result Message HandlerFault → A → Type 0
 
@@ -24,7 +24,7 @@ abbrev pub trailers_of : Request → Option (List Field)
 trailers_of request = option_map (λ list. list.items) request.trailers
 
 -- What is kept of a request: this head, these octets of its body, and these trailers.
-pub record IsKept (request : Request) (head : List Field) (body : List ℕ)
+pub record IsGathered (request : Request) (head : List Field) (body : List ℕ)
     (trailers : Option (List Field)) : Type 0 where
   pub head_is : request.head.items ≡ head
   pub body_is : request.body.items ≡ body
@@ -32,41 +32,41 @@ pub record IsKept (request : Request) (head : List Field) (body : List ℕ)
 
 -- The answer is what the answerer has said of the request, as a whole message; or its fault.
 -- rule: handlers (own) A whole request is answered by what has come of it, all and in order
-abbrev pub AnswersWith : {A : Type 0} → Answers A → Request → (old : A) → Result Reply HandlerFault
-    → (new : A) → Type 0
-AnswersWith answers request old (Ok reply) new =
+abbrev pub AnswersGathered : {A : Type 0} → AnswererSays A → Request → (old : A)
+    → Result Reply HandlerFault → (new : A) → Type 0
+AnswersGathered answers request old (Ok reply) new =
     (message : Message) × (reply ≡ replies.Whole message)
     × answers old request.head.items request.body.items (trailers_of request) (Ok message) new
-AnswersWith answers request old (Err fault) new =
+AnswersGathered answers request old (Err fault) new =
     answers old request.head.items request.body.items (trailers_of request) (Err fault) new
 
 -- Nothing was asked of the answerer.
-abbrev pub IsNotAsked : {A : Type 0} → (old new : Gather A) → Type 0
-IsNotAsked old new = new ≡ old
+abbrev pub LeavesAnswerer : {A : Type 0} → (old new : Gather A) → Type 0
+LeavesAnswerer old new = new ≡ old
 
 -- The request is whole, and is answered so; or it isn't, and waits.
-abbrev pub AnswersIfWhole : {A : Type 0} → Answers A → (ends : Bool) → Request
+abbrev pub AnswersIfWhole : {A : Type 0} → AnswererSays A → (ends : Bool) → Request
     → (old : Gather A) → Result Reply HandlerFault → (new : Gather A) → Type 0
 AnswersIfWhole answers true request old reply new =
-    AnswersWith answers request old.answerer reply new.answerer × (new.most ≡ old.most)
+    AnswersGathered answers request old.answerer reply new.answerer × (new.most ≡ old.most)
 AnswersIfWhole answers false request old reply new =
-    (reply ≡ Ok replies.Later) × IsNotAsked old new
+    (reply ≡ Ok replies.Later) × LeavesAnswerer old new
 
 -- The answerer had to be asked, and has failed; or there was no memory for what has come.
-abbrev pub FailsGathering : {A : Type 0} → Answers A → (ends : Bool) → (head : List Field)
+abbrev pub FailsGathering : {A : Type 0} → AnswererSays A → (ends : Bool) → (head : List Field)
     → (body : List ℕ) → (trailers : Option (List Field)) → (old : Gather A) → HandlerFault
     → (new : Gather A) → Type 0
 FailsGathering answers ends head body trailers old fault new =
-    ((fault ≡ Memory) × IsNotAsked old new)
+    ((fault ≡ Memory) × LeavesAnswerer old new)
     ⊎ ((ends ≡ true) × answers old.answerer head body trailers (Err fault) new.answerer
     × (new.most ≡ old.most))
 
 -- The head of a request has come: it is kept, and the request is answered where it is whole.
 -- rule: handlers (own) A whole request is answered by what has come of it, all and in order
-abbrev pub GathersHead : {A : Type 0} → Answers A → (old : Gather A) → (list : List Field)
+abbrev pub GathersHead : {A : Type 0} → AnswererSays A → (old : Gather A) → (list : List Field)
     → (ends : Bool) → Result (Request × Reply) HandlerFault → (new : Gather A) → Type 0
 GathersHead answers old list ends (Ok (request, reply)) new =
-    IsKept request list [] None × AnswersIfWhole answers ends request old (Ok reply) new
+    IsGathered request list [] None × AnswersIfWhole answers ends request old (Ok reply) new
 GathersHead answers old list ends (Err fault) new =
     FailsGathering answers ends list [] None old fault new
 
@@ -77,13 +77,13 @@ AreTooMany gather work octets = gather.most - length work.body.items < length oc
 -- Octets of its body have come: they are kept after those that came before, and the request is
 -- answered where it is whole. A stream whose body has too many octets is reset.
 -- rule: handlers (own) A whole request is answered by what has come of it, all and in order
-abbrev pub GathersBody : {A : Type 0} → Answers A → (old : Gather A) → (work : Request)
+abbrev pub GathersBody : {A : Type 0} → AnswererSays A → (old : Gather A) → (work : Request)
     → (octets : List ℕ) → (ends : Bool) → Result Reply HandlerFault → (next : Request)
     → (new : Gather A) → Type 0
 GathersBody answers old work octets ends (Ok reply) next new =
-    (AreTooMany old work octets × (reply ≡ replies.Reset EnhanceYourCalm) × IsNotAsked old new)
+    (AreTooMany old work octets × (reply ≡ replies.Reset EnhanceYourCalm) × LeavesAnswerer old new)
     ⊎ ((length octets ≤ old.most - length work.body.items)
-    × IsKept next work.head.items (work.body.items ++ octets) (trailers_of work)
+    × IsGathered next work.head.items (work.body.items ++ octets) (trailers_of work)
     × AnswersIfWhole answers ends next old (Ok reply) new)
 GathersBody answers old work octets ends (Err fault) next new =
     (length octets ≤ old.most - length work.body.items)
@@ -92,10 +92,10 @@ GathersBody answers old work octets ends (Err fault) next new =
 
 -- Its trailers have come: the request is whole, and is answered.
 -- rule: handlers (own) A whole request is answered by what has come of it, all and in order
-abbrev pub GathersTrailers : {A : Type 0} → Answers A → (old : Gather A) → (work : Request)
+abbrev pub GathersTrailers : {A : Type 0} → AnswererSays A → (old : Gather A) → (work : Request)
     → (list : List Field) → Result Reply HandlerFault → (next : Request) → (new : Gather A) → Type 0
 GathersTrailers answers old work list (Ok reply) next new =
-    IsKept next work.head.items work.body.items (Some list)
+    IsGathered next work.head.items work.body.items (Some list)
     × AnswersIfWhole answers true next old (Ok reply) new
 GathersTrailers answers old work list (Err fault) next new =
     FailsGathering answers true work.head.items work.body.items (Some list) old fault new

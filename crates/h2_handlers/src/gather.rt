@@ -4,7 +4,7 @@ ghost use Rattle.std.specs.Prelude.{◌≡◌, ⊤, List, Option, Result, ℕ, o
 ghost use Rattle.hpack.specs.declared.types.field.Field.{Field};
 ghost use Rattle.h2_message.specs.declared.message.Message.{Message};
 ghost use Rattle.h2_handlers.specs.declared.handler.HandlerFault.{HandlerFault};
-ghost use Rattle.h2_handlers.specs.Gathering.{AnswersWith, trailers_of};
+ghost use Rattle.h2_handlers.specs.Gathering.{AnswersGathered, trailers_of};
 
 use crate::handler::{Cause, Handler, HandlerFault, Part, Reply};
 use h2_ends::{Code, Field, FieldList, Message};
@@ -72,7 +72,7 @@ impl<A: Answerer> Gather<A> {
 
     /// Answers a request that is whole.
     fn answer(&mut self, alloc: Global, request: &Request) -> Result<Reply, HandlerFault>
-        ensures answers { AnswersWith A.answers request.now self.old.answerer result
+        ensures answers { AnswersGathered A.answers request.now self.old.answerer result
             self.new.answerer }
         ensures most { self.new.most ≡ self.old.most }
     {

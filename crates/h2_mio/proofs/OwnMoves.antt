@@ -1,10 +1,10 @@
 -- Octets that come to a connection in its turn, and go: the host refuses neither.
 use Rattle.std.specs.Prelude.{◌≡◌, ◌≤◌, ◌+◌, ◌++◌, ℕ, List, [], Option, length, take}
 use Rattle.std.specs.Prelude.{Bool, true, false, nat_lt, None, Some}
-use Rattle.std.proofs.Common.{arith, refl, subst, sym, ap, ◌∙◌, inl, inr, append-nil, ltb-true}
+use Rattle.std.proofs.Common.{arith, refl, subst, sym, ap, ◌∙◌, inl, inr, append-nil}
 use Rattle.std.proofs.Common.{length-append}
 use Rattle.std.proofs.Transfers.{starts_with_trans}
-use Rattle.std.proofs.lemmas.Bool.{cases_Bool}
+use Rattle.std.proofs.lemmas.Bool.Decides.{nat_tests}
 use Rattle.std.proofs.lemmas.List.{length-take-le}
 use Rattle.std.specs.Io.KnownBytes.{Appends}
 use Rattle.h2_host.specs.declared.host.Reply.{Reply}
@@ -21,18 +21,11 @@ use Rattle.h2_host.specs.Turns.{has_turn, turn_left}
 use Rattle.h2_mio.specs.DriverRuns.{MakesOwnSteps, MakesTurn, IsFirstOfOutput}
 use Rattle.h2_mio.specs.DriverRuns.{no_own_step, octets_came, octets_went}
 
--- A number is not below one that it is not above.
-not_above : (most count : ℕ) → count ≤ most → nat_lt most count ≡ false
-not_above most count fits = elim (cases_Bool (nat_lt most count)) [
-  | inl above ↦ let less = ltb-true most count above in absurd (omega (arith, fits, less))
-  | inr not ↦ not
-]
-
 -- Who has the turn, in which none have come, may be handed octets;
 may_come : (turn : Turn) (token : Token) (count : ℕ) → has_turn turn.token token ≡ true
     → turn.came ≡ false → count ≤ 16384 → turn_left turn token owns.Came count ≡ None → ⊥
 may_come turn token count its came fits none =
-    let below = not_above 16384 count fits in
+    let below : nat_lt 16384 count ≡ false = grind (arith, nat_tests) in
     let some : turn_left turn token owns.Came count ≡ Some (record turn { came = true }) =
     rw (its, came, below) refl in absurd (let no = sym some ∙ none in cc)
 
@@ -40,7 +33,7 @@ may_come turn token count its came fits none =
 may_go : (turn : Turn) (token : Token) (count : ℕ) → has_turn turn.token token ≡ true
     → turn.gave + count ≤ 65536 → turn_left turn token (owns.Went count) 0 ≡ None → ⊥
 may_go turn token count its fits none =
-    let below = not_above 65536 (turn.gave + count) fits in
+    let below : nat_lt 65536 (turn.gave + count) ≡ false = grind (arith, nat_tests) in
     let some : turn_left turn token (owns.Went count) 0
     ≡ Some (record turn { gave = turn.gave + count }) =
     rw (its, below) refl in absurd (let no = sym some ∙ none in cc)

@@ -18,8 +18,7 @@ use std::alloc::Global;
 /// which always hold.
 pub trait ResponseHandler {
     /// The next part may be heard so.
-    ghost hears: { Self → ResponsePart → Result (Unit {0}) HandlerFault → Self → Type 0 } =
-        { λ _ _ _ _. ⊤ };
+    ghost hears: { Self → ResponsePart → Result (Unit {0}) HandlerFault → Self → Type 0 } = { λ _ _ _ _. ⊤ };
 
     /// The fetch may end so.
     ghost ends: { Self → Result (Unit {0}) FetchError → Self → Type 0 } = { λ _ _ _. ⊤ };

@@ -68,7 +68,15 @@ fn ends_with(alloc: Global, last: &[u8], error: LinkError) -> bool {
         return false;
     };
     let hearing = Hearing::new(alloc, false);
-    hears(alloc, &[first, last], 7, hearing, 1, b"", Err(FetchError::Link(error)))
+    hears(
+        alloc,
+        &[first, last],
+        7,
+        hearing,
+        1,
+        b"",
+        Err(FetchError::Link(error)),
+    )
 }
 
 // rule: engines (own) A handler hears a response part by part, as it comes

@@ -31,10 +31,7 @@ fn has(link: &MemoryLink, some: &[u8]) -> bool {
 /// server, and what was asked by `serve_link`. Status 200 is octet 0x88, and 400 0x8c, at the
 /// beginning of a block (RFC 7541, appendix A).
 fn is_user_refused(alloc: Global) -> bool {
-    let (Some(mut first), Some(mut second)) = (
-        link_with(alloc),
-        link_with(alloc),
-    ) else {
+    let (Some(mut first), Some(mut second)) = (link_with(alloc), link_with(alloc)) else {
         return false;
     };
     let served = serve_link(alloc, &mut first, Config::default());
