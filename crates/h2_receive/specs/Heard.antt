@@ -29,7 +29,8 @@ ends_response (parts.Trailers list) = true
 -- A handler has heard these parts, one after another, the first one first, and taken each.
 -- rule: engines (own) A handler hears a response part by part, as it comes
 pub data HasHeard {H : Type 0}
-    (hears : H → ResponsePart → Result (Unit {0}) HandlerFault → H → Type 0) (old : H) : List ResponsePart → (new : H) → Type 0 where
+    (hears : H → ResponsePart → Result (Unit {0}) HandlerFault → H → Type 0) (old : H)
+    : List ResponsePart → (new : H) → Type 0 where
   none_heard : HasHeard hears old [] old
   one_heard : (before : List ResponsePart) (mid new : H) (part : ResponsePart)
       → HasHeard hears old before mid → hears mid part (Ok tt) new
