@@ -1,6 +1,6 @@
 //! What an application gives a client: a handler, which hears the response to one request.
 
-ghost use Rattle.std.specs.Prelude.{⊤, Result, Unit};
+ghost use Rattle.std.specs.Prelude.{⊤, Result};
 ghost use Rattle.h2_fetch.specs.declared.part.ResponsePart.{ResponsePart};
 ghost use Rattle.h2_handlers.specs.declared.handler.HandlerFault.{HandlerFault};
 ghost use Rattle.h2_receive.specs.declared.errors.FetchError.{FetchError};

@@ -1,0 +1,2 @@
+-- Lemmas on a response that a handler hears.
+mod Hearing
