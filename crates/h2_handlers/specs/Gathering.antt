@@ -5,6 +5,7 @@ use Rattle.hpack.specs.declared.types.field.Field.{Field}
 use Rattle.h2_frame.specs.declared.code.Code.TheVariants.{EnhanceYourCalm}
 use Rattle.h2_message.specs.declared.message.Message.{Message}
 use Rattle.h2_handlers.specs.declared.gather.Gather.{Gather}
+use Rattle.h2_handlers.specs.declared.gather.Gathered.{Gathered}
 use Rattle.h2_handlers.specs.declared.gather.Request.{Request}
 use Rattle.h2_handlers.specs.declared.handler.HandlerFault.{HandlerFault}
 use Rattle.h2_handlers.specs.declared.handler.HandlerFault.TheVariants.{Memory, Failed}
@@ -23,7 +24,7 @@ AnswererSays A =
 abbrev pub trailers_of : Request → Option (List Field)
 trailers_of request = option_map (λ list. list.items) request.trailers
 
--- What is kept of a request: this head, these octets of its body, and these trailers.
+-- This is kept of a request: this head, these octets of its body, and these trailers.
 pub record IsGathered (request : Request) (head : List Field) (body : List ℕ)
     (trailers : Option (List Field)) : Type 0 where
   pub head_is : request.head.items ≡ head
@@ -40,67 +41,84 @@ AnswersGathered answers request old (Ok reply) new =
 AnswersGathered answers request old (Err fault) new =
     answers old request.head.items request.body.items (trailers_of request) (Err fault) new
 
--- Nothing was asked of the answerer.
-abbrev pub LeavesAnswerer : {A : Type 0} → (old new : Gather A) → Type 0
-LeavesAnswerer old new = new ≡ old
-
 -- The request is whole, and is answered so; or it isn't, and waits.
-abbrev pub AnswersIfWhole : {A : Type 0} → AnswererSays A → (ends : Bool) → Request
+abbrev pub AnswersIfWhole : {A : Type 0} → AnswererSays A → (whole : Bool) → Request
     → (old : Gather A) → Result Reply HandlerFault → (new : Gather A) → Type 0
-AnswersIfWhole answers true request old reply new =
-    AnswersGathered answers request old.answerer reply new.answerer × (new.most ≡ old.most)
-AnswersIfWhole answers false request old reply new =
-    (reply ≡ Ok replies.Later) × LeavesAnswerer old new
+AnswersIfWhole answers true request old result new =
+    AnswersGathered answers request old.answerer result new.answerer × (new.most ≡ old.most)
+AnswersIfWhole answers false request old result new =
+    (result ≡ Ok replies.Later) × (new ≡ old)
 
--- The answerer had to be asked, and has failed; or there was no memory for what has come.
-abbrev pub FailsGathering : {A : Type 0} → AnswererSays A → (ends : Bool) → (head : List Field)
+-- The request was whole, and the answerer has failed; or there was no memory for what has come, and
+-- the answerer is as it was.
+abbrev pub FailsGathering : {A : Type 0} → AnswererSays A → (whole : Bool) → (head : List Field)
     → (body : List ℕ) → (trailers : Option (List Field)) → (old : Gather A) → HandlerFault
     → (new : Gather A) → Type 0
-FailsGathering answers ends head body trailers old fault new =
-    ((fault ≡ Memory) × LeavesAnswerer old new)
-    ⊎ ((ends ≡ true) × answers old.answerer head body trailers (Err fault) new.answerer
+FailsGathering answers whole head body trailers old fault new =
+    ((fault ≡ Memory) × (new ≡ old))
+    ⊎ ((whole ≡ true) × answers old.answerer head body trailers (Err fault) new.answerer
     × (new.most ≡ old.most))
+
+-- This is kept of a request now, and it is answered where it is whole.
+pub record GathersOn {A : Type 0} (answers : AnswererSays A) (whole : Bool) (head : List Field)
+    (body : List ℕ) (trailers : Option (List Field)) (old : Gather A) (reply : Reply)
+    (next : Option Gathered) (new : Gather A) : Type 0 where
+  pub gathered : Gathered
+  pub kept : next ≡ Some gathered
+  pub is : IsGathered gathered.request head body trailers
+  pub so : AnswersIfWhole answers whole gathered.request old (Ok reply) new
 
 -- The head of a request has come: it is kept, and the request is answered where it is whole.
 -- rule: handlers (own) A whole request is answered by what has come of it, all and in order
 abbrev pub GathersHead : {A : Type 0} → AnswererSays A → (old : Gather A) → (list : List Field)
-    → (ends : Bool) → Result (Request × Reply) HandlerFault → (new : Gather A) → Type 0
-GathersHead answers old list ends (Ok (request, reply)) new =
-    IsGathered request list [] None × AnswersIfWhole answers ends request old (Ok reply) new
-GathersHead answers old list ends (Err fault) new =
-    FailsGathering answers ends list [] None old fault new
+    → (whole : Bool) → Result (Option Gathered × Reply) HandlerFault → (new : Gather A) → Type 0
+GathersHead answers old list whole (Ok (next, reply)) new =
+    GathersOn answers whole list [] None old reply next new
+GathersHead answers old list whole (Err fault) new =
+    FailsGathering answers whole list [] None old fault new
 
 -- Whether octets of a body are too many for what is kept.
 abbrev pub AreTooMany : {A : Type 0} → Gather A → Request → (octets : List ℕ) → Type 0
-AreTooMany gather work octets = gather.most - length work.body.items < length octets
+AreTooMany gather request octets = gather.most - length request.body.items < length octets
 
 -- Octets of its body have come: they are kept after those that came before, and the request is
--- answered where it is whole. A stream whose body has too many octets is reset.
+-- answered where it is whole. A stream whose body has too many octets is reset. Then, and after a
+-- fault, nothing is kept, and the answerer is not asked any more.
 -- rule: handlers (own) A whole request is answered by what has come of it, all and in order
-abbrev pub GathersBody : {A : Type 0} → AnswererSays A → (old : Gather A) → (work : Request)
-    → (octets : List ℕ) → (ends : Bool) → Result Reply HandlerFault → (next : Request)
+abbrev pub GathersBody : {A : Type 0} → AnswererSays A → (old : Gather A) → Option Gathered
+    → (octets : List ℕ) → (whole : Bool) → Result Reply HandlerFault → (next : Option Gathered)
     → (new : Gather A) → Type 0
-GathersBody answers old work octets ends (Ok reply) next new =
-    (AreTooMany old work octets × (reply ≡ replies.Reset EnhanceYourCalm) × LeavesAnswerer old new)
-    ⊎ ((length octets ≤ old.most - length work.body.items)
-    × IsGathered next work.head.items (work.body.items ++ octets) (trailers_of work)
-    × AnswersIfWhole answers ends next old (Ok reply) new)
-GathersBody answers old work octets ends (Err fault) next new =
-    (length octets ≤ old.most - length work.body.items)
-    × FailsGathering answers ends work.head.items (work.body.items ++ octets) (trailers_of work) old
-    fault new
+GathersBody answers old None octets whole result next new =
+    (result ≡ Ok replies.Later) × (next ≡ None) × (new ≡ old)
+GathersBody answers old (Some gathered) octets whole (Ok reply) next new =
+    let request = gathered.request in
+    (AreTooMany old request octets × (reply ≡ replies.Reset EnhanceYourCalm) × (next ≡ None)
+    × (new ≡ old))
+    ⊎ ((length octets ≤ old.most - length request.body.items)
+    × GathersOn answers whole request.head.items (request.body.items ++ octets)
+    (trailers_of request) old reply next new)
+GathersBody answers old (Some gathered) octets whole (Err fault) next new =
+    let request = gathered.request in
+    (length octets ≤ old.most - length request.body.items) × (next ≡ None)
+    × FailsGathering answers whole request.head.items (request.body.items ++ octets)
+    (trailers_of request) old fault new
 
 -- Its trailers have come: the request is whole, and is answered.
 -- rule: handlers (own) A whole request is answered by what has come of it, all and in order
-abbrev pub GathersTrailers : {A : Type 0} → AnswererSays A → (old : Gather A) → (work : Request)
-    → (list : List Field) → Result Reply HandlerFault → (next : Request) → (new : Gather A) → Type 0
-GathersTrailers answers old work list (Ok reply) next new =
-    IsGathered next work.head.items work.body.items (Some list)
-    × AnswersIfWhole answers true next old (Ok reply) new
-GathersTrailers answers old work list (Err fault) next new =
-    FailsGathering answers true work.head.items work.body.items (Some list) old fault new
+abbrev pub GathersTrailers : {A : Type 0} → AnswererSays A → (old : Gather A) → Option Gathered
+    → (list : List Field) → Result Reply HandlerFault → (next : Option Gathered)
+    → (new : Gather A) → Type 0
+GathersTrailers answers old None list result next new =
+    (result ≡ Ok replies.Later) × (next ≡ None) × (new ≡ old)
+GathersTrailers answers old (Some gathered) list (Ok reply) next new =
+    GathersOn answers true gathered.request.head.items gathered.request.body.items (Some list) old
+    reply next new
+GathersTrailers answers old (Some gathered) list (Err fault) next new =
+    (next ≡ None)
+    × FailsGathering answers true gathered.request.head.items gathered.request.body.items
+    (Some list) old fault new
 
 -- It gives no response in parts.
-abbrev pub GivesNoPart : {A : Type 0} → (old : Gather A) → (work : Request)
-    → Result Part HandlerFault → (next : Request) → (new : Gather A) → Type 0
+abbrev pub GivesNoPart : {A : Type 0} → (old : Gather A) → Option Gathered
+    → Result Part HandlerFault → (next : Option Gathered) → (new : Gather A) → Type 0
 GivesNoPart old work part next new = (part ≡ Err Failed) × (next ≡ work) × (new ≡ old)

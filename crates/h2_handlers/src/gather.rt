@@ -4,7 +4,7 @@ ghost use Rattle.std.specs.Prelude.{◌≡◌, ⊤, List, Option, Result, ℕ, o
 ghost use Rattle.hpack.specs.declared.types.field.Field.{Field};
 ghost use Rattle.h2_message.specs.declared.message.Message.{Message};
 ghost use Rattle.h2_handlers.specs.declared.handler.HandlerFault.{HandlerFault};
-ghost use Rattle.h2_handlers.specs.Gathering.{AnswersGathered, trailers_of};
+ghost use Rattle.h2_handlers.specs.Gathering.{AnswersGathered, AnswersIfWhole, trailers_of};
 
 use crate::handler::{Cause, Handler, HandlerFault, Part, Reply};
 use h2_ends::{Code, Field, FieldList, Message};
@@ -36,9 +36,17 @@ impl Request {
     }
 }
 
+/// What is kept of a request that is not whole yet.
+#[derive(Debug, Drop)]
+pub struct Gathered {
+    request: Request,
+    /// How many octets its fields hold.
+    fields: usize,
+}
+
 /// Answers whole requests.
 ///
-/// What an implementor says of itself is said by a relation, as that of [`Handler`] are.
+/// What an implementor says of itself is said by a relation, as those of [`Handler`] are.
 pub trait Answerer: Drop {
     /// A request with this head, this body and these trailers may be answered so.
     ghost answers: { Self → (head : List Field) → (body : List ℕ)
@@ -63,7 +71,7 @@ pub struct Gather<A> {
 }
 
 impl<A: Answerer> Gather<A> {
-    /// A new one, over what answers.
+    /// A new one, over what answers, for bodies of so many octets at most.
     pub fn new(answerer: A, most: usize) -> Gather<A>
         ensures { result ≡ record { answerer = answerer; most = most } }
     {
@@ -79,14 +87,29 @@ impl<A: Answerer> Gather<A> {
         let message = self.answerer.answer(alloc, request)?;
         Ok(Reply::Whole(message))
     }
+
+    /// Answers a request, where it is whole.
+    fn answer_if(
+        &mut self,
+        whole: bool,
+        alloc: Global,
+        request: &Request,
+    ) -> Result<Reply, HandlerFault>
+        ensures { AnswersIfWhole A.answers whole request.now self.old result self.new }
+    {
+        if !whole {
+            return Ok(Reply::Later);
+        }
+        self.answer(alloc, request)
+    }
 }
 
 impl<A: Answerer> Handler for Gather<A> {
     ghost use Rattle.h2_handlers.specs.Gathering.{GathersHead, GathersBody, GathersTrailers};
     ghost use Rattle.h2_handlers.specs.Gathering.{GivesNoPart};
-    ghost use Rattle.h2_handlers.specs.declared.gather.Gather.{Gather as GatherOf};
 
-    type Work = Request;
+    /// Nothing is kept of a request that was reset, or of which something is lost.
+    type Work = Option<Gathered>;
 
     ghost heads = { λ old list end result new. GathersHead A.answers old list end result new };
 
@@ -106,18 +129,15 @@ impl<A: Answerer> Handler for Gather<A> {
         alloc: Global,
         list: &FieldList,
         end: bool,
-    ) -> Result<(Request, Reply), HandlerFault> {
+    ) -> Result<(Option<Gathered>, Reply), HandlerFault> {
         let request = Request {
             head: list.to_vec(alloc)?,
             body: Vec::new(alloc),
             trailers: None,
         };
-        let reply = if end {
-            self.answer(alloc, &request)?
-        } else {
-            Reply::Later
-        };
-        Ok((request, reply))
+        let reply = self.answer_if(end, alloc, &request)?;
+        let fields = octets_of(&request.head);
+        Ok((Some(Gathered { request, fields }), reply))
     }
 
     // contract: handlers (own) A whole request is answered by what has come of it, all and in order
@@ -125,55 +145,63 @@ impl<A: Answerer> Handler for Gather<A> {
     fn body(
         &mut self,
         alloc: Global,
-        work: &mut Request,
+        work: &mut Option<Gathered>,
         octets: &[u8],
         end: bool,
     ) -> Result<Reply, HandlerFault> {
-        if octets.len() > self.most.saturating_sub(work.body.len()) {
-            work.body.clear();
+        // It is kept again only where all of it has come so far.
+        let Some(mut gathered) = work.take() else {
+            return Ok(Reply::Later);
+        };
+        if octets.len() > self.most.saturating_sub(gathered.request.body.len()) {
             return Ok(Reply::Reset(Code::EnhanceYourCalm));
         }
-        work.body.extend_from_slice(octets)?;
-        if end {
-            return self.answer(alloc, work);
-        }
-        Ok(Reply::Later)
+        gathered.request.body.extend_from_slice(octets)?;
+        let reply = self.answer_if(end, alloc, &gathered.request)?;
+        *work = Some(gathered);
+        Ok(reply)
     }
 
     // rule: handlers (own) A whole request is answered by what has come of it, all and in order
     fn trailers(
         &mut self,
         alloc: Global,
-        work: &mut Request,
+        work: &mut Option<Gathered>,
         list: &FieldList,
     ) -> Result<Reply, HandlerFault> {
-        work.trailers = Some(list.to_vec(alloc)?);
-        self.answer(alloc, work)
+        let Some(Gathered { request, fields }) = work.take() else {
+            return Ok(Reply::Later);
+        };
+        let mut request = request;
+        let trailers = list.to_vec(alloc)?;
+        let fields = fields.saturating_add(octets_of(&trailers));
+        request.trailers = Some(trailers);
+        let reply = self.answer(alloc, &request)?;
+        *work = Some(Gathered { request, fields });
+        Ok(reply)
     }
 
     fn part(
         &mut self,
         _alloc: Global,
-        _work: &mut Request,
+        _work: &mut Option<Gathered>,
         _room: &mut [u8],
     ) -> Result<Part, HandlerFault> {
         Err(HandlerFault::Failed)
     }
 
-    fn held(&self, work: &Request) -> usize {
-        let trailers = match &work.trailers {
-            Some(list) => octets_of(list),
+    fn held(&self, work: &Option<Gathered>) -> usize {
+        match work {
+            Some(gathered) => gathered.request.body.len().saturating_add(gathered.fields),
             None => 0,
-        };
-        let fields = octets_of(&work.head).saturating_add(trailers);
-        work.body.len().saturating_add(fields)
+        }
     }
 
-    fn unused(&self, _work: &Request) -> u32 {
+    fn unused(&self, _work: &Option<Gathered>) -> u32 {
         0
     }
 
-    fn over(&mut self, _work: Request, _cause: Cause) {}
+    fn over(&mut self, _work: Option<Gathered>, _cause: Cause) {}
 }
 
 /// How many octets fields hold: those of their names and values, and what each takes beside that.

@@ -15,7 +15,7 @@ mod parts;
 mod sending;
 mod stop;
 
-pub use gather::{Answerer, Echo, Gather, Request};
+pub use gather::{Answerer, Echo, Gather, Gathered, Request};
 pub use h2_ends::{Code, Config, Conn, Field, FieldList, Message};
 pub use handled::Handled;
 pub use handler::{Cause, Handler, HandlerFault, Part, Reply};

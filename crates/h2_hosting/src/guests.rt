@@ -26,6 +26,8 @@ pub struct Guests<'a, M, W> {
     pub alloc: Global,
     /// Makes their handlers.
     pub makes: M,
+    /// What each says of itself.
+    pub config: Config,
     /// The limits of each.
     pub limits: SeatLimits,
     /// Whether all are to leave.
@@ -41,7 +43,7 @@ impl<'a, H: Handler<Work = V>, V: Drop, M: Makes<H>, W: Write> Opens<Guest<'a, S
     fn open(&mut self, alloc: Global, now: u64, peer: SocketAddr) -> Option<Guest<'a, Seat<H, V>>> {
         let handler = self.makes.make(peer);
         // Out of memory: the peer may try again.
-        let seat = Seat::new(alloc, Config::default(), self.limits, now, handler).ok()?;
+        let seat = Seat::new(alloc, self.config, self.limits, now, handler).ok()?;
         Guest::new(alloc, seat, self.leaving).ok()
     }
 

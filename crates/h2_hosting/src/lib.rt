@@ -16,9 +16,10 @@ mod site;
 
 pub use guest::{Guest, Leaves};
 pub use guests::{Guests, Makes};
+pub use h2_handlers::Config;
 pub use h2_host::Limits;
 pub use h2_mio::Place;
-pub use h2_seat::SeatLimits;
+pub use h2_seat::{FloodLimits, SeatLimits, TimeLimits};
 pub use hosting::{HostOptions, host_port};
 pub use journal::{Journal, TakesLines};
 pub use logged::{Logged, Note};

@@ -3,7 +3,7 @@
 use crate::guest::Guest;
 use crate::guests::{Guests, Makes};
 use crate::journal::Journal;
-use h2_handlers::Handler;
+use h2_handlers::{Config, Handler};
 use h2_mio::{Driver, Place};
 use h2_seat::{Seat, SeatLimits};
 use std::alloc::Global;
@@ -12,12 +12,14 @@ use std::io::{self, Write};
 use std::net::Net;
 use std::time::Clock;
 
-/// Serves many connections at once, in this thread, each with a handler that was made for it. Where
-/// `place` says so it ends in order once standard input, a pipe, is closed: answers go on until they
-/// are sent, and then it returns. Else it ends for an error alone.
+/// Serves many connections at once, in this thread, each with a handler that was made for it, and
+/// each with the settings of `config`. Where `place` says so it ends in order once standard input, a
+/// pipe, is closed: answers go on until they are sent, and then it returns. Else it ends for an
+/// error alone.
 ///
-/// A handler's calls are made in the turns of its connection, so one that waits keeps all others
-/// waiting. What takes too long at a connection, or is a flood, ends that one, by `limits`.
+/// All handlers are called in this thread, so one that waits keeps all connections waiting. What
+/// takes too long at a connection, or is a flood, ends that one, by `limits`; how many connections
+/// there are, and how many octets each and all hold, is bounded by `place.limits`.
 ///
 /// # Errors
 ///
@@ -28,6 +30,7 @@ pub fn host_handlers<R, V, H, M>(
     rt: &R,
     alloc: Global,
     place: Place,
+    config: Config,
     limits: SeatLimits,
     makes: M,
 ) -> io::Result<()>
@@ -38,19 +41,24 @@ where
     M: Makes<H> + Drop,
 {
     let journal = Journal::new(alloc);
-    let mut out = io::sink();
-    serve(rt, alloc, place, limits, makes, &journal, &mut out)
+    let leaving = Cell::new(false);
+    let mut guests = Guests {
+        alloc,
+        makes,
+        config,
+        limits,
+        leaving: &leaving,
+        journal: &journal,
+        out: io::sink(),
+    };
+    serve(rt, place, &mut guests)
 }
 
-/// The same, and writes the lines of a journal as they come.
+/// Serves the connections of guests, and writes the lines of their journal as they come.
 pub(crate) fn serve<R, V, H, M, W>(
     rt: &R,
-    alloc: Global,
     place: Place,
-    limits: SeatLimits,
-    makes: M,
-    journal: &Journal,
-    out: &mut W,
+    guests: &mut Guests<'_, M, W>,
 ) -> io::Result<()>
 where
     R: Net + Clock,
@@ -59,15 +67,6 @@ where
     M: Makes<H> + Drop,
     W: Write,
 {
-    let leaving = Cell::new(false);
-    let mut guests = Guests {
-        alloc,
-        makes,
-        limits,
-        leaving: &leaving,
-        journal,
-        out,
-    };
-    let mut driver: Driver<Guest<'_, Seat<H, V>>> = Driver::open(rt, alloc, place)?;
-    driver.run(rt, &mut guests)
+    let mut driver: Driver<Guest<'_, Seat<H, V>>> = Driver::open(rt, guests.alloc, place)?;
+    driver.run(rt, guests)
 }

@@ -19,8 +19,8 @@ use std::alloc::Global;
 /// until it is whole. Then, or where it ends early, the handler learns how it has ended. Before each
 /// read all that is owed is released, and what waits is written.
 ///
-/// The link stays with the caller, who may make a new connection of it or close it. What was written
-/// may wait in it: a link over a stream is to be flushed.
+/// The link stays with the caller, and is to be closed: it has served one connection. What was
+/// written may wait in it: a link over a stream is to be flushed first.
 ///
 /// # Errors
 ///
@@ -31,7 +31,7 @@ use std::alloc::Global;
 /// [`LinkError::NoProgress`] (N5) where a write took nothing, and after 2^64 - 1 rounds;
 /// [`LinkError::Reset`] (N6) where the stream was reset, by either end, or was not processed;
 /// [`LinkError::Refused`] (N7) where the message breaks a rule or its fields are too many. The
-/// handler has heard all parts that came before, but for memory, where the last may be lost.
+/// handler has heard all parts that came before, but for memory, where the last ones may be lost.
 pub fn fetch_handler<H: ResponseHandler, L: Link>(
     alloc: Global,
     link: &mut L,

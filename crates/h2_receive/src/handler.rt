@@ -10,8 +10,9 @@ use h2_fetch::ResponsePart;
 use h2_handlers::HandlerFault;
 use std::alloc::Global;
 
-/// Hears the response to one request, part by part, as it comes. The server sends more of a body
-/// only once the handler has returned (RFC 9113, section 6.9), so one that is slow slows it down.
+/// Hears the response to one request, part by part, as it comes. Beyond its window the server sends
+/// more of a body only once the handler has returned (RFC 9113, section 6.9), so one that is slow
+/// slows it down.
 ///
 /// What an implementor says of itself is said by relations between the state before a call, what
 /// the call was given, its answer, and the state after it; who says nothing keeps the defaults,
@@ -28,7 +29,8 @@ pub trait ResponseHandler {
     ///
     /// # Errors
     ///
-    /// Nothing more is heard: the fetch ends with this fault.
+    /// Nothing more is heard: the fetch ends with this fault, and nothing more is sent. The server
+    /// learns of it as the connection is closed.
     fn part(&mut self, alloc: Global, part: ResponsePart) -> Result<(), HandlerFault>
         ensures { hears self.old part result self.new };
 
