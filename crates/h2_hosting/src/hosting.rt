@@ -4,10 +4,10 @@ ghost use Rattle.std.specs.Prelude.{◌≡◌, is_some};
 ghost use Rattle.std.specs.Net.Socket.{socket_ip, socket_port};
 ghost use Rattle.h2_hosting.specs.Ending.{EndsHosting, IsFailedHost, in_milliseconds, port_hint};
 
-use crate::guests::{Guests, Makes};
+use crate::guests::Makes;
 use crate::journal::Journal;
 use crate::logged::Logged;
-use crate::serving::serve;
+use crate::serving::{HostSettings, serve};
 use crate::site::Site;
 use h2_cli::{Failure, Hint, Status, write_hint};
 use h2_folder::{Folder, Recent};
@@ -16,7 +16,6 @@ use h2_host::Limits;
 use h2_mio::Place;
 use h2_seat::SeatLimits;
 use std::alloc::Global;
-use std::cell::Cell;
 use std::fs::{self, Files};
 use std::io::{self, ErrorKind, Write};
 use std::net::{IpAddr, Net, SocketAddr};
@@ -53,13 +52,6 @@ struct Echoes<'a, 'j, R> {
     rt: &'a R,
     journal: Option<&'j Journal>,
     alloc: Global,
-}
-
-impl<'a, 'j, R> Echoes<'a, 'j, R> {
-    /// Makes such handlers.
-    fn new(rt: &'a R, journal: Option<&'j Journal>, alloc: Global) -> Echoes<'a, 'j, R> {
-        Echoes { rt, journal, alloc }
-    }
 }
 
 impl<'a, 'j, R> Makes<Logged<'a, R, &'j Journal, Gather<Echo>>> for Echoes<'a, 'j, R> {
@@ -161,31 +153,25 @@ fn serve_asked<'x, R: Net + Files + Clock, W: Write>(
     let journal = Journal::new(alloc);
     let kept = journal_if(&journal, options.log);
     let recent = Recent::new(alloc);
-    let place = place_of(options);
-    let limits = seat_limits(options.idle);
-    let leaving = Cell::new(false);
-    let Some(root) = options.root else {
-        let mut guests = Guests {
-            alloc,
-            makes: Echoes::new(rt, kept, alloc),
-            config: Config::default(),
-            limits,
-            leaving: &leaving,
-            journal: &journal,
-            out: &mut *out,
-        };
-        return serve(rt, place, &mut guests);
-    };
-    let mut guests = Guests {
-        alloc,
-        makes: Sites::new(rt, kept, alloc, root, &recent),
+    let settings = HostSettings {
+        place: place_of(options),
         config: Config::default(),
-        limits,
-        leaving: &leaving,
-        journal: &journal,
-        out: &mut *out,
+        limits: seat_limits(options.idle),
     };
-    serve(rt, place, &mut guests)
+    match options.root {
+        Some(root) => {
+            let sites = Sites::new(rt, kept, alloc, root, &recent);
+            serve(rt, alloc, settings, sites, &journal, out)
+        }
+        None => {
+            let echoes = Echoes {
+                rt,
+                journal: kept,
+                alloc,
+            };
+            serve(rt, alloc, settings, echoes, &journal, out)
+        }
+    }
 }
 
 // contract: hosts (own) The options of a host say what is served, where, and for how long

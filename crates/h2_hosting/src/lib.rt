@@ -23,5 +23,5 @@ pub use h2_seat::{FloodLimits, SeatLimits, TimeLimits};
 pub use hosting::{HostOptions, host_port};
 pub use journal::{Journal, TakesLines};
 pub use logged::{Logged, Note};
-pub use serving::host_handlers;
+pub use serving::{HostSettings, host_handlers};
 pub use site::Site;

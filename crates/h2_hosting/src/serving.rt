@@ -12,14 +12,23 @@ use std::io::{self, Write};
 use std::net::Net;
 use std::time::Clock;
 
-/// Serves many connections at once, in this thread, each with a handler that was made for it, and
-/// each with the settings of `config`. Where `place` says so it ends in order once standard input, a
-/// pipe, is closed: answers go on until they are sent, and then it returns. Else it ends for an
-/// error alone.
+/// Where many connections are served, with which settings and within which bounds.
+#[derive(Clone, Copy, Debug)]
+pub struct HostSettings {
+    /// The address, how many connections, how many octets each and all hold, and whether the host
+    /// ends in order once standard input, a pipe, is closed.
+    pub place: Place,
+    /// The settings of each connection.
+    pub config: Config,
+    /// What takes too long at a connection, and what is a flood: it ends that one.
+    pub limits: SeatLimits,
+}
+
+/// Serves many connections at once, in this thread, each with a handler that was made for it. Where
+/// `place` says so it ends in order once standard input, a pipe, is closed: answers go on until they
+/// are sent, and then it returns. Else it ends for an error alone.
 ///
-/// All handlers are called in this thread, so one that waits keeps all connections waiting. What
-/// takes too long at a connection, or is a flood, ends that one, by `limits`; how many connections
-/// there are, and how many octets each and all hold, is bounded by `place.limits`.
+/// All handlers are called in this thread, so one that waits keeps all connections waiting.
 ///
 /// # Errors
 ///
@@ -29,9 +38,7 @@ use std::time::Clock;
 pub fn host_handlers<R, V, H, M>(
     rt: &R,
     alloc: Global,
-    place: Place,
-    config: Config,
-    limits: SeatLimits,
+    settings: HostSettings,
     makes: M,
 ) -> io::Result<()>
 where
@@ -41,24 +48,18 @@ where
     M: Makes<H> + Drop,
 {
     let journal = Journal::new(alloc);
-    let leaving = Cell::new(false);
-    let mut guests = Guests {
-        alloc,
-        makes,
-        config,
-        limits,
-        leaving: &leaving,
-        journal: &journal,
-        out: io::sink(),
-    };
-    serve(rt, place, &mut guests)
+    let mut out = io::sink();
+    serve(rt, alloc, settings, makes, &journal, &mut out)
 }
 
-/// Serves the connections of guests, and writes the lines of their journal as they come.
+/// The same, and writes the lines of a journal as they come.
 pub(crate) fn serve<R, V, H, M, W>(
     rt: &R,
-    place: Place,
-    guests: &mut Guests<'_, M, W>,
+    alloc: Global,
+    settings: HostSettings,
+    makes: M,
+    journal: &Journal,
+    out: &mut W,
 ) -> io::Result<()>
 where
     R: Net + Clock,
@@ -67,6 +68,16 @@ where
     M: Makes<H> + Drop,
     W: Write,
 {
-    let mut driver: Driver<Guest<'_, Seat<H, V>>> = Driver::open(rt, guests.alloc, place)?;
-    driver.run(rt, guests)
+    let leaving = Cell::new(false);
+    let mut guests = Guests {
+        alloc,
+        makes,
+        config: settings.config,
+        limits: settings.limits,
+        leaving: &leaving,
+        journal,
+        out,
+    };
+    let mut driver: Driver<Guest<'_, Seat<H, V>>> = Driver::open(rt, alloc, settings.place)?;
+    driver.run(rt, &mut guests)
 }
