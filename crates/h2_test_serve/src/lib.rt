@@ -1,9 +1,8 @@
 //! Tests of handlers that serve over a link in memory.
 //!
 //! - `echoing`: the handler that answers with what was asked, beside `serve_link`; `differing`:
-//!   where the two don't do the same. `parts`: one that
-//!   gives its answers part by part, and is told that they are over. `sharing`: whole bodies beside
-//!   parts.
+//!   where the two don't do the same. `gathering`: whole requests. `parts`: a handler that gives
+//!   its answers part by part, and is told that they are over. `sharing`: whole bodies beside parts.
 #![tactic(auto)]
 
 #[cfg(test)]
@@ -12,6 +11,8 @@ mod asked;
 mod differing;
 #[cfg(test)]
 mod echoing;
+#[cfg(test)]
+mod gathering;
 #[cfg(test)]
 mod parts;
 #[cfg(test)]
