@@ -1,19 +1,18 @@
 -- What a step makes of a connection that ends in order once its host is asked to end.
-use Rattle.std.specs.Prelude.{◌≡◌, ◌⊎◌, ℕ, List, [], true, false}
+use Rattle.std.specs.Prelude.{◌≡◌, ◌⊎◌, ℕ, List, true, false}
 use Rattle.h2_host.specs.declared.party.Answer.{Answer}
 use Rattle.h2_host.specs.declared.party.Own.{Own}
 use Rattle.h2_host.specs.declared.party.Own.TheVariants.{Passed}
 use Rattle.h2_handlers.specs.Exchanges.{Relations}
-use Rattle.h2_seat.specs.Seats.{SeatHandles, UsesInOrder, phase_left}
+use Rattle.h2_seat.specs.Seats.{SeatHandles, phase_left}
 use Rattle.h2_seat.specs.declared.seat.Seat.{Seat}
 use Rattle.h2_seat.specs.declared.why.Why.TheVariants.{Asked}
 use Rattle.h2_hosting.specs.declared.guest.Guest.{Guest}
 
 -- A seat was asked to end in order: only what may happen at a server with its handler has happened,
--- without octets that came or went; and one that goes on ends from now on, since that was asked.
+-- and one that goes on ends from now on, since that was asked.
 pub record SeatLeaves {H W : Type 0} (rel : Relations H W) (old new : Seat H W) : Type 0 where
-  pub handles : SeatHandles rel [] [] old new
-  pub uses : UsesInOrder old [] [] new
+  pub handles : SeatHandles rel old new
   pub phase : new.phase ≡ phase_left old.phase Asked old.time
 
 -- The step is that of time that has passed.

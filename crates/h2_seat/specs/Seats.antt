@@ -1,7 +1,7 @@
 -- What a step makes of a connection of a host.
 use Rattle.std.specs.Prelude.{◌≡◌, ◌⊎◌, ◌+◌, ◌*◌, ◌-◌, ◌^◌, ℕ, Bool, true, false, Option, Some}
 use Rattle.std.specs.Prelude.{None, if◌then◌else◌, min, max, nat_le, nat_lt, ◌==◌, ◌&&◌, ◌||◌, not}
-use Rattle.std.specs.Prelude.{is_some, length, List, [], ◌++◌, take, drop, ◌≤◌}
+use Rattle.std.specs.Prelude.{is_some, length}
 use Rattle.h2_frame.specs.declared.code.Code.TheVariants.{EnhanceYourCalm}
 use Rattle.h2_spec_log.specs.Acts.{Values}
 use Rattle.h2_spec_log.specs.Counted.{counted, empty_among, resets_among}
@@ -9,9 +9,7 @@ use Rattle.h2_spec_log.specs.Counted.{pings_among, settings_among}
 use Rattle.h2_spec_log.specs.Limits.{full_output}
 use Rattle.h2_spec_log.specs.Log.{Log, waiting}
 use Rattle.h2_conn.specs.declared.conn.Conn.{Conn}
-use Rattle.h2_conn.specs.Conn.{ConnRepresents, octets_queued}
-use Rattle.h2_ends.specs.Ends.{EndLog}
-use Rattle.h2_ends.specs.Represents.{EndRepresents}
+use Rattle.h2_conn.specs.Conn.{ConnRepresents}
 use Rattle.h2_host.specs.declared.party.Answer.{Answer}
 use Rattle.h2_host.specs.declared.party.Answer.TheVariants as answers
 use Rattle.h2_host.specs.declared.party.Bound.TheVariants as bounds
@@ -26,9 +24,8 @@ use Rattle.h2_times.specs.Budgets.{flood_of}
 use Rattle.h2_times.specs.Times.{overdue_of}
 use Rattle.h2_handlers.specs.declared.stop.Stop.{Stop}
 use Rattle.h2_handlers.specs.declared.stop.Stop.TheVariants as stops
-use Rattle.h2_handlers.specs.declared.handled.Handled.{Handled}
 use Rattle.h2_handlers.specs.Exchanges.{Relations, handling_of}
-use Rattle.h2_handlers.specs.Steps.{Steps}
+use Rattle.h2_handlers.specs.Steps.{HandlesAny}
 use Rattle.h2_seat.specs.declared.limits.SeatLimits.{SeatLimits}
 use Rattle.h2_seat.specs.declared.seat.Phase.{Phase}
 use Rattle.h2_seat.specs.declared.seat.Phase.TheVariants.{Up, Ending, Over}
@@ -47,32 +44,10 @@ why_of Up = None
 why_of (Ending why since) = Some why
 why_of (Over why) = Some why
 
--- the octets that have come, and are kept for a later turn
-abbrev pub octets_kept : {H W : Type 0} → Seat H W → List ℕ
-octets_kept seat = drop seat.used seat.kept.items
-
--- the octets of its output that wait
-abbrev pub octets_waiting : {H W : Type 0} → Seat H W → List ℕ
-octets_waiting seat = octets_queued seat.handled.server.end.conn
-
--- Whatever has happened at the server, such steps were made at it and its handler, in which these
--- octets were used and these given out; and its end represents what has happened after them.
-abbrev pub HandlesOctets : {H W : Type 0} → Relations H W → (loses : Bool)
-    → (used given : List ℕ) → (old new : Handled H W) → Type 0
-HandlesOctets rel loses used given old new =
-    (values : Values) (end : EndLog) → EndRepresents values old.server.end end
-    → (after : EndLog)
-    × Steps rel loses after (handling_of new.exchanges) used given end (handling_of old.exchanges)
-    × EndRepresents values new.server.end after
-
--- At the connection only what may happen at a server with its handler has happened: it has used
--- these octets and given out these. What was handed out was told to the handler, unless memory was
--- refused: then the connection is over.
-pub record SeatHandles {H W : Type 0} (rel : Relations H W) (used given : List ℕ)
-    (old new : Seat H W) : Type 0 where
-  pub loses : Bool
-  pub handles : HandlesOctets rel loses used given old.handled new.handled
-  pub lost : loses ≡ true → is_phase_over new.phase ≡ true
+-- At the connection only what may happen at a server with its handler has happened.
+pub record SeatHandles {H W : Type 0} (rel : Relations H W) (old new : Seat H W) : Type 0 where
+  pub handles : HandlesAny rel old.handled.server.end (handling_of old.handled.exchanges)
+      new.handled.server.end (handling_of new.handled.exchanges)
 
 -- where it is once it begins to end in order
 abbrev pub phase_left : Phase → Why → (time : ℕ) → Phase
@@ -176,57 +151,27 @@ NotesPhase (Ending why since) old new = (new ≡ Over why)
     × NotesEnding (flood_of old.budget.before counts old.limits.floods) old why since new)
 NotesPhase (Over why) old new = new ≡ Over why
 
--- A step was made, in which these octets were used and these given out, and then what follows from
--- it.
-pub record Acts {H W : Type 0} (rel : Relations H W) (old : Seat H W) (own : Own)
-    (used given : List ℕ) (new : Seat H W) : Type 0 where
-  pub mid : Seat H W
-  pub makes : SeatHandles rel used given old mid
-  pub made : MakesPhase own old mid.phase
-  pub notes : SeatHandles rel [] [] mid new
-  pub noted : NotesPhase mid.phase mid new.phase
-
--- the octets that come with a step
-abbrev pub octets_of : Own → List ℕ → List ℕ
-octets_of owns.Came octets = octets
-octets_of own octets = []
-
--- Octets are used in the order in which they came: those that were kept, and then those that came
--- with the step. What isn't used is kept; or dropped, where the connection has failed or is over.
--- rule: hosts (own) A connection uses the octets that came to it, in order
-pub record UsesInOrder {H W : Type 0} (old : Seat H W) (came used : List ℕ) (new : Seat H W)
+-- A step was made, and then what follows from it.
+pub record Acts {H W : Type 0} (rel : Relations H W) (old : Seat H W) (own : Own) (new : Seat H W)
     : Type 0 where
-  pub rest : List ℕ
-  pub order : octets_kept old ++ came ≡ used ++ rest
-  pub kept : (rest ≡ octets_kept new) ⊎ IsFailedOrOver new true
-
--- What is given out of its output: the first octets of it that waited, as many as the step says
--- have gone, unless the connection is over then; and none in any other step.
--- rule: hosts (own) A connection gives out what has gone of its output, and nothing else
-abbrev pub GivesGone : {H W : Type 0} → Own → (old : Seat H W) → (given : List ℕ) → (new : Seat H W)
-    → Type 0
-GivesGone (owns.Went count) old given new =
-    count ≤ length (octets_waiting old)
-    → (given ≡ take count (octets_waiting old)) ⊎ (is_phase_over new.phase ≡ true)
-GivesGone own old given new = given ≡ []
+  pub mid : Seat H W
+  pub makes : SeatHandles rel old mid
+  pub made : MakesPhase own old mid.phase
+  pub notes : SeatHandles rel mid new
+  pub noted : NotesPhase mid.phase mid new.phase
 
 -- what is answered
 abbrev pub answer_in : Phase → Answer
 answer_in phase = if is_phase_over phase then answers.Over else answers.Goes
 
--- A step of a host, with the octets that came: only what may happen at a server with its handler
--- has happened, with these octets, in their order, and what has gone of the output; one that is over
--- stays so; another has made the step, and then what follows from it.
+-- A step of a host: only what may happen at a server with its handler has happened; one that is
+-- over stays so; another has made the step, and then what follows from it.
 pub record SeatSteps {H W : Type 0} (rel : Relations H W) (old : Seat H W) (own : Own)
-    (octets : List ℕ) (answer : Answer) (new : Seat H W) : Type 0 where
-  pub used : List ℕ
-  pub given : List ℕ
-  pub handles : SeatHandles rel used given old new
-  pub uses : UsesInOrder old (octets_of own octets) used new
-  pub gives : GivesGone own old given new
+    (answer : Answer) (new : Seat H W) : Type 0 where
+  pub handles : SeatHandles rel old new
   pub answers : answer ≡ answer_in new.phase
   pub over : is_phase_over old.phase ≡ true → new.phase ≡ old.phase
-  pub acts : is_phase_over old.phase ≡ false → Acts rel old own used given new
+  pub acts : is_phase_over old.phase ≡ false → Acts rel old own new
 
 -- Whether it takes octets: its peer has not ended, none are kept that came before, it is neither
 -- over nor has it failed, and less than 65,536 octets of its output wait.

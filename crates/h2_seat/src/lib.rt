@@ -10,7 +10,6 @@ mod seat;
 mod steps;
 mod why;
 
-pub use h2_times::{FloodLimits, TimeLimits};
 pub use limits::SeatLimits;
 pub use seat::Seat;
 pub use why::Why;

@@ -10,7 +10,7 @@ impl<W: Drop, H: Handler<Work = W>> Party for Seat<H, W> {
     ghost use Rattle.h2_seat.specs.Seats.{TakesNow, SeatSteps};
 
     ghost steps = { λ old own octets answer new. SeatSteps (relations H.heads H.bodies H.trails
-        H.gives H.ends) old own octets answer new };
+        H.gives H.ends) old own answer new };
 
     ghost held_of = { λ seat. seat.holds };
 

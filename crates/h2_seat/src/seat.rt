@@ -113,9 +113,8 @@ impl<W: Drop, H: Handler<Work = W>> Seat<H, W> {
 
     /// Begins to end it in order: GOAWAY with NO_ERROR, and what was asked is answered still.
     pub fn leave(&mut self)
-        ensures handles { SeatHandles (relations H.heads H.bodies H.trails H.gives H.ends) [] []
-            self.old self.new }
-        ensures uses { UsesInOrder self.old [] [] self.new }
+        ensures handles { SeatHandles (relations H.heads H.bodies H.trails H.gives H.ends) self.old
+            self.new }
         ensures phase { self.new.phase ≡ phase_left self.old.phase whys.Asked self.old.time }
     {
         self.go_away(Why::Asked);

