@@ -4,6 +4,7 @@ use Rattle.std.specs.Prelude.{Bool, true, false, nat_lt, None, Some}
 use Rattle.std.proofs.Common.{arith, refl, subst, sym, ap, ◌∙◌, inl, inr, append-nil}
 use Rattle.std.proofs.Common.{length-append}
 use Rattle.std.proofs.Transfers.{starts_with_trans}
+use Rattle.std.proofs.lemmas.Bool.{cases_Bool}
 use Rattle.std.proofs.lemmas.Bool.Decides.{nat_tests}
 use Rattle.std.proofs.lemmas.List.{length-take-le}
 use Rattle.std.specs.Io.KnownBytes.{Appends}
