@@ -1,8 +1,8 @@
 //! Tests of handlers that serve over a link in memory.
 //!
 //! - `echoing`: the handler that answers with what was asked, beside `serve_link`. `parts`: one that
-//!   gives its answers part by part, and is told that they are over. `sharing`: whole bodies beside
-//!   parts.
+//!   gives its answers part by part, and is told that they are over. `resetting`: a request that is
+//!   reset beside one that is answered. `sharing`: whole bodies beside parts.
 #![tactic(auto)]
 
 #[cfg(test)]
@@ -11,5 +11,7 @@ mod asked;
 mod echoing;
 #[cfg(test)]
 mod parts;
+#[cfg(test)]
+mod resetting;
 #[cfg(test)]
 mod sharing;
