@@ -85,8 +85,8 @@ pub record HasStoppedServing {H W : Type 0} (rel : Relations H W) (begin : Begin
   pub output : Appends begin.start.taken now.taken taken
   pub so : StopsServingFor now after untaken error
 
--- All that could be written was, and the link has taken it; and while the connection is up no credit
--- of it waits to be returned (RFC 9113, section 6.9).
+-- All that could be written was, and the link has taken it; and while the connection is up no
+-- credit of it waits to be returned (RFC 9113, section 6.9).
 pub record HasWritten {H W : Type 0} (rel : Relations H W) (begin : Beginning H) (loses : Bool)
     (now : Traffic) (unused : List ℕ) (handled : Handled H W) : Type 0 where
   pub serving : IsServing rel begin loses now unused handled
