@@ -10,6 +10,7 @@ ghost use Rattle.h2_conn.specs.Conn.{ConnRepresents, LendsFrom, answer_by};
 ghost use Rattle.h2_ends.specs.Represents.{EndAnswers};
 ghost use Rattle.h2_handlers.specs.Exchanges.{IsEmptied, handling_of, relations};
 ghost use Rattle.h2_handlers.specs.Steps.{Handles, HandlesAny};
+ghost use Rattle.h2_handlers.specs.Telling.{EndsEach};
 
 use crate::handled::Handled;
 use crate::handler::Handler;
@@ -54,6 +55,8 @@ impl<W: Drop, H: Handler<Work = W>> Handled<H, W> {
         ensures handles { Handles (relations H.heads H.bodies H.trails H.gives H.ends) []
             self.old.server.end (handling_of self.old.exchanges) self.new.server.end
             (handling_of self.new.exchanges) }
+        ensures ends { EndsEach (relations H.heads H.bodies H.trails H.gives H.ends)
+            (handling_of self.new.exchanges) (handling_of self.old.exchanges) }
         ensures none { IsEmptied (handling_of self.new.exchanges) }
         ensures server { self.new.server ≡ self.old.server }
     {

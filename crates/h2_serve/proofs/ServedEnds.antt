@@ -3,8 +3,10 @@ use Rattle.h2_engines.proofs.Names
 use Names.{◌≡◌, ◌<◌, ◌≤◌, ◌≢◌, ℕ, [], Ok, Err, Option, None, Some, refl, sym, ◌∙◌}
 use Names.{Appends-nil, Bool, true, false, Server, EndRepresents, LinkError, Traffic, Code}
 use Names.{CutsOffAtEnd, EndsServing, error_with, failures_at_end, new_end_log, reader_held}
-use Names.{reader_next_live, Values, ConnRepresents, Log}
+use Names.{◌==◌, reader_next_live, Values, ConnRepresents, Log, ap, nat_lt, or_left, and_from}
 use Rattle.std.proofs.Common.{is_some}
+use Rattle.std.proofs.lemmas.Bool.{lt-ltb}
+use Rattle.h2_link.specs.Links.{ended_after, is_none_of}
 use Rattle.h2_engines.specs.ServerSteps.{FinishedSo}
 use Rattle.h2_engines.proofs.MachineViews.{not_cut}
 use Rattle.h2_engines.proofs.ResponderFinishes.{finishes_active, finishes_at_rest, finishes_held}
@@ -16,6 +18,8 @@ use Rattle.h2_handlers.specs.Steps.{none}
 use Rattle.h2_serve.specs.Endings.{IsOfDriving}
 use Rattle.h2_serve.specs.Serving.{Beginning, HasServed, HasWritten, IsServing, has_stopped}
 use Rattle.h2_serve.specs.Serving.{handling_first, is_cut_off, is_served}
+use Rattle.h2_serve.proofs.AskedStreams.{answers_each}
+use Rattle.h2_serve.proofs.HandedParts.{steps_heard}
 use Rattle.h2_serve.proofs.Serving.{stops_failed}
 
 -- It is served at first, with nothing read.
@@ -33,6 +37,14 @@ serving_first begin handled represents first = record {
   input = Appends-nil _;
   output = Appends-nil _;
 }
+
+-- A read with room that gives nothing has met the end of the input.
+pub ends_input : (before : Bool) {now : Bool} (room : ℕ) {count : ℕ}
+    → now ≡ ended_after before room (Ok count) → count ≡ 0 → 0 < room → now ≡ true
+ends_input before room is nothing some =
+    is ∙ ap (λ (n : ℕ). ended_after before room (Ok n)) nothing
+    ∙ or_left (is_none_of room 0) before
+    (and_from (nat_lt 0 room) (0 == 0) (lt-ltb 0 room some) refl)
 
 -- What ends it while it is driven ends no input early,
 driving_goes : (error : LinkError) → IsOfDriving error → error ≢ errors.CutOff
@@ -121,7 +133,9 @@ module _ {H W : Type 0} {rel : Relations H W} {begin : Beginning H} {now : Traff
             → HasServed rel begin now (Ok count)
         unfolding FinishedSo
         served_all count held counted reads few rest =
-            is_served count handled is emptied
-            ((finishes_at_rest is.serving.after 0
-            (reads begin.values is.serving.after.log conn_is)
-            (lives begin.values is.serving.after.log conn_is) few rest).1 up_is) counted
+            let after = is.serving.after in
+            let at_rest = (finishes_at_rest after 0 (reads begin.values after.log conn_is)
+            (lives begin.values after.log conn_is) few rest).1 up_is in
+            let (role, heard) = steps_heard begin.values is.serving.has.steps in
+            is_served count handled is emptied at_rest
+            (answers_each is.serving.represents role at_rest.up at_rest.none_active heard) counted

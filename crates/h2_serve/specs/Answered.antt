@@ -8,13 +8,13 @@ use Rattle.h2_ends.specs.Ends.{EndLog, parts_on}
 use Rattle.h2_ends.specs.Represents.{IsSent}
 
 -- The stream was reset: this end has reported it, or was asked to reset it.
-pub data WasReset (log : Log) (id : ℕ) : Type 0 where
+pub data StreamWasReset (log : Log) (id : ℕ) : Type 0 where
   was_reported : (code : ℕ) (ours : Bool) → Contains log.reported (ResetEvent id code ours)
-      → WasReset log id
-  was_asked : (code : ℕ) → WasAsked log.calls id code → WasReset log id
+      → StreamWasReset log id
+  was_asked : (code : ℕ) → WasAsked log.calls id code → StreamWasReset log id
 
 -- Each request of which something was handed out was answered, and its answer was sent whole, with
 -- its end; unless its stream was reset.
 -- rule: engines (own) Where serving ends well each request was answered whole or reset
 abbrev pub AnswersEach : EndLog → Type 0
-AnswersEach end = (id : ℕ) → parts_on id end.handed ≢ [] → WasReset end.log id ⊎ IsSent end id
+AnswersEach end = (id : ℕ) → parts_on id end.handed ≢ [] → StreamWasReset end.log id ⊎ IsSent end id

@@ -1,7 +1,7 @@
 -- What has happened at a server with its handler, and over its link.
 -- contract: h2_serve::serve_handler
 use Rattle.std.specs.Prelude.{◌≡◌, ◌<◌, ◌≤◌, ℕ, Bool, true, false, List, [], ◌++◌, length, Some}
-use Rattle.std.specs.Prelude.{Result, Ok, Err}
+use Rattle.std.specs.Prelude.{None, Result, Ok, Err}
 use Rattle.std.specs.Io.KnownBytes.{Appends}
 use Rattle.h2_frame.specs.declared.code.Code.{Code}
 use Rattle.h2_spec_log.specs.declared.role.Role.TheVariants.{Server}
@@ -85,13 +85,13 @@ pub record HasStoppedServing {H W : Type 0} (rel : Relations H W) (begin : Begin
   pub output : Appends begin.start.taken now.taken taken
   pub so : StopsServingFor now after untaken error
 
--- All that could be written was, and the link has taken it; no credit of the connection waits to be
--- returned (RFC 9113, section 6.9).
+-- All that could be written was, and the link has taken it; and while the connection is up no
+-- credit of it waits to be returned (RFC 9113, section 6.9).
 pub record HasWritten {H W : Type 0} (rel : Relations H W) (begin : Beginning H) (loses : Bool)
     (now : Traffic) (unused : List ℕ) (handled : Handled H W) : Type 0 where
   pub serving : IsServing rel begin loses now unused handled
   pub all : waiting serving.after.log ≡ 0
-  pub returned : HasReturnedAll serving.after.log
+  pub returned : serving.after.log.failed ≡ None → HasReturnedAll serving.after.log
 
 -- Whatever has happened, it goes on, for a turn at least, and then all that waits is written, or it
 -- can't be.

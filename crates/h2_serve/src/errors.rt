@@ -1,7 +1,8 @@
 //! How serving ends.
 
-ghost use Rattle.std.specs.Prelude.{◌≡◌, IfErr, IfOk, Ok};
-ghost use Rattle.h2_engines.specs.Failures.{IsOfCall};
+ghost use Rattle.std.specs.Prelude.{◌≡◌, Err, IfErr, IfOk, Ok};
+ghost use Rattle.h2_ends.specs.declared.refusal.EndRefusal.TheVariants.{Conn};
+ghost use Rattle.h2_engines.specs.Failures.{IsOfCall, error_after};
 ghost use Rattle.h2_engines.specs.ServerSteps.{error_with};
 ghost use Rattle.h2_serve.specs.Endings.{IsOfDriving};
 
@@ -25,6 +26,8 @@ pub(crate) fn error_of_code(code: Code) -> LinkError
 /// What a call that puts output out has answered; or, where it was refused, how serving ends.
 pub(crate) fn unless_refused<T>(answer: Result<T, Refusal>) -> Result<T, LinkError>
     ensures ok { IfOk result (λ value. answer ≡ Ok value) }
+    ensures err { IfErr result (λ error. (refusal : Refusal) × (answer ≡ Err refusal)
+        × (error ≡ error_after (Conn refusal))) }
     ensures kind { IfErr result IsOfCall }
 {
     match answer {

@@ -2,7 +2,8 @@
 //!
 //! - `echoing`: the handler that answers with what was asked, beside `serve_link`; `differing`:
 //!   where the two don't do the same. `gathering`: whole requests. `parts`: a handler that gives
-//!   its answers part by part, and is told that they are over. `sharing`: whole bodies beside parts.
+//!   its answers part by part, and is told that they are over. `resetting`: a request that is reset
+//!   beside one that is answered. `sharing`: whole bodies beside parts.
 #![tactic(auto)]
 
 #[cfg(test)]
@@ -15,5 +16,7 @@ mod echoing;
 mod gathering;
 #[cfg(test)]
 mod parts;
+#[cfg(test)]
+mod resetting;
 #[cfg(test)]
 mod sharing;

@@ -1,4 +1,5 @@
--- No call of the link has failed, the room is as long as it was, and it is served.
+-- No call of the link has failed, the room is as long as it was, and it is served, in so many
+-- rounds.
 use Rattle.h2_engines.proofs.Names.{◌≡◌, length, traffic}
 use Rattle.h2_handlers.specs.Exchanges.{relations}
 use Rattle.h2_serve.proofs.Serving.{ServesFrom}
@@ -15,5 +16,5 @@ invariant-loop g l =
           (traffic (g.L.Link.given l.initial.link) (g.L.Link.taken l.initial.link)
           (g.L.Link.stalled l.initial.link))
           (traffic (g.L.Link.given l.link) (g.L.Link.taken l.link) (g.L.Link.stalled l.link))
-          l.initial.handled l.handled;
+          l.initial.handled l.handled l.counter;
     }

@@ -3,7 +3,7 @@ use Rattle.h2_engines.proofs.Names.{ℕ, refl, sym, ◌∙◌, err_from_is_err_a
 use Rattle.h2_flow.specs.ConfigValues.{values_of}
 use Rattle.h2_engines.proofs.MachineDrives.{failures_same}
 use Rattle.h2_serve.specs.Serving.{Beginning, has_stopped, lacks_memory}
-use Rattle.h2_serve.proofs.Serving.{stopped_on, written_on}
+use Rattle.h2_serve.proofs.Serving.{stopped_closed, written_closed}
 use Rattle.h2_serve.proofs.ServedEnds.{code_fails_none, driving_cut, driving_ends, none_failed}
 use Rattle.h2_serve.proofs.ServedEnds.{served_active, served_all, served_failed, served_held}
 use Rattle.h2_serve.proofs.ServedEnds.{serving_first}
@@ -16,10 +16,55 @@ use Rattle.h2_serve.proofs.serve.serve_handler.Goals as goal
 pub returns-in_default-clause-serves : goal.returns-in_default-clause-serves
 returns-in_default-clause-serves g c = lacks_memory refl
 
+pub returns-in_err-input-clause-serves : goal.returns-in_err-input-clause-serves
+returns-in_err-input-clause-serves g c =
+    let answer = err_from_is_err_and c.from_residual.result c.from_residual.ensures.1 in
+    rw (answer.1, answer.2) (lacks_memory refl)
+
+pub returns-in_err-input-clause-cut_off : goal.returns-in_err-input-clause-cut_off
+returns-in_err-input-clause-cut_off g c =
+    let answer = err_from_is_err_and c.from_residual.result c.from_residual.ensures.1 in
+    rw (answer.1, answer.2) tt
+
+pub returns-in_err-input-clause-failures : goal.returns-in_err-input-clause-failures
+returns-in_err-input-clause-failures g c =
+    let answer = err_from_is_err_and c.from_residual.result c.from_residual.ensures.1 in
+    rw (answer.1, answer.2) refl
+
+pub returns-in_err-input-clause-err : goal.returns-in_err-input-clause-err
+returns-in_err-input-clause-err g c =
+    let answer = err_from_is_err_and c.from_residual.result c.from_residual.ensures.1 in
+    rw (answer.1, answer.2) tt
+
+pub returns-in_err-room-clause-serves : goal.returns-in_err-room-clause-serves
+returns-in_err-room-clause-serves g c =
+    let answer = err_from_is_err_and c.from_residual-in_err-room.result
+    c.from_residual-in_err-room.ensures.1 in
+    rw (answer.1, answer.2) (lacks_memory refl)
+
+pub returns-in_err-room-clause-cut_off : goal.returns-in_err-room-clause-cut_off
+returns-in_err-room-clause-cut_off g c =
+    let answer = err_from_is_err_and c.from_residual-in_err-room.result
+    c.from_residual-in_err-room.ensures.1 in
+    rw (answer.1, answer.2) tt
+
+pub returns-in_err-room-clause-failures : goal.returns-in_err-room-clause-failures
+returns-in_err-room-clause-failures g c =
+    let answer = err_from_is_err_and c.from_residual-in_err-room.result
+    c.from_residual-in_err-room.ensures.1 in
+    rw (answer.1, answer.2) refl
+
+pub returns-in_err-room-clause-err : goal.returns-in_err-room-clause-err
+returns-in_err-room-clause-err g c =
+    let answer = err_from_is_err_and c.from_residual-in_err-room.result
+    c.from_residual-in_err-room.ensures.1 in
+    rw (answer.1, answer.2) tt
+
 pub returns-in_err-driven-clause-serves : goal.returns-in_err-driven-clause-serves
 returns-in_err-driven-clause-serves g c =
     let link = c.args.link.now in
-    let answer = err_from_is_err_and c.from_residual.result c.from_residual.ensures.1 in
+    let answer = err_from_is_err_and c.from_residual-in_err-driven.result
+    c.from_residual-in_err-driven.ensures.1 in
     let begin : Beginning g.row.H.Denot = record {
       values = values_of c.args.config;
       handler = c.args.handler;
@@ -28,23 +73,26 @@ returns-in_err-driven-clause-serves g c =
     let stopped = (rw c.in_err-driven.was at c.drive-driven.ensures.drives) begin
     (serving_first begin c.in-Ok.handled c.in-Ok.ensures.end c.in-Ok.ensures.none) in
     rw (answer.1, answer.2) (has_stopped c.close.new.self c.in_err-driven.field-0.0
-    (stopped_on c.close.ensures.server c.close.ensures.handles stopped) c.close.ensures.none)
+    (stopped_closed c.close.ensures.server c.close.ensures.ends stopped) c.close.ensures.none)
 
 pub returns-in_err-driven-clause-cut_off : goal.returns-in_err-driven-clause-cut_off
 returns-in_err-driven-clause-cut_off g c =
-    let answer = err_from_is_err_and c.from_residual.result c.from_residual.ensures.1 in
+    let answer = err_from_is_err_and c.from_residual-in_err-driven.result
+    c.from_residual-in_err-driven.ensures.1 in
     rw (answer.1, answer.2) (driving_cut ℕ c.in_err-driven.field-0.0
     (g.L.Link.ended c.drive-driven.new.link) c.in_err-driven.ensures.err)
 
 pub returns-in_err-driven-clause-failures : goal.returns-in_err-driven-clause-failures
 returns-in_err-driven-clause-failures g c =
-    let answer = err_from_is_err_and c.from_residual.result c.from_residual.ensures.1 in
+    let answer = err_from_is_err_and c.from_residual-in_err-driven.result
+    c.from_residual-in_err-driven.ensures.1 in
     rw (answer.1, answer.2) (c.in_err-driven.ensures.failures
     ∙ failures_same (Unit {0}) ℕ (g.L.Link.faults c.args.link.now) c.in_err-driven.field-0.0)
 
 pub returns-in_err-driven-clause-err : goal.returns-in_err-driven-clause-err
 returns-in_err-driven-clause-err g c =
-    let answer = err_from_is_err_and c.from_residual.result c.from_residual.ensures.1 in
+    let answer = err_from_is_err_and c.from_residual-in_err-driven.result
+    c.from_residual-in_err-driven.ensures.1 in
     rw (answer.1, answer.2) (driving_ends c.in_err-driven.field-0.0 c.in_err-driven.ensures.err)
 
 pub returns-in-Some-clause-serves : goal.returns-in-Some-clause-serves
@@ -58,7 +106,7 @@ returns-in-Some-clause-serves g c =
     let written = c.in_ok-driven.ensures.drives begin
     (serving_first begin c.in-Ok.handled c.in-Ok.ensures.end c.in-Ok.ensures.none) in
     rw c.error_of_code.ensures.error (served_failed c.close.new.self
-    (written_on c.close.ensures.server c.close.ensures.handles written) c.close.ensures.none
+    (written_closed c.close.ensures.server c.close.ensures.ends written) c.close.ensures.none
     c.failed.result c.in-Some.code (rw c.conn-conn.ensures at c.failed.ensures) c.in-Some.is)
 
 pub returns-in-Some-clause-cut_off : goal.returns-in-Some-clause-cut_off
@@ -81,7 +129,7 @@ returns-then-held-gt0-clause-serves g c =
       handler = c.args.handler;
       start = traffic (g.L.Link.given link) (g.L.Link.taken link) (g.L.Link.stalled link);
     } in
-    let written = written_on c.close.ensures.server c.close.ensures.handles
+    let written = written_closed c.close.ensures.server c.close.ensures.ends
     (c.in_ok-driven.ensures.drives begin
     (serving_first begin c.in-Ok.handled c.in-Ok.ensures.end c.in-Ok.ensures.none)) in
     let failed = rw c.conn-conn.ensures at c.failed.ensures in
@@ -104,7 +152,7 @@ returns-clause-serves g c =
       handler = c.args.handler;
       start = traffic (g.L.Link.given link) (g.L.Link.taken link) (g.L.Link.stalled link);
     } in
-    let written = written_on c.close.ensures.server c.close.ensures.handles
+    let written = written_closed c.close.ensures.server c.close.ensures.ends
     (c.in_ok-driven.ensures.drives begin
     (serving_first begin c.in-Ok.handled c.in-Ok.ensures.end c.in-Ok.ensures.none)) in
     let failed = rw c.conn-conn.ensures at c.failed.ensures in

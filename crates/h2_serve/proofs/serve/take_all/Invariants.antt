@@ -17,5 +17,5 @@ invariant-loop g l =
           (traffic (g.L.Link.given l.initial.link) (g.L.Link.taken l.initial.link)
           (g.L.Link.stalled l.initial.link))
           (traffic (g.L.Link.given l.link) (g.L.Link.taken l.link) (g.L.Link.stalled l.link))
-          l.initial.handled l.handled l.piece (drop l.used l.piece);
+          l.initial.handled l.handled l.piece (drop l.used l.piece) l.counter;
     }

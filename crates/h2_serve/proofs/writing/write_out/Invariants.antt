@@ -1,4 +1,4 @@
--- No call of the link has failed, and it took all that was given out.
+-- No call of the link has failed, and it took all that was given out, in so many rounds.
 use Rattle.h2_engines.proofs.Names.{◌≡◌, traffic}
 use Rattle.h2_handlers.specs.Exchanges.{relations}
 use Rattle.h2_serve.proofs.Serving.{ServesFrom}
@@ -14,5 +14,5 @@ invariant-loop g l =
           (traffic (g.L.Link.given l.initial.link) (g.L.Link.taken l.initial.link)
           (g.L.Link.stalled l.initial.link))
           (traffic (g.L.Link.given l.link) (g.L.Link.taken l.link) (g.L.Link.stalled l.link))
-          l.initial.handled l.handled;
+          l.initial.handled l.handled l.counter;
     }
