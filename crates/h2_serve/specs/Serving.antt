@@ -51,11 +51,11 @@ pub record IsServing {H W : Type 0} (rel : Relations H W) (begin : Beginning H) 
   pub input : Appends begin.start.given now.given (used ++ unused)
   pub output : Appends begin.start.taken now.taken given
 
--- Why it can't be served on, by the error, where so much of what it has given out was not taken: with
--- N2 the connection has failed with this code, and its GOAWAY, which ends the output, was taken; with
--- N3 it is up, has failed with INTERNAL_ERROR, or could not put its output out; with N5 a write has
--- taken nothing, or 2^64 - 1 turns have passed. Of N1 nothing is said here; with the others it
--- doesn't end so.
+-- Why it can't be served on, by the error, where this much of what it has given out was not taken:
+-- with N2 the connection has failed with this code, and its GOAWAY, which ends the output, was
+-- taken; with N3 it is up, has failed with INTERNAL_ERROR, or could not put its output out; with N5
+-- a write has taken nothing, or 2^64 - 1 turns have passed. Of N1 nothing is said here; with the
+-- others it doesn't end so.
 -- rule: engines (own) N2 has the code with which the connection failed; memory is N3
 -- rule: engines (own) N5 comes only where a write has taken nothing
 abbrev pub StopsServingFor : (now : Traffic) → EndLog → (untaken : List ℕ) → LinkError → Type 0
