@@ -23,7 +23,9 @@ const PIECE: usize = 16_384;
 const PART: usize = 16_384;
 
 // contract: engines (own) A handler answers over any link
+// contract: engines (own) Where serving ends well each request was answered whole or reset
 // rule: engines (own) A handler answers over any link
+// rule: engines (own) Where serving ends well each request was answered whole or reset
 /// Serves a connection until its input ends, with a handler that answers its requests, and answers
 /// how many requests came. What the handler is told and asked, and what is sent of its answers, is
 /// what [`Handled`] says. At the end the handler has learned of each exchange that it is over.
