@@ -61,7 +61,10 @@ LINK = "a link in memory is for users' tests"
 WHY = "the program asks why a connection has failed; for users that don't"
 TEXTS = "hpack reads into a text that it has, with the function that appends"
 SERVE = "the program's host has many connections; for users that serve one over a link (README)"
+HEARD = "the program asks for the parts of a response; for users whose handler hears them"
 API = {
+    "h2_receive::fetch_handler": HEARD,
+    "h2_receive::hear_all": HEARD,
     "h2_frame::FrameRef::payload_len": "an end counts the payload of DATA alone; for users that count any frame",
     "h2_fetch::PartFetch::new": "the program keeps a response until it is whole; for users that take it as it comes",
     "h2_engines::serve_link": WHY,
