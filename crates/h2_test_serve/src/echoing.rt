@@ -33,7 +33,7 @@ fn request(alloc: Global, method: &[u8], body: &[u8]) -> Option<Message> {
 }
 
 /// How a handler that answers with what was asked serves a link, by the requests it counts.
-fn echoes(alloc: Global, link: &mut MemoryLink) -> Result<u64, LinkError>
+pub(crate) fn echoes(alloc: Global, link: &mut MemoryLink) -> Result<u64, LinkError>
     requires { link.old.failures ≡ 0 }
 {
     serve_handler(alloc, link, Config::default(), Gather::new(Echo, MOST))
