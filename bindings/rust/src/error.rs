@@ -132,7 +132,7 @@ pub enum Rule {
 /// let head = [Field::new(":method", "GET"), Field::new(":scheme", "http")];
 /// let error = client.request(&head, b"").unwrap_err();
 /// assert_eq!(error, Error::BadMessage(Rule::PseudoMissing));
-/// assert_eq!(error.to_string(), "M6 PseudoMissing: a pseudo-field is missing");
+/// assert_eq!(error.to_string(), "M6 PseudoMissing: a required pseudo-header field is missing");
 /// # Ok::<(), Error>(())
 /// ```
 #[derive(Clone, Copy, Debug, PartialEq, Eq, Hash)]

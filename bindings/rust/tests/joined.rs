@@ -608,6 +608,6 @@ fn a_limit_is_announced_and_kept() {
     // A size update above the limit is no block, and then nothing is.
     assert_eq!(decoder.decode(&[0x3f, 0x01], 1000).map(|list| list.len()), Err(Error::Compression));
     assert_eq!(decoder.decode(b"", 1000).map(|list| list.len()), Err(Error::DecoderFailed));
-    assert_eq!(Error::Compression.to_string(), "P1 Compression: the octets are no field block");
+    assert_eq!(Error::Compression.to_string(), "P1 Compression: the field block cannot be decoded");
     assert_eq!(Error::DecoderFailed.to_string(), "P3 Failed: an earlier block failed");
 }

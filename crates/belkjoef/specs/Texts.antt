@@ -42,43 +42,43 @@ config_texts =
 abbrev pub refusal_texts : List (ℕ × List ℕ)
 refusal_texts =
     (21, codes "C1 Closed: the connection has failed") ∷
-    (22, codes "C2 NoSuchStream: the stream isn't active") ∷
-    (23, codes "C3 Ended: this end has ended the stream") ∷
-    (24, codes "C4 TooManyStreams: as many streams are active as the peer allows") ∷
-    (25, codes "C5 StreamsExhausted: no number is left for a stream") ∷
-    (26, codes "C6 GoingAway: the connection takes no new streams") ∷
-    (27, codes "C7 OutputFull: too much output waits") ∷
-    (28, codes "C8 PingWaits: a ping awaits its answer") ∷
-    (29, codes "C9 TooManyResets: too many streams were reset") ∷
-    (30, codes "C10 ListTooLarge: the field list is too large") ∷
-    (31, codes "C11 NotOwed: so much isn't owed on the stream") ∷
+    (22, codes "C2 NoSuchStream: the stream is idle or closed") ∷
+    (23, codes "C3 Ended: END_STREAM was already sent on the stream") ∷
+    (24, codes "C4 TooManyStreams: the peer allows no more concurrent streams") ∷
+    (25, codes "C5 StreamsExhausted: no stream number is left") ∷
+    (26, codes "C6 GoingAway: GOAWAY was sent or received") ∷
+    (27, codes "C7 OutputFull: 65,536 octets of output or more are waiting") ∷
+    (28, codes "C8 PingWaits: the last PING is not answered yet") ∷
+    (29, codes "C9 TooManyResets: 1,000 streams were already reset") ∷
+    (30, codes "C10 ListTooLarge: the field list is larger than 65,536 octets") ∷
+    (31, codes "C11 NotOwed: nothing was released, or more than is owed on the stream") ∷
     (32, codes "C12 Memory: out of memory") ∷
-    (33, codes "C13 SettingsWait: settings await their acknowledgment") ∷
+    (33, codes "C13 SettingsWait: the last SETTINGS are not acknowledged yet") ∷
     []
 
 -- errors of messages: M1 to M12, and E3 and E4
 abbrev pub message_texts : List (ℕ × List ℕ)
 message_texts =
-    (41, codes "M1 BadName: a name is empty or has an octet that no name has") ∷
-    (42, codes "M2 BadValue: a value has an octet that no value has, or a blank at an end") ∷
-    (43, codes "M3 PseudoPlace: a pseudo-field after a regular field, or in trailers") ∷
-    (44, codes "M4 PseudoUnknown: a pseudo-field that this kind of message does not have") ∷
-    (45, codes "M5 PseudoTwice: a pseudo-field stands twice") ∷
-    (46, codes "M6 PseudoMissing: a pseudo-field is missing") ∷
-    (47, codes "M7 BadMethod: the method is no token, or CONNECT") ∷
-    (48, codes "M8 BadPath: the path does not begin with a slash, nor is it '*' with OPTIONS") ∷
-    (49, codes "M9 BadStatus: the status is not one that can be sent or read") ∷
-    (50, codes "M10 ConnectionField: a field that is specific to one connection") ∷
-    (51, codes "M11 BadLength: a bad content-length, or a body of another length") ∷
+    (41, codes "M1 BadName: a field name is empty or has a forbidden octet") ∷
+    (42, codes "M2 BadValue: a field value has a forbidden octet, or a blank at either end") ∷
+    (43, codes "M3 PseudoPlace: a pseudo-header field after a regular field, or in trailers") ∷
+    (44, codes "M4 PseudoUnknown: a pseudo-header field that this message may not have") ∷
+    (45, codes "M5 PseudoTwice: a pseudo-header field occurs twice") ∷
+    (46, codes "M6 PseudoMissing: a required pseudo-header field is missing") ∷
+    (47, codes "M7 BadMethod: the method is not a token, or is CONNECT") ∷
+    (48, codes "M8 BadPath: the path neither begins with '/' nor is '*' with OPTIONS") ∷
+    (49, codes "M9 BadStatus: the status is not valid here") ∷
+    (50, codes "M10 ConnectionField: a connection-specific field") ∷
+    (51, codes "M11 BadLength: content-length is invalid, or not the length of the body") ∷
     (52, codes "M12 BadOrder: the parts of the message are out of order") ∷
-    (61, codes "E3 NotAsked: the stream is not active, or has no request or no open message") ∷
-    (62, codes "E4 Answered: the request has its answer already") ∷
+    (61, codes "E3 NotAsked: the stream has no request to answer, or no open message") ∷
+    (62, codes "E4 Answered: the request was answered already") ∷
     []
 
 -- faults of field blocks: P1 and P3
 abbrev pub block_texts : List (ℕ × List ℕ)
 block_texts =
-    (71, codes "P1 Compression: the octets are no field block") ∷
+    (71, codes "P1 Compression: the field block cannot be decoded") ∷
     (72, codes "P3 Failed: an earlier block failed") ∷
     []
 
@@ -100,38 +100,38 @@ error_text error =
 -- why a connection has failed, by the number of the reason
 abbrev pub low_why_texts : List (ℕ × List ℕ)
 low_why_texts =
-    (1, codes "The first octet that differs from the preface is PROTOCOL_ERROR, there") ∷
-    (2, codes "A length above the limit is FRAME_SIZE_ERROR") ∷
-    (3, codes "PUSH_PROMISE is PROTOCOL_ERROR, since no end here allows push") ∷
-    (4, codes "A frame on a stream that its type does not allow is PROTOCOL_ERROR") ∷
-    (5, codes "A length that the type and flags cannot have is FRAME_SIZE_ERROR") ∷
-    (6, codes "Padding above what the payload leaves for it is PROTOCOL_ERROR") ∷
-    (7, codes "A first frame other than SETTINGS without ACK is PROTOCOL_ERROR") ∷
-    (8, codes "Inside a block any frame but its CONTINUATION is PROTOCOL_ERROR") ∷
-    (9, codes "A CONTINUATION outside a block is PROTOCOL_ERROR") ∷
-    (10, codes "A block of more than 65,552 octets is ENHANCE_YOUR_CALM") ∷
-    (11, codes "A block that does not decode is COMPRESSION_ERROR, of the connection") ∷
-    (12, codes "On an idle stream any but HEADERS or PRIORITY is PROTOCOL_ERROR") ∷
-    (13, codes "On a closed stream DATA is STREAM_CLOSED") ∷
-    (14, codes "On a closed stream a field block is PROTOCOL_ERROR") ∷
+    (1, codes "the connection preface is wrong (PROTOCOL_ERROR)") ∷
+    (2, codes "a frame is longer than the limit (FRAME_SIZE_ERROR)") ∷
+    (3, codes "PUSH_PROMISE, though push is disabled (PROTOCOL_ERROR)") ∷
+    (4, codes "a frame on a stream that its type does not allow (PROTOCOL_ERROR)") ∷
+    (5, codes "a frame of a length that its type and flags do not allow (FRAME_SIZE_ERROR)") ∷
+    (6, codes "padding longer than the payload leaves room for (PROTOCOL_ERROR)") ∷
+    (7, codes "the first frame is not SETTINGS (PROTOCOL_ERROR)") ∷
+    (8, codes "another frame interrupts a field block (PROTOCOL_ERROR)") ∷
+    (9, codes "CONTINUATION outside a field block (PROTOCOL_ERROR)") ∷
+    (10, codes "a field block of more than 65,552 octets (ENHANCE_YOUR_CALM)") ∷
+    (11, codes "a field block cannot be decoded (COMPRESSION_ERROR)") ∷
+    (12, codes "a frame other than HEADERS or PRIORITY on an idle stream (PROTOCOL_ERROR)") ∷
+    (13, codes "DATA on a closed stream (STREAM_CLOSED)") ∷
+    (14, codes "HEADERS on a closed stream (PROTOCOL_ERROR)") ∷
     []
 
 -- further reasons
 abbrev pub high_why_texts : List (ℕ × List ℕ)
 high_why_texts =
-    (15, codes "A field block on an idle number not the peer's is PROTOCOL_ERROR") ∷
-    (16, codes "DATA above the connection's window is FLOW_CONTROL_ERROR") ∷
-    (17, codes "DATA above its stream's window is FLOW_CONTROL_ERROR") ∷
-    (18, codes "An increment of 0 on the connection is PROTOCOL_ERROR") ∷
-    (19, codes "The connection's window above 2^31-1 is FLOW_CONTROL_ERROR") ∷
-    (20, codes "ENABLE_PUSH above 1, or of 1 from a server, is PROTOCOL_ERROR") ∷
-    (21, codes "INITIAL_WINDOW_SIZE above 2^31-1 is FLOW_CONTROL_ERROR") ∷
-    (22, codes "MAX_FRAME_SIZE below 16,384 or above 2^24-1 is PROTOCOL_ERROR") ∷
-    (23, codes "A shift of a window above 2^31-1 is FLOW_CONTROL_ERROR") ∷
-    (24, codes "An end that resets 1,001 streams ends with ENHANCE_YOUR_CALM") ∷
-    (25, codes "Replies above 262,144 waiting octets are ENHANCE_YOUR_CALM") ∷
-    (26, codes "Out of memory is INTERNAL_ERROR") ∷
-    (27, codes "The layer above ends the connection") ∷
+    (15, codes "HEADERS on an idle stream that the peer may not open (PROTOCOL_ERROR)") ∷
+    (16, codes "DATA exceeds the connection's window (FLOW_CONTROL_ERROR)") ∷
+    (17, codes "DATA exceeds the stream's window (FLOW_CONTROL_ERROR)") ∷
+    (18, codes "WINDOW_UPDATE of 0 on the connection (PROTOCOL_ERROR)") ∷
+    (19, codes "the connection's window exceeds 2^31-1 (FLOW_CONTROL_ERROR)") ∷
+    (20, codes "ENABLE_PUSH is above 1, or 1 from a server (PROTOCOL_ERROR)") ∷
+    (21, codes "INITIAL_WINDOW_SIZE is above 2^31-1 (FLOW_CONTROL_ERROR)") ∷
+    (22, codes "MAX_FRAME_SIZE is not from 16,384 to 2^24-1 (PROTOCOL_ERROR)") ∷
+    (23, codes "INITIAL_WINDOW_SIZE brings a stream's window above 2^31-1 (FLOW_CONTROL_ERROR)") ∷
+    (24, codes "1,001 streams would have been reset (ENHANCE_YOUR_CALM)") ∷
+    (25, codes "replies exceed 262,144 octets of waiting output (ENHANCE_YOUR_CALM)") ∷
+    (26, codes "out of memory (INTERNAL_ERROR)") ∷
+    (27, codes "the layer above ended the connection") ∷
     []
 
 abbrev pub no_why_text : List ℕ

@@ -103,18 +103,18 @@ fn text_of_refusal(number: u32) -> &'static [u8]
 {
     match number {
         21 => b"C1 Closed: the connection has failed\0",
-        22 => b"C2 NoSuchStream: the stream isn't active\0",
-        23 => b"C3 Ended: this end has ended the stream\0",
-        24 => b"C4 TooManyStreams: as many streams are active as the peer allows\0",
-        25 => b"C5 StreamsExhausted: no number is left for a stream\0",
-        26 => b"C6 GoingAway: the connection takes no new streams\0",
-        27 => b"C7 OutputFull: too much output waits\0",
-        28 => b"C8 PingWaits: a ping awaits its answer\0",
-        29 => b"C9 TooManyResets: too many streams were reset\0",
-        30 => b"C10 ListTooLarge: the field list is too large\0",
-        31 => b"C11 NotOwed: so much isn't owed on the stream\0",
+        22 => b"C2 NoSuchStream: the stream is idle or closed\0",
+        23 => b"C3 Ended: END_STREAM was already sent on the stream\0",
+        24 => b"C4 TooManyStreams: the peer allows no more concurrent streams\0",
+        25 => b"C5 StreamsExhausted: no stream number is left\0",
+        26 => b"C6 GoingAway: GOAWAY was sent or received\0",
+        27 => b"C7 OutputFull: 65,536 octets of output or more are waiting\0",
+        28 => b"C8 PingWaits: the last PING is not answered yet\0",
+        29 => b"C9 TooManyResets: 1,000 streams were already reset\0",
+        30 => b"C10 ListTooLarge: the field list is larger than 65,536 octets\0",
+        31 => b"C11 NotOwed: nothing was released, or more than is owed on the stream\0",
         32 => b"C12 Memory: out of memory\0",
-        33 => b"C13 SettingsWait: settings await their acknowledgment\0",
+        33 => b"C13 SettingsWait: the last SETTINGS are not acknowledged yet\0",
         _ => b"no error of this library\0",
     }
 }
@@ -125,20 +125,20 @@ fn text_of_message(number: u32) -> &'static [u8]
     ensures { result.now ≡ text_in message_texts no_error_text number }
 {
     match number {
-        41 => b"M1 BadName: a name is empty or has an octet that no name has\0",
-        42 => b"M2 BadValue: a value has an octet that no value has, or a blank at an end\0",
-        43 => b"M3 PseudoPlace: a pseudo-field after a regular field, or in trailers\0",
-        44 => b"M4 PseudoUnknown: a pseudo-field that this kind of message does not have\0",
-        45 => b"M5 PseudoTwice: a pseudo-field stands twice\0",
-        46 => b"M6 PseudoMissing: a pseudo-field is missing\0",
-        47 => b"M7 BadMethod: the method is no token, or CONNECT\0",
-        48 => b"M8 BadPath: the path does not begin with a slash, nor is it '*' with OPTIONS\0",
-        49 => b"M9 BadStatus: the status is not one that can be sent or read\0",
-        50 => b"M10 ConnectionField: a field that is specific to one connection\0",
-        51 => b"M11 BadLength: a bad content-length, or a body of another length\0",
+        41 => b"M1 BadName: a field name is empty or has a forbidden octet\0",
+        42 => b"M2 BadValue: a field value has a forbidden octet, or a blank at either end\0",
+        43 => b"M3 PseudoPlace: a pseudo-header field after a regular field, or in trailers\0",
+        44 => b"M4 PseudoUnknown: a pseudo-header field that this message may not have\0",
+        45 => b"M5 PseudoTwice: a pseudo-header field occurs twice\0",
+        46 => b"M6 PseudoMissing: a required pseudo-header field is missing\0",
+        47 => b"M7 BadMethod: the method is not a token, or is CONNECT\0",
+        48 => b"M8 BadPath: the path neither begins with '/' nor is '*' with OPTIONS\0",
+        49 => b"M9 BadStatus: the status is not valid here\0",
+        50 => b"M10 ConnectionField: a connection-specific field\0",
+        51 => b"M11 BadLength: content-length is invalid, or not the length of the body\0",
         52 => b"M12 BadOrder: the parts of the message are out of order\0",
-        61 => b"E3 NotAsked: the stream is not active, or has no request or no open message\0",
-        62 => b"E4 Answered: the request has its answer already\0",
+        61 => b"E3 NotAsked: the stream has no request to answer, or no open message\0",
+        62 => b"E4 Answered: the request was answered already\0",
         _ => b"no error of this library\0",
     }
 }
@@ -149,7 +149,7 @@ fn text_of_block(number: u32) -> &'static [u8]
     ensures { result.now ≡ text_in block_texts no_error_text number }
 {
     match number {
-        71 => b"P1 Compression: the octets are no field block\0",
+        71 => b"P1 Compression: the field block cannot be decoded\0",
         72 => b"P3 Failed: an earlier block failed\0",
         _ => b"no error of this library\0",
     }
@@ -172,20 +172,20 @@ fn text_of_low_why(number: u32) -> &'static [u8]
     ensures { result.now ≡ text_in low_why_texts no_why_text number }
 {
     match number {
-        1 => b"The first octet that differs from the preface is PROTOCOL_ERROR, there\0",
-        2 => b"A length above the limit is FRAME_SIZE_ERROR\0",
-        3 => b"PUSH_PROMISE is PROTOCOL_ERROR, since no end here allows push\0",
-        4 => b"A frame on a stream that its type does not allow is PROTOCOL_ERROR\0",
-        5 => b"A length that the type and flags cannot have is FRAME_SIZE_ERROR\0",
-        6 => b"Padding above what the payload leaves for it is PROTOCOL_ERROR\0",
-        7 => b"A first frame other than SETTINGS without ACK is PROTOCOL_ERROR\0",
-        8 => b"Inside a block any frame but its CONTINUATION is PROTOCOL_ERROR\0",
-        9 => b"A CONTINUATION outside a block is PROTOCOL_ERROR\0",
-        10 => b"A block of more than 65,552 octets is ENHANCE_YOUR_CALM\0",
-        11 => b"A block that does not decode is COMPRESSION_ERROR, of the connection\0",
-        12 => b"On an idle stream any but HEADERS or PRIORITY is PROTOCOL_ERROR\0",
-        13 => b"On a closed stream DATA is STREAM_CLOSED\0",
-        14 => b"On a closed stream a field block is PROTOCOL_ERROR\0",
+        1 => b"the connection preface is wrong (PROTOCOL_ERROR)\0",
+        2 => b"a frame is longer than the limit (FRAME_SIZE_ERROR)\0",
+        3 => b"PUSH_PROMISE, though push is disabled (PROTOCOL_ERROR)\0",
+        4 => b"a frame on a stream that its type does not allow (PROTOCOL_ERROR)\0",
+        5 => b"a frame of a length that its type and flags do not allow (FRAME_SIZE_ERROR)\0",
+        6 => b"padding longer than the payload leaves room for (PROTOCOL_ERROR)\0",
+        7 => b"the first frame is not SETTINGS (PROTOCOL_ERROR)\0",
+        8 => b"another frame interrupts a field block (PROTOCOL_ERROR)\0",
+        9 => b"CONTINUATION outside a field block (PROTOCOL_ERROR)\0",
+        10 => b"a field block of more than 65,552 octets (ENHANCE_YOUR_CALM)\0",
+        11 => b"a field block cannot be decoded (COMPRESSION_ERROR)\0",
+        12 => b"a frame other than HEADERS or PRIORITY on an idle stream (PROTOCOL_ERROR)\0",
+        13 => b"DATA on a closed stream (STREAM_CLOSED)\0",
+        14 => b"HEADERS on a closed stream (PROTOCOL_ERROR)\0",
         _ => b"no reason of this library\0",
     }
 }
@@ -196,19 +196,19 @@ fn text_of_high_why(number: u32) -> &'static [u8]
     ensures { result.now ≡ text_in high_why_texts no_why_text number }
 {
     match number {
-        15 => b"A field block on an idle number not the peer's is PROTOCOL_ERROR\0",
-        16 => b"DATA above the connection's window is FLOW_CONTROL_ERROR\0",
-        17 => b"DATA above its stream's window is FLOW_CONTROL_ERROR\0",
-        18 => b"An increment of 0 on the connection is PROTOCOL_ERROR\0",
-        19 => b"The connection's window above 2^31-1 is FLOW_CONTROL_ERROR\0",
-        20 => b"ENABLE_PUSH above 1, or of 1 from a server, is PROTOCOL_ERROR\0",
-        21 => b"INITIAL_WINDOW_SIZE above 2^31-1 is FLOW_CONTROL_ERROR\0",
-        22 => b"MAX_FRAME_SIZE below 16,384 or above 2^24-1 is PROTOCOL_ERROR\0",
-        23 => b"A shift of a window above 2^31-1 is FLOW_CONTROL_ERROR\0",
-        24 => b"An end that resets 1,001 streams ends with ENHANCE_YOUR_CALM\0",
-        25 => b"Replies above 262,144 waiting octets are ENHANCE_YOUR_CALM\0",
-        26 => b"Out of memory is INTERNAL_ERROR\0",
-        27 => b"The layer above ends the connection\0",
+        15 => b"HEADERS on an idle stream that the peer may not open (PROTOCOL_ERROR)\0",
+        16 => b"DATA exceeds the connection's window (FLOW_CONTROL_ERROR)\0",
+        17 => b"DATA exceeds the stream's window (FLOW_CONTROL_ERROR)\0",
+        18 => b"WINDOW_UPDATE of 0 on the connection (PROTOCOL_ERROR)\0",
+        19 => b"the connection's window exceeds 2^31-1 (FLOW_CONTROL_ERROR)\0",
+        20 => b"ENABLE_PUSH is above 1, or 1 from a server (PROTOCOL_ERROR)\0",
+        21 => b"INITIAL_WINDOW_SIZE is above 2^31-1 (FLOW_CONTROL_ERROR)\0",
+        22 => b"MAX_FRAME_SIZE is not from 16,384 to 2^24-1 (PROTOCOL_ERROR)\0",
+        23 => b"INITIAL_WINDOW_SIZE brings a stream's window above 2^31-1 (FLOW_CONTROL_ERROR)\0",
+        24 => b"1,001 streams would have been reset (ENHANCE_YOUR_CALM)\0",
+        25 => b"replies exceed 262,144 octets of waiting output (ENHANCE_YOUR_CALM)\0",
+        26 => b"out of memory (INTERNAL_ERROR)\0",
+        27 => b"the layer above ended the connection\0",
         _ => b"no reason of this library\0",
     }
 }

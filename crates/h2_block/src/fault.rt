@@ -12,13 +12,13 @@ use thiserror::Error;
 pub enum BlockFault {
     /// Inside a block comes another frame than a CONTINUATION of its stream (RFC 9113, section
     /// 6.10).
-    #[error("B1 Interrupted: another frame comes inside a field block")]
+    #[error("B1 Interrupted: another frame interrupts a field block")]
     Interrupted,
     /// A CONTINUATION comes outside a block (section 6.10).
-    #[error("B2 Stray: a CONTINUATION comes outside a field block")]
+    #[error("B2 Stray: CONTINUATION outside a field block")]
     Stray,
     /// A block has more than 65,552 octets.
-    #[error("B3 TooLong: a field block has more than 65552 octets")]
+    #[error("B3 TooLong: a field block is longer than 65552 octets")]
     TooLong,
     /// An allocation was refused.
     #[error("B4 Memory: out of memory")]

@@ -19,10 +19,10 @@ pub enum EndRefusal {
     Conn(Refusal),
     /// E3: the stream isn't active; or a response is given where the head of no request was handed
     /// out, or a part of a message where none was begun or its end was given.
-    #[error("E3 NotAsked: the stream is not active, or has no request or no open message")]
+    #[error("E3 NotAsked: the stream has no request to answer, or no open message")]
     NotAsked,
     /// E4: a response was given for the stream already, or begun.
-    #[error("E4 Answered: the request has its answer already")]
+    #[error("E4 Answered: the request was answered already")]
     Answered,
 }
 

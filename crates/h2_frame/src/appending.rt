@@ -8,7 +8,7 @@ ghost use Rattle.h2_frame.specs.FrameParts.{fixed_octets, body_octets, payload_o
 ghost use Rattle.h2_frame.specs.Heads.{head_octets};
 
 use crate::frame_parts::{Body, FixedFields, FrameParts};
-use crate::heads::Head;
+use crate::heads::{Head, word_octets};
 use crate::limits::{MAX_PAYLOAD, PAIR};
 use byteorder::{BigEndian, ByteOrder};
 
@@ -100,10 +100,10 @@ impl FixedFields {
             FixedFields::Nothing => {}
             FixedFields::Priority(octets) => out.extend_from_slice(&octets).unwrap(),
             FixedFields::Ping(octets) => out.extend_from_slice(&octets).unwrap(),
-            FixedFields::Word(word) => out.extend_from_slice(&word.to_be_bytes()).unwrap(),
+            FixedFields::Word(word) => out.extend_from_slice(&word_octets(word)).unwrap(),
             FixedFields::TwoWords(first, second) => {
-                out.extend_from_slice(&first.to_be_bytes()).unwrap();
-                out.extend_from_slice(&second.to_be_bytes()).unwrap();
+                out.extend_from_slice(&word_octets(first)).unwrap();
+                out.extend_from_slice(&word_octets(second)).unwrap();
             }
         }
     }

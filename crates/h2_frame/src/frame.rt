@@ -198,7 +198,7 @@ fn priority_len(priority: Option<[u8; 5]>) -> usize
 #[derive(Clone, Copy, Debug, PartialEq, Eq, Hash, Error)]
 pub enum PayloadError {
     /// The payload breaks a rule of its kind; the connection ends with this code.
-    #[error("fault of a payload: {0}")]
+    #[error("invalid payload: {0}")]
     Code(Code),
 }
 

@@ -1,6 +1,7 @@
 //! The head of a frame, and its encoding (RFC 9113, section 4.1).
 
 ghost use Rattle.std.specs.Prelude.{◌≡◌, ◌<◌, ◌^◌};
+ghost use Rattle.byteorder.specs.Endian.{big_bytes};
 ghost use Rattle.h2_frame.specs.Heads.{head_octets};
 
 use crate::kind::Kind;
@@ -39,4 +40,15 @@ impl Head {
         BigEndian::write_u32(&mut octets[5..], self.stream);
         octets
     }
+}
+
+/// The octets of a number of 32 bits in a payload, as an error code, an increment or a stream's
+/// number, the most significant octet first (RFC 9113, section 2.2).
+#[inline(always)]
+pub fn word_octets(word: u32) -> [u8; 4]
+    ensures { result ≡ big_bytes 4 word }
+{
+    let mut octets = [0; 4];
+    BigEndian::write_u32(&mut octets, word);
+    octets
 }

@@ -25,7 +25,7 @@ mod writing;
 pub use code::Code;
 pub use frame::{FrameRef, PayloadError};
 pub use head_faults::HeadFault;
-pub use heads::{HEAD_LEN, Head};
+pub use heads::{HEAD_LEN, Head, word_octets};
 pub use kind::Kind;
 pub use laws::{nine_octets, one_frame, within_limit, written_frame_is_read};
 pub use owned::{Frame, Unwritable};

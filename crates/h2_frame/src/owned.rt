@@ -103,15 +103,15 @@ pub enum Frame {
 pub enum Unwritable {
     /// F1: the payload has more than 16,777,215 octets, which no head can say (RFC 9113, section
     /// 4.1).
-    #[error("F1 TooLong: the payload has more than 16777215 octets")]
+    #[error("F1 TooLong: the payload is longer than 16777215 octets")]
     TooLong,
     /// F2: a frame of this kind can't be on the stream, or the stream's number is above
     /// 2<sup>31</sup> - 1.
-    #[error("F2 BadStream: a frame of this kind can't stand on the stream")]
+    #[error("F2 BadStream: a frame of this type is not allowed on the stream")]
     BadStream,
     /// F3: a last stream or an increment above 2<sup>31</sup> - 1, an acknowledgment of settings
     /// with pairs, or an unknown kind with a number from 0 to 9, which are known.
-    #[error("F3 BadValue: a value of the frame can't be written")]
+    #[error("F3 BadValue: a value of the frame is out of range")]
     BadValue,
     /// F4: an allocation was refused.
     #[error("F4 Memory: out of memory")]

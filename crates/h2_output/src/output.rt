@@ -14,7 +14,7 @@ use crate::last_frame::LastFrame;
 use crate::queue::Queue;
 use bytes::Bytes;
 use h2_frame::limits::LARGE_FRAME;
-use h2_frame::{FrameRef, Head, Kind, write_ref};
+use h2_frame::{FrameRef, Head, Kind, word_octets, write_ref};
 use std::alloc::{AllocError, Global};
 use std::marker::Model;
 
@@ -162,7 +162,7 @@ impl Output {
             stream,
         };
         self.queue.extend_reserved(&head.octets());
-        self.queue.extend_reserved(&increment.to_be_bytes());
+        self.queue.extend_reserved(&word_octets(increment));
     }
 
     // contract: calls (own) Frames join the output that waits, in order

@@ -9,47 +9,47 @@ use std::fmt::Display;
 const MALFORMED: &[(Malformed, &str)] = &[
     (
         Malformed::BadName,
-        "M1 BadName: a name is empty or has an octet that no name has",
+        "M1 BadName: a field name is empty or has a forbidden octet",
     ),
     (
         Malformed::BadValue,
-        "M2 BadValue: a value has an octet that no value has, or a blank at an end",
+        "M2 BadValue: a field value has a forbidden octet, or a blank at either end",
     ),
     (
         Malformed::PseudoPlace,
-        "M3 PseudoPlace: a pseudo-field after a regular field, or in trailers",
+        "M3 PseudoPlace: a pseudo-header field after a regular field, or in trailers",
     ),
     (
         Malformed::PseudoUnknown,
-        "M4 PseudoUnknown: a pseudo-field that this kind of message does not have",
+        "M4 PseudoUnknown: a pseudo-header field that this message may not have",
     ),
     (
         Malformed::PseudoTwice,
-        "M5 PseudoTwice: a pseudo-field stands twice",
+        "M5 PseudoTwice: a pseudo-header field occurs twice",
     ),
     (
         Malformed::PseudoMissing,
-        "M6 PseudoMissing: a pseudo-field is missing",
+        "M6 PseudoMissing: a required pseudo-header field is missing",
     ),
     (
         Malformed::BadMethod,
-        "M7 BadMethod: the method is no token, or CONNECT",
+        "M7 BadMethod: the method is not a token, or is CONNECT",
     ),
     (
         Malformed::BadPath,
-        "M8 BadPath: the path does not begin with a slash, nor is it '*' with OPTIONS",
+        "M8 BadPath: the path neither begins with '/' nor is '*' with OPTIONS",
     ),
     (
         Malformed::BadStatus,
-        "M9 BadStatus: the status is not one that can be sent or read",
+        "M9 BadStatus: the status is not valid here",
     ),
     (
         Malformed::ConnectionField,
-        "M10 ConnectionField: a field that is specific to one connection",
+        "M10 ConnectionField: a connection-specific field",
     ),
     (
         Malformed::BadLength,
-        "M11 BadLength: a bad content-length, a body of another length, or to HEAD, 204, 304",
+        "M11 BadLength: content-length is invalid, or not the length of the body",
     ),
     (
         Malformed::BadOrder,
@@ -61,7 +61,7 @@ const MALFORMED: &[(Malformed, &str)] = &[
 const REFUSALS: &[(EndRefusal, &str)] = &[
     (
         EndRefusal::BadMessage(Malformed::PseudoTwice),
-        "E1 BadMessage: M5 PseudoTwice: a pseudo-field stands twice",
+        "E1 BadMessage: M5 PseudoTwice: a pseudo-header field occurs twice",
     ),
     (
         EndRefusal::Conn(Refusal::Closed),
@@ -69,11 +69,11 @@ const REFUSALS: &[(EndRefusal, &str)] = &[
     ),
     (
         EndRefusal::NotAsked,
-        "E3 NotAsked: the stream is not active, or has no request or no open message",
+        "E3 NotAsked: the stream has no request to answer, or no open message",
     ),
     (
         EndRefusal::Answered,
-        "E4 Answered: the request has its answer already",
+        "E4 Answered: the request was answered already",
     ),
 ];
 

@@ -11,7 +11,7 @@ use thiserror::Error;
 #[derive(Clone, Copy, Debug, PartialEq, Eq, Hash, Error)]
 pub enum WireFault {
     /// An octet isn't that of the preface (RFC 9113, section 3.4).
-    #[error("V1 BadPreface: the stream doesn't begin with the preface")]
+    #[error("V1 BadPreface: the input does not begin with the connection preface")]
     BadPreface,
     /// A head is at fault, known at its ninth octet.
     #[error("V2 HeadFault: {code}", code = .0.code())]

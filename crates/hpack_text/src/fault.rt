@@ -9,7 +9,7 @@ use thiserror::Error;
 #[derive(Clone, Copy, Debug, PartialEq, Eq, Hash, Error)]
 pub enum TextFault {
     /// The octets end inside an integer or a string.
-    #[error("X1 Truncated: the octets end inside an integer or a string")]
+    #[error("X1 Truncated: the input ends inside an integer or a string")]
     Truncated,
     /// The fifth continuation octet of an integer has its top bit set.
     #[error("X2 TooLong: an integer has more than five continuation octets")]
@@ -19,7 +19,7 @@ pub enum TextFault {
     #[error("X3 BadPadding: a Huffman-encoded string isn't padded with at most seven ones")]
     BadPadding,
     /// A Huffman-encoded string has the code of EOS, the end symbol, in it.
-    #[error("X4 EndSymbol: a Huffman-encoded string holds the end symbol")]
+    #[error("X4 EndSymbol: a Huffman-encoded string contains the EOS symbol")]
     EndSymbol,
     /// Memory was refused.
     #[error("X5 Memory: out of memory")]

@@ -57,7 +57,7 @@ fn reason_after_the_hint(rt: HostRuntime) {
         why: Some(Why::WrongStream),
     };
     let lines = "N2 Stream 1\nhint: 1 is PROTOCOL_ERROR\n\
-        hint: A frame on a stream that its type does not allow is PROTOCOL_ERROR\n";
+        hint: a frame on a stream that its type does not allow (PROTOCOL_ERROR)\n";
     assert!(rt; reports(rt.alloc(), ending, Status::Fault, lines));
     let other = Ending {
         error: LinkError::Memory,

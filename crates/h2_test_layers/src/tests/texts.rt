@@ -48,7 +48,7 @@ fn refused_allocations_have_their_code(rt: HostRuntime) {
 fn faults_of_payloads_have_their_texts(rt: HostRuntime) {
     let error = PayloadError::Code(Code::ProtocolError);
     assert!(rt; is_printed(rt.alloc(), &error, "fault of a payload: PROTOCOL_ERROR"));
-    let text = "F1 TooLong: the payload has more than 16777215 octets";
+    let text = "F1 TooLong: the payload is longer than 16777215 octets";
     assert!(rt; is_printed(rt.alloc(), &Unwritable::TooLong, text));
 }
 
@@ -57,39 +57,48 @@ const REFUSALS: &[(Refusal, &str)] = &[
     (Refusal::Closed, "C1 Closed: the connection has failed"),
     (
         Refusal::NoSuchStream,
-        "C2 NoSuchStream: the stream isn't active",
+        "C2 NoSuchStream: the stream is idle or closed",
     ),
-    (Refusal::Ended, "C3 Ended: this end has ended the stream"),
+    (
+        Refusal::Ended,
+        "C3 Ended: END_STREAM was already sent on the stream",
+    ),
     (
         Refusal::TooManyStreams,
-        "C4 TooManyStreams: as many streams are active as the peer allows",
+        "C4 TooManyStreams: the peer allows no more concurrent streams",
     ),
     (
         Refusal::StreamsExhausted,
-        "C5 StreamsExhausted: no number is left for a stream",
+        "C5 StreamsExhausted: no stream number is left",
     ),
     (
         Refusal::GoingAway,
-        "C6 GoingAway: the connection takes no new streams",
+        "C6 GoingAway: GOAWAY was sent or received",
     ),
-    (Refusal::OutputFull, "C7 OutputFull: too much output waits"),
-    (Refusal::PingWaits, "C8 PingWaits: a ping awaits its answer"),
+    (
+        Refusal::OutputFull,
+        "C7 OutputFull: 65,536 octets of output or more are waiting",
+    ),
+    (
+        Refusal::PingWaits,
+        "C8 PingWaits: the last PING is not answered yet",
+    ),
     (
         Refusal::TooManyResets,
-        "C9 TooManyResets: too many streams were reset",
+        "C9 TooManyResets: 1,000 streams were already reset",
     ),
     (
         Refusal::ListTooLarge,
-        "C10 ListTooLarge: the field list is too large",
+        "C10 ListTooLarge: the field list is larger than 65,536 octets",
     ),
     (
         Refusal::NotOwed,
-        "C11 NotOwed: so much isn't owed on the stream",
+        "C11 NotOwed: nothing was released, or more than is owed on the stream",
     ),
     (Refusal::Memory, "C12 Memory: out of memory"),
     (
         Refusal::SettingsWait,
-        "C13 SettingsWait: settings await their acknowledgment",
+        "C13 SettingsWait: the last SETTINGS are not acknowledged yet",
     ),
 ];
 

@@ -111,7 +111,7 @@ fn octets_after_a_bad_preface(rt: HostRuntime) -> Result<(), Fail> {
     let octets = vec![in rt.alloc(); b'x'; 100_024]?;
     let clients = [(octets.as_slice(), GOAWAY)];
     let lines = "N2 Stream 1\nhint: 1 is PROTOCOL_ERROR\n\
-        hint: The first octet that differs from the preface is PROTOCOL_ERROR, there\n";
+        hint: the connection preface is wrong (PROTOCOL_ERROR)\n";
     assert!(rt; serves(&rt, rt.alloc(), &clients, lines, Status::Fault)?);
     Ok(())
 }

@@ -6,7 +6,7 @@ use thiserror::Error;
 #[derive(Clone, Copy, Debug, PartialEq, Eq, Hash, Error)]
 pub enum Fault {
     /// The octets are no field block at this table: COMPRESSION_ERROR.
-    #[error("P1 Compression: the octets are no field block")]
+    #[error("P1 Compression: the field block cannot be decoded")]
     Compression,
     /// An allocation was refused.
     #[error("P2 Memory: out of memory")]

@@ -10,11 +10,11 @@ unfolding payload_of
 returns-clause-waiting c =
     let frame = encoding_of (WindowUpdate c.args.stream c.args.increment) in
     let queue = c.self.inside.queue.items in
-    let octets : c.octets.result ++ c.to_be_bytes.result ≡ frame =
-    rw (c.octets.ensures, c.to_be_bytes.ensures)
+    let octets : c.octets.result ++ c.word_octets.result ≡ frame =
+    rw (c.octets.ensures, c.word_octets.ensures)
     (window-update c.args.stream c.args.increment) in
     let items : c.extend_reserved-2.new.self.items ≡ queue ++ frame =
     c.extend_reserved-2.ensures.items
-    ∙ ap (λ q. q ++ c.to_be_bytes.result) c.extend_reserved.ensures.items
-    ∙ append_assoc queue c.octets.result c.to_be_bytes.result ∙ ap (λ f. queue ++ f) octets in
+    ∙ ap (λ q. q ++ c.word_octets.result) c.extend_reserved.ensures.items
+    ∙ append_assoc queue c.octets.result c.word_octets.result ∙ ap (λ f. queue ++ f) octets in
     search rules
