@@ -49,7 +49,7 @@ static struct url parse(const char *text) {
   size_t port = authority > host + 1 ? authority - host - 1 : 0;
   if (host > authority || (authority > host && text[host] != ':') || port >= sizeof(url.port) ||
       authority >= sizeof(url.authority) || path + 1 >= sizeof(url.path))
-    fail("the URL can't be read");
+    fail("the URL is malformed");
   memcpy(url.authority, text, authority);
   memcpy(url.host, text + is_v6, host - 2 * is_v6);
   if (port > 0)
