@@ -1,5 +1,4 @@
-//! Finds `libbelkjoef.a`: in the folder that `BELKJOEF_LIB_DIR` names, or else where pkg-config
-//! says.
+//! Finds `libbelkjoef.a` in the folder that `BELKJOEF_LIB_DIR` names, or else with pkg-config.
 
 use std::env;
 use std::path::{Path, PathBuf};
@@ -24,7 +23,7 @@ fn main() {
         }),
     };
     let archive = folder.join(ARCHIVE);
-    assert!(archive.is_file(), "there is no {}", archive.display());
+    assert!(archive.is_file(), "{} does not exist", archive.display());
     link(&folder, &archive);
 }
 

@@ -1,43 +1,42 @@
-/* Belkjoef: an HTTP/2 endpoint over cleartext, without input and output (RFC 9113).
+/* Belkjoef: an HTTP/2 endpoint over cleartext that does no I/O itself (RFC 9113).
  *
- * An end is a server or a client of one connection. It lies in a place of the caller's, a bj_end,
- * which holds an end or nothing; one that is all zero holds nothing. The caller reads and writes:
- * what was read is given to bj_take, piece by piece, and what bj_waiting lends is written.
+ * An endpoint is the server or the client of one connection. It lives in a bj_end that the caller
+ * owns and that holds one endpoint or is empty; a bj_end of zeros is empty. The caller reads and
+ * writes: it passes what it has read to bj_take, piece by piece, and writes what bj_waiting lends.
  *
- * Answers. Each function that answers an int answers 0 (BJ_OK), or a negative number where it is
- * refused or fails (bj_error_text has its text); those named bj_is_.. and
- * bj_conn_is_.. answer 1 for yes and 0 for no, and BJ_EMPTY where the place holds nothing: compare
- * with 1. What else they say goes through
- * the pointers that stand last; those are written where the answer is BJ_OK, and otherwise only as
- * their function says, but a count of what was done (`sent`, `taken`, and `count` of bj_fields,
- * bj_put_out, bj_conn_fields, bj_conn_put_out, bj_decode and bj_decoded) and `user` are 0 after
- * each error. What is written need not have a value before. Errors are listed in the order in
- * which they are looked for: the first that holds is answered. Where it does not say otherwise,
- * nothing has changed after one. BJ_EMPTY, that the place holds none, comes first, of every
- * function that takes a place but those that make something in it.
+ * Return values. Every function that returns int returns 0 (BJ_OK), or a negative number if it is
+ * refused or fails (bj_error_text has its text). Functions named bj_is_.. and bj_conn_is_.. return
+ * 1 for yes and 0 for no, and BJ_EMPTY if the object is empty: compare with 1. All other results
+ * are stored through the trailing pointers. They are stored if the function returns BJ_OK, and
+ * otherwise only as documented; but counts of what was done (`sent`, `taken`, and `count` of
+ * bj_fields, bj_put_out, bj_conn_fields, bj_conn_put_out, bj_decode and bj_decoded) and `user` are
+ * 0 after any error. Results need not be initialized by the caller. Errors are listed in the order
+ * in which they are checked: the first that applies is returned. Unless documented otherwise, an
+ * error leaves everything unchanged. BJ_EMPTY comes first, in every function that takes an object,
+ * except those that initialize it.
  *
- * What the caller owes. No pointer is null, and each is aligned as its type is, also of no octets
- * or fields: give BJ_NO_OCTETS or BJ_NO_FIELDS then. A pointer and a length that follow each other
- * are so many octets, or fields, that may be read, or written where the pointer isn't const, while
- * the call lasts; the places that one call writes don't overlap each other or what it reads. A
- * bj_end is all zero (BJ_EMPTY_PLACE) or as these functions have left it, and is not copied and
- * then used twice. A place of one kind (bj_end, bj_encoder, bj_decoder, bj_conn) is not given to
- * functions of another, which cannot tell. It belongs to one thread at a time; what hands it to
- * another orders the two: a lock, or a thread's start or join. No function is called in a signal
- * handler, or in the child of a fork of a program with threads. malloc, realloc and free are those
- * of one allocator, whose blocks are aligned to 16.
+ * Obligations of the caller. No pointer is null, and each is aligned for its type, even for zero
+ * octets or fields: pass BJ_NO_OCTETS or BJ_NO_FIELDS then. A pointer followed by a length refers
+ * to that many octets, or fields, which are readable, or writable if the pointer is not const, for
+ * the duration of the call; what one call writes does not overlap with itself or with what it
+ * reads. A bj_end is all zeros (BJ_EMPTY_PLACE) or as these functions left it; it is not copied and
+ * then used twice. An object of one type (bj_end, bj_encoder, bj_decoder, bj_conn) is not passed as
+ * another, which cannot be detected. An object is used by one thread at a time, and handing it to
+ * another thread needs synchronization: a lock, or the start or join of a thread. No function is
+ * called in a signal handler, or in the child of a fork of a multithreaded program. malloc, realloc
+ * and free belong to one allocator, whose blocks are aligned to 16.
  *
- * What is lent. Addresses that are handed out are good until the next call with the same place,
- * and not in that call: what an end has lent is copied before it is given to the same end. Octets
- * of a body that lie in the caller's piece may be given. What is lent is not written. What the
- * caller gives is copied, unless it is written at once.
+ * Lifetimes. Pointers that are handed out are valid until the next call with the same object, and
+ * not as arguments of that call: copy what an endpoint lends before passing it to the same
+ * endpoint. Octets of a body that lie in the caller's piece may be passed. Lent memory is
+ * read-only. What the caller passes is copied, unless it is written at once.
  *
- * The loop of an end, for each piece that was read:
+ * The loop of an endpoint, for each piece that was read:
  *
  *   do {
- *     if (bj_take(&end, piece, length, &event) != BJ_OK) break; // write what waits, and close
+ *     if (bj_take(&end, piece, length, &event) != BJ_OK) break; // write the output, and close
  *     piece += event.used, length -= event.used;
- *     // event.kind says what was handed out: bj_respond, ..
+ *     // handle event.kind: bj_respond, ..
  *   } while (length > 0 || event.kind != BJ_NOTHING);
  *   bj_release_all(&end);
  *   do {
@@ -57,7 +56,7 @@
 extern "C" {
 #endif
 
-/* Compilers report a null pointer that they see. */
+/* Lets compilers warn about null pointers. */
 #if defined __GNUC__
 #define BJ_CALL __attribute__((__nonnull__))
 #else
@@ -72,124 +71,124 @@ uint32_t bj_version(void);
 
 enum {
   BJ_OK = 0,
-  BJ_EMPTY = -1,    /* the place holds nothing */
-  BJ_HELD = -2,     /* the place holds one already */
-  BJ_ROLE = -3,     /* a server's function at a client, or a client's at a server */
+  BJ_EMPTY = -1,    /* the object is empty */
+  BJ_HELD = -2,     /* the object is already in use */
+  BJ_ROLE = -3,     /* a server function called on a client, or a client function on a server */
   BJ_FAILED = -4,   /* the connection has failed */
-  BJ_NO_FIELD = -5, /* there is no such field */
-  BJ_NONE = -6,     /* there is none */
-  BJ_BAD_CODE = -7, /* no error code has this number */
+  BJ_NO_FIELD = -5, /* no such field */
+  BJ_NONE = -6,     /* no such value */
+  BJ_BAD_CODE = -7, /* unknown error code */
 
-  /* Values of a bj_config out of their bounds. */
+  /* Values of a bj_config that are out of range. */
   BJ_TABLE_LIMIT = -11,    /* above 65,536 */
   BJ_INITIAL_WINDOW = -12, /* not from 1 to 2^31 - 1 */
   BJ_MAX_STREAMS = -13,    /* not from 100 to 1,000 */
   BJ_MAX_FRAME = -14,      /* not from 16,384 to 1,048,576 */
 
   /* Refusals of the connection. */
-  BJ_CLOSED = -21,            /* it has failed */
-  BJ_NO_SUCH_STREAM = -22,    /* the stream isn't active */
-  BJ_ENDED = -23,             /* this end has ended the stream: of bj_conn_send_.. alone */
-  BJ_TOO_MANY_STREAMS = -24,  /* as many streams are active as the peer allows, or 1,000; 100
-                               * before its settings */
-  BJ_STREAMS_EXHAUSTED = -25, /* no number is left for a stream */
-  BJ_GOING_AWAY = -26,        /* a GOAWAY was sent, or read */
-  BJ_OUTPUT_FULL = -27,       /* 65,536 octets or more wait: write, and call again */
-  BJ_PING_WAITS = -28,        /* a PING awaits its answer */
-  BJ_TOO_MANY_RESETS = -29,   /* this end has reset 1,000 streams */
-  BJ_LIST_TOO_LARGE = -30,    /* the fields have more octets than may be: 65,536, but of
+  BJ_CLOSED = -21,            /* the connection has failed */
+  BJ_NO_SUCH_STREAM = -22,    /* the stream is idle or closed */
+  BJ_ENDED = -23,             /* END_STREAM was already sent on the stream (bj_conn_send_.. only) */
+  BJ_TOO_MANY_STREAMS = -24,  /* the peer allows no more concurrent streams (100 before its
+                               * SETTINGS), or 1,000 are active */
+  BJ_STREAMS_EXHAUSTED = -25, /* no stream number is left */
+  BJ_GOING_AWAY = -26,        /* GOAWAY was sent or received */
+  BJ_OUTPUT_FULL = -27,       /* 65,536 octets of output or more are waiting: write, and retry */
+  BJ_PING_WAITS = -28,        /* the last PING is not answered yet */
+  BJ_TOO_MANY_RESETS = -29,   /* 1,000 streams were already reset by this endpoint */
+  BJ_LIST_TOO_LARGE = -30,    /* the field list is larger than allowed: 65,536 octets, except in
                                * bj_encode and bj_decode */
-  BJ_NOT_OWED = -31,          /* so much isn't owed on the stream, or it is nothing */
-  BJ_MEMORY = -32,            /* an allocation was refused */
-  BJ_SETTINGS_WAIT = -33,     /* settings await their acknowledgment */
+  BJ_NOT_OWED = -31,          /* nothing was released, or more than is owed on the stream */
+  BJ_MEMORY = -32,            /* out of memory */
+  BJ_SETTINGS_WAIT = -33,     /* the last SETTINGS are not acknowledged yet */
 
-  /* Rules that a message breaks, the first one of several. */
-  BJ_BAD_NAME = -41,         /* a name is empty, or has an octet that no name has */
-  BJ_BAD_VALUE = -42,        /* a value has an octet that no value has, or a blank at an end */
-  BJ_PSEUDO_PLACE = -43,     /* a pseudo-field after a regular field, or in trailers */
-  BJ_PSEUDO_UNKNOWN = -44,   /* a pseudo-field that this kind of message does not have */
-  BJ_PSEUDO_TWICE = -45,     /* a pseudo-field stands twice */
-  BJ_PSEUDO_MISSING = -46,   /* a pseudo-field is missing */
-  BJ_BAD_METHOD = -47,       /* the method is no token, or CONNECT */
-  BJ_BAD_PATH = -48,         /* the path does not begin with a slash, nor is it '*' with OPTIONS */
-  BJ_BAD_STATUS = -49,       /* the status is not one that can be sent or read */
-  BJ_CONNECTION_FIELD = -50, /* a field that is specific to one connection */
-  BJ_BAD_LENGTH = -51,       /* a bad content-length, or a body of another length */
-  BJ_BAD_ORDER = -52,        /* the parts of a message that was read are out of order */
+  /* Rules that a message breaks, the first of several. */
+  BJ_BAD_NAME = -41,         /* a field name is empty or has a forbidden octet */
+  BJ_BAD_VALUE = -42,        /* a field value has a forbidden octet, or a blank at either end */
+  BJ_PSEUDO_PLACE = -43,     /* a pseudo-header field after a regular field, or in trailers */
+  BJ_PSEUDO_UNKNOWN = -44,   /* a pseudo-header field that this message may not have */
+  BJ_PSEUDO_TWICE = -45,     /* a pseudo-header field occurs twice */
+  BJ_PSEUDO_MISSING = -46,   /* a required pseudo-header field is missing */
+  BJ_BAD_METHOD = -47,       /* the method is not a token, or is CONNECT */
+  BJ_BAD_PATH = -48,         /* the path neither begins with '/' nor is '*' with OPTIONS */
+  BJ_BAD_STATUS = -49,       /* the status is not valid here */
+  BJ_CONNECTION_FIELD = -50, /* a connection-specific field */
+  BJ_BAD_LENGTH = -51,       /* content-length is invalid, or not the length of the body */
+  BJ_BAD_ORDER = -52,        /* the parts of a received message are out of order */
 
-  BJ_NOT_ASKED = -61, /* the stream isn't active, or has no request, or no open message */
-  BJ_ANSWERED = -62,  /* the request has its answer, or one was begun */
+  BJ_NOT_ASKED = -61, /* the stream has no request to answer, or no open message */
+  BJ_ANSWERED = -62,  /* the request was answered already, or an answer was begun */
 
-  BJ_COMPRESSION = -71,   /* the octets are no field block */
+  BJ_COMPRESSION = -71,   /* the field block cannot be decoded */
   BJ_DECODER_FAILED = -72 /* an earlier block failed */
 };
 
-/* Says the text of an error, which ends in an octet of zero and is never freed. */
+/* Stores the text of an error: a string that is never freed. */
 BJ_CALL void bj_error_text(int error, const char **text);
 
-/* ---- what is passed ---- */
+/* ---- types ---- */
 
-/* An end's own settings (RFC 9113, section 6.5.2). */
+/* Settings of this endpoint (RFC 9113, section 6.5.2). */
 typedef struct bj_config {
-  uint32_t table_limit;    /* octets of the peer's header table: 0 to 65,536 */
-  uint32_t initial_window; /* octets of a new stream's window: 1 to 2^31 - 1 */
-  uint32_t max_streams;    /* active streams at a server: 100 to 1,000 */
-  uint32_t max_frame;      /* octets of a payload that is read: 16,384 to 1,048,576 */
+  uint32_t table_limit;    /* HEADER_TABLE_SIZE: 0 to 65,536 */
+  uint32_t initial_window; /* INITIAL_WINDOW_SIZE: 1 to 2^31 - 1 */
+  uint32_t max_streams;    /* MAX_CONCURRENT_STREAMS, of a server: 100 to 1,000 */
+  uint32_t max_frame;      /* MAX_FRAME_SIZE: 16,384 to 1,048,576 */
 } bj_config;
 
-/* A place that holds an end, or nothing. Its members are the library's. */
+/* Holds an endpoint, or is empty. Its members are private. */
 typedef struct bj_end {
   void *at;
   uint64_t state;
 } bj_end;
 
-/* A field. */
+/* A header or trailer field. */
 typedef struct bj_field {
   const uint8_t *name;
   size_t name_length;
   const uint8_t *value;
   size_t value_length;
-  uint32_t sensitive; /* not 0: it is written, or was read, as one that is never indexed */
+  uint32_t sensitive; /* nonzero: sent, or received, as a never-indexed field */
 } bj_field;
 
-/* Octets. */
+/* A range of octets. */
 typedef struct bj_span {
   const uint8_t *octets;
   size_t length;
 } bj_span;
 
-/* What bj_take hands out. */
+/* Events of bj_take. */
 enum {
   BJ_NOTHING = 0,
   BJ_INTERIM = 1,     /* the head of an interim response (1xx): stream, fields */
   BJ_HEAD = 2,        /* the head of a message: stream, fields, end */
-  BJ_BODY = 3,        /* octets of a body, which may be none: stream, octets, length, end */
-  BJ_TRAILERS = 4,    /* trailers, which end a message: stream, fields, end, which is 1 */
-  BJ_RESET = 5,       /* a stream is over before its messages are: stream, code, ours */
-  BJ_UNPROCESSED = 6, /* the peer has not processed this request, and will not: stream */
-  BJ_GOAWAY = 7,      /* the peer takes no streams above this one: stream, code */
-  BJ_ACKED = 8,       /* the peer has applied this end's settings */
-  BJ_PONG = 9         /* the peer has answered a PING: ping */
+  BJ_BODY = 3,        /* octets of a body, possibly none: stream, octets, length, end */
+  BJ_TRAILERS = 4,    /* trailers, which end a message: stream, fields, end (always 1) */
+  BJ_RESET = 5,       /* a stream was reset before its messages were complete: stream, code, ours */
+  BJ_UNPROCESSED = 6, /* the peer did not process this request, and will not: stream */
+  BJ_GOAWAY = 7,      /* the peer processes no streams above this one: stream, code */
+  BJ_ACKED = 8,       /* the peer acknowledged the settings of this endpoint */
+  BJ_PONG = 9         /* the peer answered a PING: ping */
 };
 
 typedef struct bj_event {
   size_t used;     /* octets of the piece that were used */
   uint32_t kind;   /* one of the above */
-  uint32_t stream; /* its stream */
+  uint32_t stream; /* the stream number */
   uint32_t code;   /* an error code (RFC 9113, section 7) */
-  uint32_t end;    /* 1 where the message is whole */
-  uint32_t ours;   /* 1 where this end has reset the stream */
+  uint32_t end;    /* 1 if the message is complete */
+  uint32_t ours;   /* 1 if this endpoint reset the stream, 0 if the peer did */
   uint8_t ping[8];
-  size_t fields; /* how many fields the list has: see bj_field_at */
+  size_t fields; /* number of fields: see bj_field_at */
   const uint8_t *octets;
   size_t length;
-  uintptr_t user; /* what bj_set_user keeps beside the stream, or 0 */
+  uintptr_t user; /* the user data of the stream (bj_set_user), or 0 */
 } bj_event;
 
-/* A place that holds nothing. */
+/* Initializer of an empty object. */
 #define BJ_EMPTY_PLACE {NULL, 0}
 
-/* Octets and fields of texts, and none: an address that is aligned, and is not read. */
+/* Octets and fields from string literals, and empty arrays of both (aligned, never read). */
 #ifdef __cplusplus
 #define BJ_AT(type, place) (reinterpret_cast<const type *>(place))
 #else
@@ -200,359 +199,354 @@ typedef struct bj_event {
 #define BJ_NO_OCTETS BJ_AT(uint8_t, ""), 0
 #define BJ_NO_FIELDS BJ_AT(bj_field, sizeof(void *)), 0
 
-/* ---- making and freeing ---- */
+/* ---- creating and freeing ---- */
 
-/* Writes the values with which a connection begins: 4,096, 65,535, 100 and 16,384. */
+/* Stores the default settings: 4,096, 65,535, 100 and 16,384. */
 BJ_CALL void bj_config_default(bj_config *config);
 
-/* Makes a server, or a client, in a place that holds none. Its opening waits as output.
- * BJ_HELD: the place holds an end, and still does. BJ_TABLE_LIMIT, BJ_INITIAL_WINDOW,
- * BJ_MAX_STREAMS or BJ_MAX_FRAME: the value is out of its bounds. BJ_MEMORY. */
+/* Creates a server, or a client, in an empty bj_end. Its connection preface is queued as output.
+ * BJ_HELD: the bj_end holds an endpoint, which is kept. BJ_TABLE_LIMIT, BJ_INITIAL_WINDOW,
+ * BJ_MAX_STREAMS or BJ_MAX_FRAME: the value is out of range. BJ_MEMORY. */
 BJ_CALL int bj_server_new(const bj_config *config, bj_end *end);
 BJ_CALL int bj_client_new(const bj_config *config, bj_end *end);
 
-/* Frees the end and all that it keeps, and the place holds none. */
+/* Frees the endpoint and everything that it keeps; the bj_end is then empty. */
 BJ_CALL int bj_free(bj_end *end);
 
-/* ---- taking ---- */
+/* ---- input ---- */
 
-/* Takes octets that were read, up to the end of one frame or else all of them, and says what is
- * handed out: one event at most. Call it again, with the octets after those used, until all are
- * used and nothing is handed out: an event need not use octets. What is handed out of a stream are
- * the parts of a message that breaks no rule so far. The octets of a body are lent from the piece,
- * or from the end, and the fields from the end.
- * BJ_FAILED: the connection fails, or has failed, with the code in event->code. A GOAWAY waits as
- * output, and then the transport is to be closed. With 2, INTERNAL_ERROR, an allocation was
- * refused, or bj_fail was given it: bj_why says which. Members that an event does not name are 0,
- * but for octets, which is the address that was given, and user, which is of event->stream; after
+/* Takes octets that were read, up to the end of one frame, and stores at most one event. Call it
+ * again with the unused octets until all are used and the event is BJ_NOTHING: an event need not
+ * use any octets. The events of a stream are the parts of a message that has broken no rule so far.
+ * The octets of a body are lent from the piece or from the endpoint, fields from the endpoint.
+ * BJ_FAILED: the connection fails, or has failed, with the code in event->code. GOAWAY is queued as
+ * output; write it, and close the transport. Code 2 (INTERNAL_ERROR) means out of memory, or that
+ * bj_fail was called with it: see bj_why. Members that an event does not use are 0, except for
+ * octets, which is the address that was passed, and user, which belongs to event->stream; after
  * BJ_EMPTY all others are 0. */
 BJ_CALL int bj_take(bj_end *end, const uint8_t *octets, size_t length, bj_event *event);
 
-/* Says a field of the list that the last bj_take has handed out, by its place: 0 is the first.
- * After a bj_take that hands out none a list is left of any block that was read, also of one
- * that was refused or ignored: ask before you take again. BJ_NO_FIELD: there are no more than so
- * many. */
+/* Stores a field of the list that the last bj_take handed out, by its index, from 0. Call it before
+ * the next bj_take: even one that hands out no fields replaces the list if it reads a field block
+ * that is refused or ignored. BJ_NO_FIELD: the index is too large. */
 BJ_CALL int bj_field_at(bj_end *end, size_t place, bj_field *field);
 
-/* Says the fields of that list, from a place on, and how many were said:
- * as many as there are, and at most as there is room for. */
+/* Stores the fields of that list, from an index on, and their count: as many as there are, and at
+ * most `room`. */
 BJ_CALL int bj_fields(bj_end *end, size_t from, bj_field *fields, size_t room, size_t *count);
 
-/* Says the value of the first field with this name, octet for octet.
+/* Stores the value of the first field of that list with exactly this name.
  * BJ_NO_FIELD: there is none. */
 BJ_CALL int bj_field_value(bj_end *end, const uint8_t *name, size_t name_length,
                            const uint8_t **value, size_t *length);
 
-/* ---- whole messages ---- */
+/* ---- complete messages ---- */
 
-/* Gives a response to the request on a stream: its head, :status first, is sent, and its body
- * waits for bj_pump. The request need not be whole.
- * BJ_ROLE, at a client. BJ_MEMORY, of the copies. BJ_NOT_ASKED. BJ_ANSWERED. One of BJ_BAD_NAME to
- * BJ_BAD_LENGTH. BJ_CLOSED. BJ_OUTPUT_FULL. BJ_LIST_TOO_LARGE. BJ_MEMORY. */
+/* Responds to the request on a stream: the head, :status first, is queued as output, and the body
+ * is kept for bj_pump. The request need not be complete.
+ * BJ_ROLE: it is a client. BJ_MEMORY, for the copies. BJ_NOT_ASKED. BJ_ANSWERED. One of BJ_BAD_NAME
+ * to BJ_BAD_LENGTH. BJ_CLOSED. BJ_OUTPUT_FULL. BJ_LIST_TOO_LARGE. BJ_MEMORY. */
 BJ_CALL int bj_respond(bj_end *end, uint32_t stream, const bj_field *head, size_t head_count,
                        const uint8_t *body, size_t length);
 
-/* Gives a request, and says the stream on which it goes: 1, 3, 5 and so on. Its head, the four
- * pseudo-fields first, is sent, and its body waits for bj_pump.
- * BJ_ROLE, at a server. BJ_MEMORY, of the copies. One of BJ_BAD_NAME to BJ_BAD_LENGTH. BJ_CLOSED.
- * BJ_TOO_MANY_STREAMS. BJ_STREAMS_EXHAUSTED. BJ_GOING_AWAY. BJ_OUTPUT_FULL. BJ_LIST_TOO_LARGE.
- * BJ_MEMORY. */
+/* Makes a request, and stores its stream: 1, 3, 5 and so on. The head, the four pseudo-header
+ * fields first, is queued as output, and the body is kept for bj_pump.
+ * BJ_ROLE: it is a server. BJ_MEMORY, for the copies. One of BJ_BAD_NAME to BJ_BAD_LENGTH.
+ * BJ_CLOSED. BJ_TOO_MANY_STREAMS. BJ_STREAMS_EXHAUSTED. BJ_GOING_AWAY. BJ_OUTPUT_FULL.
+ * BJ_LIST_TOO_LARGE. BJ_MEMORY. */
 BJ_CALL int bj_request(bj_end *end, const bj_field *head, size_t head_count, const uint8_t *body,
                        size_t length, uint32_t *stream);
 
-/* Sends what waits of bodies, lower streams first, each as far as its windows go, until nothing
- * more could go or 65,536 octets of output wait; says how many octets of bodies were sent.
- * BJ_CLOSED. BJ_MEMORY: what was sent stays sent. */
+/* Queues DATA of the kept bodies as output, lower streams first, each as far as flow control
+ * allows, until nothing more can be sent or 65,536 octets of output are waiting; stores how many
+ * octets of bodies were queued.
+ * BJ_CLOSED. BJ_MEMORY: what was queued stays queued. */
 BJ_CALL int bj_pump(bj_end *end, size_t *sent);
 
-/* Sends a share of what waits on each stream, in turn, each at most `most` octets (0 counts as 1,
- * more than 65,536 as 65,536) and as far as its windows go, in one pass over the streams; says how
- * many octets of bodies were sent. Where a share is cut short, since 65,536 octets of output wait
- * or the connection's window is used up, the next pass begins with what is left of it. So no long
- * body keeps the others waiting.
- * BJ_CLOSED. BJ_MEMORY: what was sent stays sent. */
+/* As bj_pump, but in one round-robin pass that queues at most `most` octets of each stream (0
+ * counts as 1, more than 65,536 as 65,536), so that no long body keeps the others waiting. If a
+ * share is cut short because 65,536 octets of output are waiting or the window of the connection is
+ * used up, the next pass begins with the remainder of that share.
+ * BJ_CLOSED. BJ_MEMORY: what was queued stays queued. */
 BJ_CALL int bj_pump_some(bj_end *end, size_t most, size_t *sent);
 
 /* ---- messages in parts ---- */
 
-/* Begins a response, or a request on a new stream: sends the head, without END_STREAM. The body
- * and its end, or trailers, follow. Errors as of bj_respond and bj_request. The copies are kept
- * for the next head, and only a name or a value that differs from the one in its place is copied:
- * the same head again takes no memory for them. At most 64 fields are kept, of at most 8,192
- * octets, where each field counts 32 more; of a greater list none. */
+/* Begins a response, or a request on a new stream: the head is sent without END_STREAM; the body
+ * and its end, or trailers, follow. Errors as for bj_respond and bj_request. The copies are kept
+ * for the next head, and only names and values that differ from those at the same index are
+ * copied: repeating a head allocates nothing for them. Lists of at most 64 fields and 8,192 octets,
+ * counting 32 extra for each field, are kept, larger ones are not. */
 BJ_CALL int bj_begin_response(bj_end *end, uint32_t stream, const bj_field *head,
                               size_t head_count);
 BJ_CALL int bj_begin_request(bj_end *end, const bj_field *head, size_t head_count,
                              uint32_t *stream);
 
-/* Sends octets of the body of a message that was begun, and its end with them where ends is set
- * and all are sent; says how many were: as many as windows let through, at most 65,536, which may
- * be none. No octet is kept: give the rest again, once output was written and bj_room is above 0.
- * BJ_NOT_ASKED. BJ_BAD_LENGTH: the body would be longer than its head says, or, with its end,
- * shorter. BJ_CLOSED. BJ_OUTPUT_FULL. BJ_MEMORY. */
+/* Sends octets of the body of a message that was begun, and ends the message if `ends` is set and
+ * all of them were sent; stores how many were sent: as many as flow control allows, at most 65,536,
+ * possibly none. The others are not kept: pass them again once output was written and bj_room is
+ * above 0.
+ * BJ_NOT_ASKED. BJ_BAD_LENGTH: the body would be longer than content-length, or end before it.
+ * BJ_CLOSED. BJ_OUTPUT_FULL. BJ_MEMORY. */
 BJ_CALL int bj_send_body(bj_end *end, uint32_t stream, const uint8_t *octets, size_t length,
                          bool ends, size_t *sent);
 
-/* Sends trailers, which end the message. Their copies are kept for the next trailers, as those of
- * a head are.
- * BJ_MEMORY, of the copies. BJ_NOT_ASKED. BJ_BAD_NAME, BJ_BAD_VALUE, BJ_PSEUDO_PLACE,
+/* Sends trailers, which end the message. Their copies are kept for the next trailers, as for a
+ * head.
+ * BJ_MEMORY, for the copies. BJ_NOT_ASKED. BJ_BAD_NAME, BJ_BAD_VALUE, BJ_PSEUDO_PLACE,
  * BJ_CONNECTION_FIELD or BJ_BAD_LENGTH. BJ_CLOSED. BJ_OUTPUT_FULL. BJ_LIST_TOO_LARGE.
  * BJ_MEMORY. */
 BJ_CALL int bj_send_trailers(bj_end *end, uint32_t stream, const bj_field *trailers, size_t count);
 
-/* ---- the connection's calls ---- */
+/* ---- streams and the connection ---- */
 
-/* Lets the peer send so many octets more on a stream, of those that were handed out.
+/* Returns flow-control credit for `count` octets that were handed out on a stream (WINDOW_UPDATE).
  * BJ_CLOSED. BJ_NO_SUCH_STREAM. BJ_OUTPUT_FULL. BJ_NOT_OWED. BJ_MEMORY. */
 BJ_CALL int bj_release(bj_end *end, uint32_t stream, uint32_t count);
 
-/* The same of all that is owed, on all streams. BJ_CLOSED. BJ_OUTPUT_FULL or BJ_MEMORY: what was
- * released stays released. Without one of the two the peer stops at its window. */
+/* Returns all credit that is owed, on all streams. BJ_CLOSED. BJ_OUTPUT_FULL or BJ_MEMORY: what was
+ * released stays released. A peer stalls unless one of these two functions is called. */
 BJ_CALL int bj_release_all(bj_end *end);
 
-/* Resets a stream with an error code, and gives up what waits on it.
+/* Resets a stream with an error code, and discards what is kept for it.
  * BJ_CLOSED. BJ_NO_SUCH_STREAM. BJ_OUTPUT_FULL. BJ_TOO_MANY_RESETS. BJ_MEMORY. */
 BJ_CALL int bj_reset(bj_end *end, uint32_t stream, uint32_t code);
 
 /* Sends PING. BJ_CLOSED. BJ_OUTPUT_FULL. BJ_PING_WAITS. BJ_MEMORY. */
 BJ_CALL int bj_ping(bj_end *end, const uint8_t octets[8]);
 
-/* Sends GOAWAY: the peer opens no further streams. BJ_CLOSED. BJ_GOING_AWAY: this end has sent
- * one. BJ_OUTPUT_FULL. BJ_MEMORY. */
+/* Sends GOAWAY, after which the peer opens no further streams. BJ_CLOSED. BJ_GOING_AWAY: it was
+ * sent already. BJ_OUTPUT_FULL. BJ_MEMORY. */
 BJ_CALL int bj_go_away(bj_end *end);
 
-/* Ends the connection with an error code (RFC 9113, section 7): a GOAWAY with it is the last frame
- * that waits. BJ_BAD_CODE: the number is above 13. BJ_CLOSED. */
+/* Fails the connection with an error code (RFC 9113, section 7): GOAWAY with that code is the last
+ * frame of the output. BJ_BAD_CODE: the code is above 13. BJ_CLOSED. */
 BJ_CALL int bj_fail(bj_end *end, uint32_t code);
 
-/* Changes this end's settings. The first of those of a bj_config; BJ_CLOSED.
+/* Changes the settings of this endpoint. The first error of the bj_config; BJ_CLOSED.
  * BJ_OUTPUT_FULL. BJ_SETTINGS_WAIT. BJ_MEMORY. */
 BJ_CALL int bj_change_settings(bj_end *end, const bj_config *config);
 
 /* ---- output ---- */
 
-/* Makes the output ready: call it before bj_waiting, so that nothing is missing there.
- * BJ_MEMORY. */
+/* Completes the output: call it before bj_waiting, which may otherwise lack frames. BJ_MEMORY. */
 BJ_CALL int bj_ready(bj_end *end);
 
-/* Lends the first two parts of the output that waits, of which the first comes first. Both are
- * empty only where none waits; a long body that was given lies in parts of its own, so call it
- * again once these are taken away. */
+/* Lends the first two parts of the output, in order. Both are empty only if no output is waiting.
+ * There may be more: call it again once these were consumed. */
 BJ_CALL int bj_waiting(bj_end *end, bj_span *first, bj_span *second);
 
-/* Takes octets of the output away, at most count of them, which were written; says how many.
- * BJ_MEMORY, but not after bj_ready with no other call in between that changes the end. */
+/* Removes up to `count` octets, which were written, from the output; stores how many were removed.
+ * BJ_MEMORY, but not after bj_ready with no call in between that changes the endpoint. */
 BJ_CALL int bj_consume(bj_end *end, size_t count, size_t *taken);
 
-/* Copies as many octets of the output as wait and there is room for, and takes them away; says how
- * many. BJ_MEMORY. */
+/* Moves up to `room` octets of the output to the buffer; stores how many. BJ_MEMORY. */
 BJ_CALL int bj_put_out(bj_end *end, uint8_t *buffer, size_t room, size_t *count);
 
-/* ---- readers: none of them takes memory ---- */
+/* ---- queries: none of them allocates ---- */
 
-/* Whether 65,536 octets of output or more wait, so that what writes a frame is refused. */
+/* Whether 65,536 octets of output or more are waiting, so that calls that send are refused. */
 BJ_CALL int bj_is_full(bj_end *end);
 
-/* Whether no output waits, and no stream is active or the connection has failed. */
+/* Whether no output is waiting, and no stream is active or the connection has failed. */
 BJ_CALL int bj_is_drained(bj_end *end);
 
-/* Whether the connection is up, no output waits, nothing is owed, and nothing could be sent. */
+/* Whether the connection has not failed, no output is waiting, no credit is owed, and nothing kept
+ * can be sent. */
 BJ_CALL int bj_is_quiet(bj_end *end);
 
-/* Whether a stream is active: open or half-closed. That does not end with the connection. */
+/* Whether a stream is active: open or half-closed. A failed connection does not change that. */
 BJ_CALL int bj_is_active(bj_end *end, uint32_t stream);
 
-/* Says the error code with which the connection has failed. BJ_NONE: it has not. */
+/* Stores the error code with which the connection failed. BJ_NONE: it has not failed. */
 BJ_CALL int bj_failed(bj_end *end, uint32_t *code);
 
 /* Why a connection has failed. */
 enum {
-  BJ_WHY_BAD_PREFACE = 1, /* an octet differs from the preface */
-  BJ_WHY_FRAME_TOO_LONG = 2, /* a payload is above the limit */
-  BJ_WHY_PUSH_PROMISE = 3, /* PUSH_PROMISE came */
-  BJ_WHY_WRONG_STREAM = 4, /* a frame is on a stream that its type does not allow */
-  BJ_WHY_WRONG_LENGTH = 5, /* a frame has a length that its type does not allow */
-  BJ_WHY_PADDING_TOO_LONG = 6, /* padding is above what the payload leaves */
-  BJ_WHY_FIRST_FRAME_NOT_SETTINGS = 7, /* the first frame is no SETTINGS */
-  BJ_WHY_BLOCK_INTERRUPTED = 8, /* another frame came inside a field block */
-  BJ_WHY_STRAY_CONTINUATION = 9, /* CONTINUATION came outside a field block */
-  BJ_WHY_BLOCK_TOO_LONG = 10, /* a field block has more than 65,552 octets */
-  BJ_WHY_BLOCK_NOT_DECODED = 11, /* a field block does not decode */
-  BJ_WHY_FRAME_ON_IDLE_STREAM = 12, /* a frame came on an idle stream */
-  BJ_WHY_DATA_ON_CLOSED_STREAM = 13, /* DATA came on a closed stream */
-  BJ_WHY_BLOCK_ON_CLOSED_STREAM = 14, /* a field block came on a closed stream */
-  BJ_WHY_BLOCK_ON_IDLE_NUMBER = 15, /* a field block is on a number not the peer's to open */
-  BJ_WHY_DATA_ABOVE_CONNECTION_WINDOW = 16, /* DATA is above the connection's window */
-  BJ_WHY_DATA_ABOVE_STREAM_WINDOW = 17, /* DATA is above its stream's window */
-  BJ_WHY_ZERO_CONNECTION_INCREMENT = 18, /* WINDOW_UPDATE adds 0 to the connection's window */
-  BJ_WHY_CONNECTION_WINDOW_TOO_LARGE = 19, /* the connection's window is above 2^31 - 1 */
-  BJ_WHY_BAD_ENABLE_PUSH = 20, /* a bad value of ENABLE_PUSH */
-  BJ_WHY_BAD_INITIAL_WINDOW = 21, /* a bad value of INITIAL_WINDOW_SIZE */
-  BJ_WHY_BAD_MAX_FRAME_SIZE = 22, /* a bad value of MAX_FRAME_SIZE */
-  BJ_WHY_SHIFT_TOO_LARGE = 23, /* SETTINGS bring a stream's window above 2^31 - 1 */
-  BJ_WHY_TOO_MANY_RESETS = 24, /* this end would reset a 1,001st stream */
-  BJ_WHY_TOO_MUCH_OUTPUT = 25, /* replies would bring the output above 262,144 octets */
-  BJ_WHY_OUT_OF_MEMORY = 26, /* an allocation was refused, or bj_conn_refuse was given 2 */
-  BJ_WHY_ENDED_ABOVE = 27 /* bj_fail or bj_conn_fail ended it */
+  BJ_WHY_BAD_PREFACE = 1, /* the connection preface is wrong */
+  BJ_WHY_FRAME_TOO_LONG = 2, /* a frame is longer than the limit */
+  BJ_WHY_PUSH_PROMISE = 3, /* PUSH_PROMISE, though push is disabled */
+  BJ_WHY_WRONG_STREAM = 4, /* a frame on a stream that its type does not allow */
+  BJ_WHY_WRONG_LENGTH = 5, /* a frame of a length that its type and flags do not allow */
+  BJ_WHY_PADDING_TOO_LONG = 6, /* padding longer than the payload leaves room for */
+  BJ_WHY_FIRST_FRAME_NOT_SETTINGS = 7, /* the first frame is not SETTINGS */
+  BJ_WHY_BLOCK_INTERRUPTED = 8, /* another frame interrupts a field block */
+  BJ_WHY_STRAY_CONTINUATION = 9, /* CONTINUATION outside a field block */
+  BJ_WHY_BLOCK_TOO_LONG = 10, /* a field block of more than 65,552 octets */
+  BJ_WHY_BLOCK_NOT_DECODED = 11, /* a field block cannot be decoded */
+  BJ_WHY_FRAME_ON_IDLE_STREAM = 12, /* a frame other than HEADERS or PRIORITY on an idle stream */
+  BJ_WHY_DATA_ON_CLOSED_STREAM = 13, /* DATA on a closed stream */
+  BJ_WHY_BLOCK_ON_CLOSED_STREAM = 14, /* HEADERS on a closed stream */
+  BJ_WHY_BLOCK_ON_IDLE_NUMBER = 15, /* HEADERS on an idle stream that the peer may not open */
+  BJ_WHY_DATA_ABOVE_CONNECTION_WINDOW = 16, /* DATA exceeds the connection's window */
+  BJ_WHY_DATA_ABOVE_STREAM_WINDOW = 17, /* DATA exceeds the stream's window */
+  BJ_WHY_ZERO_CONNECTION_INCREMENT = 18, /* WINDOW_UPDATE of 0 on the connection */
+  BJ_WHY_CONNECTION_WINDOW_TOO_LARGE = 19, /* the connection's window exceeds 2^31 - 1 */
+  BJ_WHY_BAD_ENABLE_PUSH = 20, /* ENABLE_PUSH is above 1, or 1 from a server */
+  BJ_WHY_BAD_INITIAL_WINDOW = 21, /* INITIAL_WINDOW_SIZE is above 2^31 - 1 */
+  BJ_WHY_BAD_MAX_FRAME_SIZE = 22, /* MAX_FRAME_SIZE is not from 16,384 to 2^24 - 1 */
+  BJ_WHY_SHIFT_TOO_LARGE = 23, /* INITIAL_WINDOW_SIZE brings a stream's window above 2^31 - 1 */
+  BJ_WHY_TOO_MANY_RESETS = 24, /* 1,001 streams would have been reset */
+  BJ_WHY_TOO_MUCH_OUTPUT = 25, /* replies exceed 262,144 octets of waiting output */
+  BJ_WHY_OUT_OF_MEMORY = 26, /* out of memory, or bj_conn_refuse was called with code 2 */
+  BJ_WHY_ENDED_ABOVE = 27 /* bj_fail or bj_conn_fail was called */
 };
 
-/* Says why the connection has failed: one of the above; bj_failed says its code. BJ_NONE: it has
- * not. */
+/* Stores why the connection failed: one of the above (bj_failed has the error code). BJ_NONE: it
+ * has not failed. */
 BJ_CALL int bj_why(bj_end *end, uint32_t *why);
 
-/* Says the text of such a reason, which ends in an octet of zero and is never freed. */
+/* Stores the text of such a reason: a string that is never freed. */
 BJ_CALL void bj_why_text(uint32_t why, const char **text);
 
-/* Says the stream of the part of a message that was refused last, and the rule that it breaks, one
- * of BJ_BAD_NAME to BJ_BAD_ORDER. BJ_NONE: none was. It stays after the connection has failed. */
+/* Stores the stream of the last malformed message that was received, and the rule that it breaks:
+ * one of BJ_BAD_NAME to BJ_BAD_ORDER. BJ_NONE: there was none. Works after a failure too. */
 BJ_CALL int bj_last_malformed(bj_end *end, uint32_t *stream, int *error);
 
-/* Says how many octets the payload of the last DATA had, padding included, 0 before any: after
- * BJ_BODY what bj_release is given once they are used, where it is not 0 and the stream is active
- * still. */
+/* Stores the payload length of the last DATA frame, padding included; 0 before the first. After
+ * BJ_BODY, pass it to bj_release once the octets are used, if it is not 0 and the stream is still
+ * active. */
 BJ_CALL int bj_last_flow(bj_end *end, uint32_t *flow);
 
-/* Says how many RST_STREAM frames of the peer's were read, and 2^32 - 1 where it is more than
- * that; one at fault is not among them. This end sets no limit on them: a caller may end the
- * connection (bj_fail) where the peer opens streams and resets them at once. It works after a
- * failure too. */
+/* Stores the number of valid RST_STREAM frames received from the peer, at most 2^32 - 1. There is
+ * no limit on them: call bj_fail if the peer opens streams only to reset them at once. Works after
+ * a failure too. */
 BJ_CALL int bj_resets_received(bj_end *end, uint32_t *count);
 
-/* Says how many frames without octets of the peer's were read that say nothing: DATA, padded or
- * not, without END_STREAM, and HEADERS and CONTINUATION without END_HEADERS; 2^32 - 1 where it is
- * more than that. It works after a failure too. */
+/* Stores the number of empty frames received from the peer, at most 2^32 - 1: DATA without
+ * END_STREAM, and HEADERS and CONTINUATION without END_HEADERS, that carry no octets besides
+ * padding. Works after a failure too. */
 BJ_CALL int bj_empty_frames_received(bj_end *end, uint32_t *count);
 
-/* Says how many PING and SETTINGS frames of the peer's were read that are to be answered, those
- * without ACK; 2^32 - 1 where it is more than that. Their answers that wait are limited with all
- * output, the frames of a peer that reads them are not. It works after a failure too. */
+/* Store the number of PING, or SETTINGS, frames without ACK received from the peer, at most
+ * 2^32 - 1. Waiting replies to them count toward the limit of the output; a peer that reads the
+ * replies is not limited. Work after a failure too. */
 BJ_CALL int bj_pings_received(bj_end *end, uint32_t *count);
 BJ_CALL int bj_settings_received(bj_end *end, uint32_t *count);
 
-/* Says the stream of the field block that has begun and is not whole, between HEADERS without
- * END_HEADERS and the CONTINUATION that ends them. BJ_NONE: no block is open, or the connection has
- * failed. */
+/* Stores the stream of an incomplete field block: HEADERS without END_HEADERS was received, and
+ * END_HEADERS was not. BJ_NONE: no block is incomplete, or the connection has failed. */
 BJ_CALL int bj_block_stream(bj_end *end, uint32_t *stream);
 
-/* Values of the peer's settings (RFC 9113, section 6.5.2). */
+/* Settings of the peer (RFC 9113, section 6.5.2). */
 typedef struct bj_settings {
-  uint32_t initial_window; /* octets of a new stream's window */
-  uint32_t max_frame;      /* octets of a payload that the peer reads */
+  uint32_t initial_window; /* INITIAL_WINDOW_SIZE */
+  uint32_t max_frame;      /* MAX_FRAME_SIZE */
 } bj_settings;
 
-/* Says the values of the peer's settings that are in force: those that were read last, and 65,535
- * and 16,384 before. Once the connection has failed they are written too, and say nothing. */
+/* Stores the current settings of the peer: those received last, and 65,535 and 16,384 before any.
+ * They are meaningless once the connection has failed. */
 BJ_CALL int bj_peer_settings(bj_end *end, bj_settings *settings);
 
-/* Says how many octets may be sent on a stream, or on the connection, which is 0; below zero where
- * settings have shifted the window so. BJ_NONE: the stream isn't active, or it has failed. */
+/* Stores the send window of a stream, or of the connection (stream 0), in octets; it is negative if
+ * SETTINGS have reduced it so. BJ_NONE: the stream is not active, or the connection has failed. */
 BJ_CALL int bj_room(bj_end *end, uint32_t stream, int64_t *room);
 
-/* Says how many octets of a stream were handed out and are not released: 0 once the connection has
- * failed. */
+/* Stores how many octets of a stream were handed out and are not released yet; 0 once the
+ * connection has failed. */
 BJ_CALL int bj_owed(bj_end *end, uint32_t stream, uint32_t *owed);
 
-/* Says how many octets of the body that was given for a stream wait for bj_pump; they do so still
- * once the connection has failed. */
+/* Stores how many octets of the body given for a stream are kept for bj_pump, also once the
+ * connection has failed. */
 BJ_CALL int bj_unsent(bj_end *end, uint32_t stream, size_t *unsent);
 
-/* Says the least active stream above a number. BJ_NONE: there is none, or the connection has
+/* Stores the lowest active stream above a number. BJ_NONE: there is none, or the connection has
  * failed. */
 BJ_CALL int bj_next_live(bj_end *end, uint32_t above, uint32_t *stream);
 
-/* ---- numbers of the caller's ---- */
+/* ---- user data ---- */
 
-/* Keeps a number beside a stream, as a pointer of the caller's; 0 forgets it. It stays until then,
- * or until the end is freed, also when the stream is over. The stream may be any number; what is
- * kept beside 0 comes with events of no stream. No call says all numbers: what is to be freed when
- * a connection fails is in a list of the caller's. BJ_MEMORY: the stream had no number. */
+/* Attaches a value of the caller's, such as a pointer, to a stream; 0 removes it. It stays until
+ * then, or until the endpoint is freed, even after the stream is closed. Any stream number may be
+ * used; the value of stream 0 comes with events that have no stream. The values cannot be
+ * enumerated: keep a list of what must be freed when a connection fails. BJ_MEMORY: only if the
+ * stream had no value. */
 BJ_CALL int bj_set_user(bj_end *end, uint32_t stream, uintptr_t user);
 
-/* Says the number beside a stream, or 0. */
+/* Stores the value attached to a stream, or 0. */
 BJ_CALL int bj_user(bj_end *end, uint32_t stream, uintptr_t *user);
 
 /* ---- field blocks alone (HPACK, RFC 7541) ----
  *
- * An end encodes and decodes its own; these are for whoever frames by itself. A place of each is
- * used as a bj_end is: all zero or as these functions have left it, one thread at a time, and what
- * is lent is good until the next call with it. BJ_EMPTY: it holds none. */
+ * An endpoint encodes and decodes by itself; these are for callers with a framing layer of their
+ * own. The rules of a bj_end apply: all zeros or as these functions left it, one thread at a time,
+ * and what is lent is valid until the next call with the same object. BJ_EMPTY: it is empty. */
 
-/* A place that holds an encoder, or nothing. Its members are the library's. */
+/* Holds an encoder, or is empty. Its members are private. */
 typedef struct bj_encoder {
   void *at;
   uint64_t state;
 } bj_encoder;
 
-/* Makes an encoder in a place that holds none, with an empty table, whose maximum and limit are so
- * many octets: 4,096 for a connection that begins. It takes room for maximum / 32 entries.
- * BJ_HELD: the place holds one, and still does. BJ_MEMORY. */
+/* Creates an encoder in an empty bj_encoder, with an empty dynamic table whose maximum size and
+ * limit are `maximum` octets: 4,096 for a new connection. It allocates maximum / 32 entries.
+ * BJ_HELD: the object holds one, which is kept. BJ_MEMORY. */
 BJ_CALL int bj_encoder_new(uint32_t maximum, bj_encoder *encoder);
 
-/* Frees the encoder, and the place holds none. */
+/* Frees the encoder; the bj_encoder is then empty. */
 BJ_CALL int bj_encoder_free(bj_encoder *encoder);
 
-/* Sets the limit of the peer's table (SETTINGS_HEADER_TABLE_SIZE); the next block says what has
- * changed. That block takes room for limit / 32 entries, so cap what a peer asks for. */
+/* Applies the peer's SETTINGS_HEADER_TABLE_SIZE; the next block signals the change. That block
+ * allocates limit / 32 entries, so cap what a peer asks for. */
 BJ_CALL int bj_encoder_set_limit(bj_encoder *encoder, uint32_t limit);
 
-/* Makes the block of fields, and lends it. The fields are copied, as those of a head in parts are.
- * The decoder is to be given each block, in order: the next one builds on it.
- * BJ_MEMORY, of the copies. BJ_LIST_TOO_LARGE: the fields have 2^35 octets or more, each counting
- * 32 more. BJ_MEMORY. *block is as it was then, and so is the encoder; octets that were lent
- * before are not. */
+/* Encodes fields, and lends the block. The fields are copied, as those of bj_begin_request are. The
+ * decoder must be given each block, in order, since the next one builds on it.
+ * BJ_MEMORY, for the copies. BJ_LIST_TOO_LARGE: the fields have 2^35 octets or more, counting 32
+ * extra for each. BJ_MEMORY. An error leaves *block and the encoder unchanged, but not the octets
+ * that were lent before. */
 BJ_CALL int bj_encode(bj_encoder *encoder, const bj_field *fields, size_t field_count,
                       bj_span *block);
 
-/* A place that holds a decoder, or nothing. Its members are the library's. */
+/* Holds a decoder, or is empty. Its members are private. */
 typedef struct bj_decoder {
   void *at;
   uint64_t state;
 } bj_decoder;
 
-/* Makes a decoder in a place that holds none, with an empty table, whose maximum and limit are so
- * many octets: 4,096 for a connection that begins. It takes room for maximum / 32 entries.
- * BJ_HELD: the place holds one, and still does. BJ_MEMORY. */
+/* Creates a decoder in an empty bj_decoder, with an empty dynamic table whose maximum size and
+ * limit are `maximum` octets: 4,096 for a new connection. It allocates maximum / 32 entries.
+ * BJ_HELD: the object holds one, which is kept. BJ_MEMORY. */
 BJ_CALL int bj_decoder_new(uint32_t maximum, bj_decoder *decoder);
 
-/* Frees the decoder, and the place holds none. */
+/* Frees the decoder; the bj_decoder is then empty. */
 BJ_CALL int bj_decoder_free(bj_decoder *decoder);
 
-/* Sets the limit of the table, for the size updates of later blocks: once the peer has
- * acknowledged the SETTINGS that say it. */
+/* Sets the limit of the table, which applies to size updates in later blocks: call it once the peer
+ * has acknowledged the SETTINGS with this value. */
 BJ_CALL int bj_decoder_set_limit(bj_decoder *decoder, uint32_t limit);
 
-/* Decodes a complete block into the decoder's list, and says how many fields it has.
- * BJ_DECODER_FAILED: an earlier call failed so. BJ_COMPRESSION, that the octets are no block, or
- * BJ_MEMORY: whichever is met first in them; after these two the decoder has failed for good.
- * BJ_LIST_TOO_LARGE: the fields have more than list_limit octets, each counting 32 more; the table
- * is as after the block, and the next one can be decoded.
- * The list is empty after each of the four. */
+/* Decodes a complete block into the decoder's list, and stores the number of its fields.
+ * BJ_DECODER_FAILED: an earlier block failed. BJ_COMPRESSION (the block cannot be decoded) or
+ * BJ_MEMORY, whichever occurs first: the decoder has then failed for good. BJ_LIST_TOO_LARGE: the
+ * fields have more than list_limit octets, counting 32 extra for each; the block has updated the
+ * table, and the next one can be decoded.
+ * The list is empty after any of the four. */
 BJ_CALL int bj_decode(bj_decoder *decoder, const uint8_t *block, size_t length,
                       uint32_t list_limit, size_t *count);
 
-/* Says a field of the list that was decoded last, by its place: 0 is the first.
- * BJ_NO_FIELD: there are no more than so many. */
+/* Stores a field of the list that was decoded last, by its index, from 0.
+ * BJ_NO_FIELD: the index is too large. */
 BJ_CALL int bj_decoded_at(bj_decoder *decoder, size_t place, bj_field *field);
 
-/* Says the fields of the list that was decoded last, from a place on, and how many were said: as
- * many as there are, and at most as there is room for. */
+/* Stores the fields of the list that was decoded last, from an index on, and their count: as many
+ * as there are, and at most `room`. */
 BJ_CALL int bj_decoded(bj_decoder *decoder, size_t from, bj_field *fields, size_t room,
                        size_t *count);
 
 /* ---- a connection without the rules of messages ----
  *
- * It is an end that reports fields and DATA as they come, and checks no message (HTTP/2 without
- * RFC 9113, section 8): for whoever has rules of its own. Its functions are those of an end, with
- * the same errors, answers and loans; a place of it is used as a bj_end is. BJ_EMPTY: it holds
- * none. */
+ * An endpoint that reports fields and DATA as they arrive and does not check messages (HTTP/2
+ * without RFC 9113, section 8), for callers with rules of their own. Its functions are those of a
+ * bj_end, with the same errors, results and lifetimes. BJ_EMPTY: it is empty. */
 
-/* A place that holds a connection, or nothing. Its members are the library's. */
+/* Holds a connection, or is empty. Its members are private. */
 typedef struct bj_conn {
   void *at;
   uint64_t state;
 } bj_conn;
 
-/* What bj_conn_take reports beside BJ_RESET, BJ_UNPROCESSED, BJ_GOAWAY, BJ_ACKED and BJ_PONG. */
+/* Events of bj_conn_take, besides BJ_RESET, BJ_UNPROCESSED, BJ_GOAWAY, BJ_ACKED and BJ_PONG. */
 enum {
   BJ_FIELDS = 10, /* a field section: stream, fields, end */
   BJ_DATA = 11    /* octets of a body: stream, octets, length, flow, end */
@@ -561,65 +555,65 @@ enum {
 typedef struct bj_report {
   size_t used;     /* octets of the piece that were used */
   uint32_t kind;   /* one of the above */
-  uint32_t stream; /* its stream */
+  uint32_t stream; /* the stream number */
   uint32_t code;   /* an error code (RFC 9113, section 7) */
-  uint32_t end;    /* 1 where nothing follows on the stream */
-  uint32_t ours;   /* 1 where this end has reset the stream */
+  uint32_t end;    /* 1 if the peer ended the stream */
+  uint32_t ours;   /* 1 if this endpoint reset the stream, 0 if the peer did */
   uint8_t ping[8];
-  size_t fields; /* how many fields the list has: see bj_conn_field_at */
+  size_t fields; /* number of fields: see bj_conn_field_at */
   const uint8_t *octets;
   size_t length;
-  uint32_t flow; /* what bj_conn_release is given once the octets are used, padding included;
-                  * nothing where it is 0 or the stream is over */
+  uint32_t flow; /* payload length, padding included: pass it to bj_conn_release once the octets
+                  * are used, unless it is 0 or the stream is closed */
 } bj_report;
 
-/* Makes a server's, or a client's, connection in a place that holds none. Its opening waits.
- * BJ_HELD: the place holds one, and still does. BJ_TABLE_LIMIT, BJ_INITIAL_WINDOW, BJ_MAX_STREAMS
- * or BJ_MAX_FRAME: the value is out of its bounds. BJ_MEMORY. */
+/* Creates the connection of a server, or of a client, in an empty bj_conn. Its connection preface
+ * is queued as output. BJ_HELD: the object holds one, which is kept. BJ_TABLE_LIMIT,
+ * BJ_INITIAL_WINDOW, BJ_MAX_STREAMS or BJ_MAX_FRAME: the value is out of range. BJ_MEMORY. */
 BJ_CALL int bj_conn_server(const bj_config *config, bj_conn *conn);
 BJ_CALL int bj_conn_client(const bj_config *config, bj_conn *conn);
 
-/* Frees the connection, and the place holds none. */
+/* Frees the connection; the bj_conn is then empty. */
 BJ_CALL int bj_conn_free(bj_conn *conn);
 
-/* Takes octets that were read, as bj_take does, and says what is reported: one event at most.
+/* Takes octets that were read, as bj_take does, and stores at most one event.
  * BJ_FAILED: the connection fails, or has failed, with the code in report->code. Members that an
- * event does not name are 0, but for octets, which is the address that was given. */
+ * event does not use are 0, except for octets, which is the address that was passed. */
 BJ_CALL int bj_conn_take(bj_conn *conn, const uint8_t *octets, size_t length, bj_report *report);
 
-/* Says a field, or fields, of the list that the last bj_conn_take has reported, as bj_field_at and
- * bj_fields: ask before you take again.
- * BJ_NO_FIELD: there are no more than so many. */
+/* Store a field, or fields, of the list that the last bj_conn_take reported, as bj_field_at and
+ * bj_fields do: call them before the next bj_conn_take.
+ * BJ_NO_FIELD: the index is too large. */
 BJ_CALL int bj_conn_field_at(bj_conn *conn, size_t place, bj_field *field);
 BJ_CALL int bj_conn_fields(bj_conn *conn, size_t from, bj_field *fields, size_t room,
                            size_t *count);
 
-/* Opens a stream with a field section, and says the stream: 1, 3, 5 and so on. With ends nothing
- * follows on it. The copies are kept, as those of a head in parts are.
- * BJ_MEMORY, of the copies. BJ_CLOSED. BJ_TOO_MANY_STREAMS. BJ_STREAMS_EXHAUSTED, at a server
- * always. BJ_GOING_AWAY. BJ_OUTPUT_FULL. BJ_LIST_TOO_LARGE. BJ_MEMORY. */
+/* Opens a stream with a field section, and stores the stream: 1, 3, 5 and so on. If `ends` is set,
+ * END_STREAM is sent. The copies are kept, as those of bj_begin_request are.
+ * BJ_MEMORY, for the copies. BJ_CLOSED. BJ_TOO_MANY_STREAMS. BJ_STREAMS_EXHAUSTED, always for a
+ * server. BJ_GOING_AWAY. BJ_OUTPUT_FULL. BJ_LIST_TOO_LARGE. BJ_MEMORY. */
 BJ_CALL int bj_conn_open(bj_conn *conn, const bj_field *fields, size_t field_count, bool ends,
                          uint32_t *stream);
 
-/* Says how bj_conn_open would be refused with these fields, but for its last BJ_MEMORY: BJ_OK where
- * it would not be. Nothing is opened or sent, and the copies are kept, as there.
- * BJ_MEMORY, of the copies. BJ_CLOSED. BJ_TOO_MANY_STREAMS. BJ_STREAMS_EXHAUSTED, at a server
- * always. BJ_GOING_AWAY. BJ_OUTPUT_FULL. BJ_LIST_TOO_LARGE. */
+/* Returns the error that bj_conn_open would return with these fields, except for its last
+ * BJ_MEMORY, and BJ_OK if there is none. Nothing is opened or sent; the copies are kept as there.
+ * BJ_MEMORY, for the copies. BJ_CLOSED. BJ_TOO_MANY_STREAMS. BJ_STREAMS_EXHAUSTED, always for a
+ * server. BJ_GOING_AWAY. BJ_OUTPUT_FULL. BJ_LIST_TOO_LARGE. */
 BJ_CALL int bj_conn_refusal_to_open(bj_conn *conn, const bj_field *fields, size_t field_count);
 
-/* Sends a further field section on a stream: a response's, or trailers.
- * BJ_MEMORY, of the copies. BJ_CLOSED. BJ_NO_SUCH_STREAM. BJ_ENDED. BJ_OUTPUT_FULL.
+/* Sends a further field section on a stream: that of a response, or trailers.
+ * BJ_MEMORY, for the copies. BJ_CLOSED. BJ_NO_SUCH_STREAM. BJ_ENDED. BJ_OUTPUT_FULL.
  * BJ_LIST_TOO_LARGE. BJ_MEMORY. */
 BJ_CALL int bj_conn_send_fields(bj_conn *conn, uint32_t stream, const bj_field *fields,
                                 size_t field_count, bool ends);
 
-/* Sends as many octets as both windows let through, at most 65,536; says how many. Where all were
- * sent and ends is set, the last DATA ends the stream.
- * BJ_CLOSED. BJ_NO_SUCH_STREAM. BJ_ENDED. BJ_OUTPUT_FULL. BJ_MEMORY. *sent is 0 then. */
+/* Sends as many octets as flow control allows, at most 65,536; stores how many. If all were sent
+ * and `ends` is set, END_STREAM is sent with them.
+ * BJ_CLOSED. BJ_NO_SUCH_STREAM. BJ_ENDED. BJ_OUTPUT_FULL. BJ_MEMORY. On error *sent is 0. */
 BJ_CALL int bj_conn_send_data(bj_conn *conn, uint32_t stream, const uint8_t *octets,
                               size_t length, bool ends, size_t *sent);
 
-/* Lets the peer send so many octets more on a stream, of those that were reported.
+/* Returns flow-control credit for `count` octets that were reported on a stream (WINDOW_UPDATE).
  * BJ_CLOSED. BJ_NO_SUCH_STREAM. BJ_OUTPUT_FULL. BJ_NOT_OWED. BJ_MEMORY. */
 BJ_CALL int bj_conn_release(bj_conn *conn, uint32_t stream, uint32_t count);
 
@@ -627,11 +621,12 @@ BJ_CALL int bj_conn_release(bj_conn *conn, uint32_t stream, uint32_t count);
  * BJ_CLOSED. BJ_NO_SUCH_STREAM. BJ_OUTPUT_FULL. BJ_TOO_MANY_RESETS. BJ_MEMORY. */
 BJ_CALL int bj_conn_reset(bj_conn *conn, uint32_t stream, uint32_t code);
 
-/* Resets a stream for a fault of the peer that the caller has found. With 2, INTERNAL_ERROR, the
- * caller has no memory, and the connection fails with it; it fails with ENHANCE_YOUR_CALM where
- * 1,000 streams were reset or the output would be above 262,144 octets, and with INTERNAL_ERROR
- * where memory is refused: BJ_OK is answered then, bj_conn_failed says it, and the next
- * bj_conn_take answers BJ_FAILED. BJ_CLOSED. Unless the code is 2, BJ_NO_SUCH_STREAM. */
+/* Resets a stream for a stream error of the peer that the caller has found. Code 2 (INTERNAL_ERROR)
+ * means that the caller is out of memory, and fails the connection. The connection also fails with
+ * ENHANCE_YOUR_CALM if 1,000 streams were already reset or the output would exceed 262,144 octets,
+ * and with INTERNAL_ERROR if out of memory. In these cases BJ_OK is returned, bj_conn_failed
+ * reports the failure, and the next bj_conn_take returns BJ_FAILED. BJ_CLOSED. Unless the code is
+ * 2: BJ_NO_SUCH_STREAM. */
 BJ_CALL int bj_conn_refuse(bj_conn *conn, uint32_t stream, uint32_t code);
 
 /* As bj_ping, bj_go_away, bj_fail and bj_change_settings, with the same errors. */
@@ -640,19 +635,19 @@ BJ_CALL int bj_conn_go_away(bj_conn *conn);
 BJ_CALL int bj_conn_fail(bj_conn *conn, uint32_t code);
 BJ_CALL int bj_conn_change_settings(bj_conn *conn, const bj_config *config);
 
-/* The output: as bj_ready, bj_waiting, bj_consume and bj_put_out. BJ_MEMORY, but of
- * bj_conn_waiting, and of bj_conn_consume not after bj_conn_ready with no other call in between
- * that changes the connection. Of bj_conn_put_out the buffer is as it was then. */
+/* Output, as bj_ready, bj_waiting, bj_consume and bj_put_out. BJ_MEMORY, except from
+ * bj_conn_waiting, and from bj_conn_consume after bj_conn_ready with no call in between that
+ * changes the connection. If bj_conn_put_out fails, the buffer is unchanged. */
 BJ_CALL int bj_conn_ready(bj_conn *conn);
 BJ_CALL int bj_conn_waiting(bj_conn *conn, bj_span *first, bj_span *second);
 BJ_CALL int bj_conn_consume(bj_conn *conn, size_t count, size_t *taken);
 BJ_CALL int bj_conn_put_out(bj_conn *conn, uint8_t *buffer, size_t room, size_t *count);
 
-/* Says how many octets of output wait: at most 262,144, and 262,161 with the GOAWAY of a failed
- * connection. What bj_conn_ready would add is not counted. */
+/* Stores how many octets of output are waiting: at most 262,144, or 262,161 with the GOAWAY of a
+ * failed connection. What bj_conn_ready would add is not counted. */
 BJ_CALL int bj_conn_waiting_count(bj_conn *conn, size_t *count);
 
-/* Readers, as those of an end without conn_ in their names. BJ_NONE: there is none. */
+/* Queries, as those of a bj_end without conn_ in their names. BJ_NONE: there is none. */
 BJ_CALL int bj_conn_is_active(bj_conn *conn, uint32_t stream);
 BJ_CALL int bj_conn_failed(bj_conn *conn, uint32_t *code);
 BJ_CALL int bj_conn_why(bj_conn *conn, uint32_t *why);
@@ -667,20 +662,20 @@ BJ_CALL int bj_conn_room(bj_conn *conn, uint32_t stream, int64_t *room);
 BJ_CALL int bj_conn_owed(bj_conn *conn, uint32_t stream, uint32_t *owed);
 BJ_CALL int bj_conn_next_live(bj_conn *conn, uint32_t above, uint32_t *stream);
 
-/* Says how many octets of the connection's window are still to be returned: of DATA that was
- * discarded, and of streams that have closed. 0 once the connection has failed. */
+/* Stores how many octets of the connection's window are still to be returned: those of discarded
+ * DATA and of closed streams. 0 once the connection has failed. */
 BJ_CALL int bj_conn_due(bj_conn *conn, uint32_t *due);
 
-/* Says how many octets were used of a preface or a frame that is not complete: 1,048,585 at most; 0
- * once the connection has failed. */
+/* Stores how many octets of an incomplete preface or frame are held: at most 1,048,585; 0 once the
+ * connection has failed. */
 BJ_CALL int bj_conn_held(bj_conn *conn, size_t *count);
 
-/* Says how many octets of input were used; the greatest number of 64 bits where it is more. After a
- * fault of the peer the octet that made it is the last one of them. */
+/* Stores how many octets of input were used, at most 2^64 - 1. After a fault of the peer, the last
+ * of them is the octet at fault. */
 BJ_CALL int bj_conn_place(bj_conn *conn, uint64_t *place);
 
-/* Says the number of the stream that a client opens next; 2^31 + 1 where none is left
- * (BJ_STREAMS_EXHAUSTED). BJ_NONE: at a server, and once the connection has failed. */
+/* Stores the number of the next stream that a client opens, or 2^31 + 1 if none is left
+ * (BJ_STREAMS_EXHAUSTED). BJ_NONE: it is a server, or the connection has failed. */
 BJ_CALL int bj_conn_next_number(bj_conn *conn, uint32_t *stream);
 
 #ifdef __cplusplus

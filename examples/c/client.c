@@ -41,7 +41,7 @@ static struct url parse(const char *text) {
   static const char scheme[] = "http://";
   struct url url = {.port = "80"};
   if (strncmp(text, scheme, sizeof(scheme) - 1) != 0)
-    fail("the URL doesn't begin with http://");
+    fail("the URL does not begin with http://");
   text += sizeof(scheme) - 1;
   size_t authority = strcspn(text, "/?#"), path = strcspn(text + authority, "#");
   bool is_v6 = text[0] == '[';
@@ -49,7 +49,7 @@ static struct url parse(const char *text) {
   size_t port = authority > host + 1 ? authority - host - 1 : 0;
   if (host > authority || (authority > host && text[host] != ':') || port >= sizeof(url.port) ||
       authority >= sizeof(url.authority) || path + 1 >= sizeof(url.path))
-    fail("the URL can't be read");
+    fail("the URL is malformed");
   memcpy(url.authority, text, authority);
   memcpy(url.host, text + is_v6, host - 2 * is_v6);
   if (port > 0)
@@ -64,7 +64,7 @@ static struct url parse(const char *text) {
 static void wait_for(int fd, short events) {
   struct pollfd wanted = {.fd = fd, .events = events};
   if (poll(&wanted, 1, WAIT * 1000) <= 0)
-    fail("the server is silent");
+    fail("timed out");
 }
 
 /* Writes all that waits. */
@@ -94,7 +94,7 @@ static void note(bj_end *end, const bj_event *event, struct response *response) 
   if (event->kind == BJ_HEAD)
     copy_field(end, ":status", response->status, sizeof(response->status));
   if (event->kind == BJ_BODY && fwrite(event->octets, 1, event->length, stdout) != event->length)
-    fail("standard output takes no more");
+    fail("cannot write to standard output");
   response->whole = event->end;
   response->over = event->end || event->kind == BJ_RESET || event->kind == BJ_UNPROCESSED;
   if (event->kind == BJ_RESET)
@@ -108,7 +108,7 @@ static void take_piece(bj_end *end, int fd, const uint8_t *piece, size_t length,
   do {
     int error = bj_take(end, piece, length, &event);
     if (error == BJ_FAILED) {
-      fprintf(stderr, "client: the connection fails with code %u\n", event.code);
+      fprintf(stderr, "client: the connection failed with code %u\n", event.code);
       write_out(end, fd);
     }
     check("take", error);
@@ -134,7 +134,7 @@ static void get(bj_end *end, int fd, const struct url *url, struct response *res
     wait_for(fd, POLLIN);
     ssize_t length = recv(fd, piece, sizeof(piece), 0);
     if (length <= 0)
-      fail("the server has ended the connection");
+      fail("the server closed the connection");
     take_piece(end, fd, piece, (size_t)length, response);
     check("release_all", bj_release_all(end));
   }
@@ -156,6 +156,6 @@ int main(int count, char **words) {
   get(&end, fd, &url, &response);
   bj_free(&end);
   close(fd);
-  fprintf(stderr, "%s%s\n", response.status, response.whole ? "" : ", not whole");
+  fprintf(stderr, "%s%s\n", response.status, response.whole ? "" : ", incomplete");
   return fflush(stdout) != 0 || !response.whole || response.status[0] != '2';
 }

@@ -1,5 +1,5 @@
 #!/usr/bin/env python3
-"""A client: gets a URL, writes the body to standard output, and says the status on standard error.
+"""A client: fetches a URL, writes the body to standard output and the status to standard error.
 
     client.py http://HOST[:PORT][/PATH]
 
@@ -66,7 +66,7 @@ def load():
     """The library, with what its functions take."""
     name = os.environ.get("BELKJOEF_SHARED") or ctypes.util.find_library("belkjoef")
     if name is None:
-        sys.exit("client.py: there is no libbelkjoef.so: name it in BELKJOEF_SHARED")
+        sys.exit("client.py: libbelkjoef.so not found: set BELKJOEF_SHARED to its path")
     lib = ctypes.CDLL(name)
     end, size = POINTER(End), POINTER(c_size_t)
     takes = {
@@ -141,14 +141,14 @@ class Client:
         """Reads a piece, and answers each event of it with the octets that it lends."""
         piece = self.stream.recv(65536)
         if not piece:
-            raise ConnectionError("the server has ended the connection")
+            raise ConnectionError("the server closed the connection")
         buffer, at, event = ctypes.create_string_buffer(piece, len(piece)), 0, Event(kind=HEAD)
         while at < len(piece) or event.kind != NOTHING:
             event = Event()
             rest = ctypes.addressof(buffer) + at
             answer = self.lib.bj_take(byref(self.end), rest, len(piece) - at, byref(event))
             if answer == FAILED:
-                raise ConnectionError(f"the connection fails with code {event.code}")
+                raise ConnectionError(f"the connection failed with code {event.code}")
             self.check(answer)
             at += event.used
             if event.kind != NOTHING:
@@ -193,7 +193,7 @@ def main():
                 client.close()
     except OSError as error:
         sys.exit(f"client.py: {error}")
-    print((status or b"").decode() + ("" if whole else ", not whole"), file=sys.stderr)
+    print((status or b"").decode() + ("" if whole else ", incomplete"), file=sys.stderr)
     sys.exit(not whole or not status.startswith(b"2"))
 
 

@@ -1,4 +1,4 @@
-//! The end of a client.
+//! The client endpoint.
 
 use crate::error::check;
 use crate::{ffi, Config, End, Error, Field};
@@ -7,9 +7,9 @@ use crate::{ffi, Config, End, Error, Field};
 #[derive(Debug)]
 pub enum AsClient {}
 
-/// The client's end of one connection.
+/// The client of one connection.
 ///
-/// This one gets a page:
+/// This one fetches a page:
 ///
 /// ```no_run
 /// use belkjoef::{Client, Config, Event, Field};
@@ -54,7 +54,7 @@ pub enum AsClient {}
 /// }
 /// ```
 ///
-/// A client gives no responses:
+/// A client sends no responses:
 ///
 /// ```compile_fail,E0599
 /// # use belkjoef::{Client, Config};
@@ -63,7 +63,7 @@ pub enum AsClient {}
 pub type Client = End<AsClient>;
 
 impl Client {
-    /// Makes a client. Its preface and SETTINGS wait as output.
+    /// Creates a client. Its connection preface is queued as output.
     ///
     /// # Errors
     ///
@@ -72,8 +72,8 @@ impl Client {
         End::make(config, ffi::bj_client_new)
     }
 
-    /// Gives a request, and says the stream on which it goes: 1, 3, 5 and so on. Its head, the
-    /// pseudo-fields first, is sent, and a copy of its body waits for [`pump`](End::pump).
+    /// Makes a request, and returns its stream: 1, 3, 5 and so on. The head, the pseudo-header
+    /// fields first, is queued as output, and a copy of the body is kept for [`pump`](End::pump).
     ///
     /// # Errors
     ///
@@ -90,13 +90,13 @@ impl Client {
         Ok(stream)
     }
 
-    /// Begins a request on a new stream, and says the stream: sends its head, after which its
-    /// body, and its end or trailers, follow. Copies of the last head are kept, at most 64 fields
-    /// of 8,192 octets, and only what differs in its place is copied anew.
+    /// Begins a request, and returns its stream: the head is sent; the body and its end, or
+    /// trailers, follow. The last head is kept, if it has at most 64 fields and 8,192 octets, and
+    /// only names and values that differ at the same index are copied.
     ///
     /// # Errors
     ///
-    /// As of [`request`](Client::request).
+    /// As for [`request`](Client::request).
     pub fn begin(&mut self, head: &[Field<'_>]) -> Result<u32, Error> {
         let mut stream = 0;
         // SAFETY: the pointers are of the place, of so many fields and of a number.

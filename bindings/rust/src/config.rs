@@ -1,11 +1,10 @@
-//! An end's own settings.
+//! Settings of an endpoint.
 
 use crate::ffi;
 
-/// An end's own settings (RFC 9113, section 6.5.2). [`Default`] has the values with which a
-/// connection begins.
+/// Settings of an endpoint (RFC 9113, section 6.5.2). [`Default`] has the initial values.
 ///
-/// The values are checked where an end is made of them, or is given them: see
+/// The values are checked when an endpoint is created or its settings are changed: see
 /// [`Error::BadConfig`](crate::Error::BadConfig).
 ///
 /// ```
@@ -18,23 +17,23 @@ use crate::ffi;
 /// ```
 #[derive(Clone, Copy, Debug, PartialEq, Eq, Hash)]
 pub struct Config {
-    /// Octets of the peer's header table: 0 to 65,536.
+    /// HEADER_TABLE_SIZE: 0 to 65,536.
     pub table_limit: u32,
-    /// Octets of a new stream's window: 1 to 2^31 - 1.
+    /// INITIAL_WINDOW_SIZE: 1 to 2^31 - 1.
     pub initial_window: u32,
-    /// Active streams at a server: 100 to 1,000.
+    /// MAX_CONCURRENT_STREAMS, of a server: 100 to 1,000.
     pub max_streams: u32,
-    /// Octets of a payload that is read: 16,384 to 1,048,576.
+    /// MAX_FRAME_SIZE: 16,384 to 1,048,576.
     pub max_frame: u32,
 }
 
-/// The values of the peer's settings that are in force (RFC 9113, section 6.5.2):
+/// Current settings of the peer (RFC 9113, section 6.5.2):
 /// [`End::peer_settings`](crate::End::peer_settings).
 #[derive(Clone, Copy, Debug, PartialEq, Eq, Hash)]
 pub struct PeerSettings {
-    /// Octets of a new stream's window.
+    /// INITIAL_WINDOW_SIZE.
     pub initial_window: u32,
-    /// Octets of a payload that the peer reads.
+    /// MAX_FRAME_SIZE.
     pub max_frame: u32,
 }
 

@@ -1,4 +1,4 @@
-//! An end of a connection: what a client and a server share.
+//! An endpoint of a connection: what clients and servers share.
 
 use crate::error::check;
 use crate::{ffi, Code, Config, Error, Event, Field, Fields, PeerSettings, Rule, Taken, Why};
@@ -10,10 +10,10 @@ use std::mem;
 use std::os::raw::c_int;
 use std::ptr;
 
-/// An end of one connection: a [`Client`](crate::Client) or a [`Server`](crate::Server). It is
-/// freed where it is dropped.
+/// An endpoint of one connection: a [`Client`](crate::Client) or a [`Server`](crate::Server). It is
+/// freed when dropped.
 ///
-/// It may be sent to another thread, and belongs to one at a time.
+/// It can be sent to another thread, but is used by one thread at a time.
 pub struct End<Role> {
     /// The place of the library. Readers write it too, and put back what was there. It holds no
     /// address of itself, so a move of the end moves it.
@@ -62,18 +62,18 @@ impl<Role> End<Role> {
         unsafe { ask(self.place()) == 1 }
     }
 
-    /// Takes octets that were read, up to the end of one frame or else all of them, and says how
-    /// many were used and what is handed out: one event at most. Call it again, with the octets
-    /// after those, until all are used and nothing is handed out: an event need not use octets.
+    /// Takes octets that were read, up to the end of one frame, and returns how many were used and
+    /// at most one event. Call it again with the unused octets until all are used and there is no
+    /// event: an event need not use any octets.
     ///
     /// # Errors
     ///
-    /// [`Error::Failed`]: the connection fails, or has failed. Its GOAWAY waits as output.
+    /// [`Error::Failed`]: the connection fails, or has failed. GOAWAY is queued as output.
     ///
     /// # Loans
     ///
-    /// What is handed out is lent by the end and the octets. While it is in use the end can't be
-    /// called:
+    /// The event borrows from the endpoint and the octets. The endpoint cannot be used while the
+    /// event is:
     ///
     /// ```compile_fail,E0499
     /// # use belkjoef::{Config, Server};
@@ -153,13 +153,13 @@ impl<Role> End<Role> {
         Fields::new(&self.fields)
     }
 
-    /// Sends what waits of bodies that were given whole, lower streams first, each as far as its
-    /// windows go, until nothing more could go or 65,536 octets of output wait. Says how many
-    /// octets of bodies were sent.
+    /// Queues DATA of the kept bodies as output, lower streams first, each as far as flow control
+    /// allows, until nothing more can be sent or 65,536 octets of output are waiting. Returns how
+    /// many octets of bodies were queued.
     ///
     /// # Errors
     ///
-    /// `Closed`. `Memory`: what was sent stays sent.
+    /// `Closed`. `Memory`: what was queued stays queued.
     pub fn pump(&mut self) -> Result<usize, Error> {
         let mut sent = 0;
         // SAFETY: the pointers are of the place and of a number.
@@ -167,13 +167,12 @@ impl<Role> End<Role> {
         Ok(sent)
     }
 
-    /// Sends a share of what waits on each stream, in turn, each at most `most` octets and as far as
-    /// its windows go, in one pass over the streams. Says how many octets of bodies were sent. So no
-    /// long body keeps the others waiting.
+    /// As [`pump`](End::pump), but in one round-robin pass that queues at most `most` octets of
+    /// each stream, so that no long body keeps the others waiting.
     ///
     /// # Errors
     ///
-    /// `Closed`. `Memory`: what was sent stays sent.
+    /// `Closed`. `Memory`: what was queued stays queued.
     pub fn pump_some(&mut self, most: usize) -> Result<usize, Error> {
         let mut sent = 0;
         // SAFETY: the pointers are of the place and of a number.
@@ -181,15 +180,15 @@ impl<Role> End<Role> {
         Ok(sent)
     }
 
-    /// Sends octets of the body of a message that was begun, and its end with them where `ends` is
-    /// set and all are sent. Says how many were: as many as windows let through, at most 65,536,
-    /// which may be none. None is kept: give the rest again, once output was written and
-    /// [`room`](End::room) is above 0.
+    /// Sends octets of the body of a message that was begun, and ends the message if `ends` is set
+    /// and all of them were sent. Returns how many were sent: as many as flow control allows, at
+    /// most 65,536, possibly none. The others are not kept: pass them again once output was written
+    /// and [`room`](End::room) is above 0.
     ///
     /// # Errors
     ///
-    /// `NotAsked`. `BadMessage(BadLength)`: the body would be longer than its head says, or, with
-    /// its end, shorter. `Closed`. `OutputFull`. `Memory`.
+    /// `NotAsked`. `BadMessage(BadLength)`: the body would be longer than content-length, or end
+    /// before it. `Closed`. `OutputFull`. `Memory`.
     pub fn send_body(&mut self, stream: u32, octets: &[u8], ends: bool) -> Result<usize, Error> {
         let mut sent = 0;
         // SAFETY: the pointers are of the place, of so many octets and of a number.
@@ -200,7 +199,7 @@ impl<Role> End<Role> {
         Ok(sent)
     }
 
-    /// Sends trailers, which end the message that was begun. Copies are kept, as of a head.
+    /// Sends trailers, which end the message that was begun. Copies are kept, as for a head.
     ///
     /// # Errors
     ///
@@ -212,7 +211,7 @@ impl<Role> End<Role> {
         })
     }
 
-    /// Lets the peer send so many octets more on a stream, of those that were handed out.
+    /// Returns flow-control credit for octets that were handed out on a stream (WINDOW_UPDATE).
     ///
     /// # Errors
     ///
@@ -222,8 +221,8 @@ impl<Role> End<Role> {
         check(unsafe { ffi::bj_release(self.place(), stream, count) })
     }
 
-    /// The same of all that is owed, on all streams. Without one of the two the peer stops at its
-    /// window.
+    /// Returns all credit that is owed, on all streams. A peer stalls unless this or
+    /// [`release`](End::release) is called.
     ///
     /// # Errors
     ///
@@ -233,7 +232,7 @@ impl<Role> End<Role> {
         check(unsafe { ffi::bj_release_all(self.place()) })
     }
 
-    /// Resets a stream, and gives up what waits on it.
+    /// Resets a stream, and discards what is kept for it.
     ///
     /// # Errors
     ///
@@ -243,7 +242,7 @@ impl<Role> End<Role> {
         check(unsafe { ffi::bj_reset(self.place(), stream, code.0) })
     }
 
-    /// Sends PING, which the peer answers: [`Event::Pong`].
+    /// Sends PING; the answer of the peer is [`Event::Pong`].
     ///
     /// # Errors
     ///
@@ -253,17 +252,17 @@ impl<Role> End<Role> {
         check(unsafe { ffi::bj_ping(self.place(), octets.as_ptr()) })
     }
 
-    /// Sends GOAWAY: the peer opens no further streams.
+    /// Sends GOAWAY, after which the peer opens no further streams.
     ///
     /// # Errors
     ///
-    /// `Closed`. `GoingAway`: this end has sent one. `OutputFull`. `Memory`.
+    /// `Closed`. `GoingAway`: it was sent already. `OutputFull`. `Memory`.
     pub fn go_away(&mut self) -> Result<(), Error> {
         // SAFETY: the place is as the library has left it.
         check(unsafe { ffi::bj_go_away(self.place()) })
     }
 
-    /// Ends the connection: a GOAWAY with the code is the last frame that waits.
+    /// Fails the connection: GOAWAY with the code is the last frame of the output.
     ///
     /// # Errors
     ///
@@ -273,7 +272,8 @@ impl<Role> End<Role> {
         check(unsafe { ffi::bj_fail(self.place(), code.0) })
     }
 
-    /// Changes this end's settings. [`Event::Acked`] says that the peer has applied them.
+    /// Changes the settings of this endpoint. [`Event::Acked`] reports that the peer acknowledged
+    /// them.
     ///
     /// # Errors
     ///
@@ -283,9 +283,8 @@ impl<Role> End<Role> {
         check(unsafe { ffi::bj_change_settings(self.place(), &config.raw()) })
     }
 
-    /// Makes the output ready, and lends its first two parts, of which the first comes first: both
-    /// are empty only where none waits. What was written of it is taken away by
-    /// [`consume`](End::consume); then call it again.
+    /// Completes the output, and lends its first two parts, in order: both are empty only if no
+    /// output is waiting. Pass what was written to [`consume`](End::consume), and call this again.
     ///
     /// # Errors
     ///
@@ -302,8 +301,8 @@ impl<Role> End<Role> {
         }
     }
 
-    /// Takes octets of the output away, at most `count` of them, which were written. Says how
-    /// many.
+    /// Removes up to `count` octets, which were written, from the output. Returns how many were
+    /// removed.
     ///
     /// # Errors
     ///
@@ -315,8 +314,7 @@ impl<Role> End<Role> {
         Ok(taken)
     }
 
-    /// Copies as many octets of the output as wait and there is room for, and takes them away.
-    /// Says how many.
+    /// Moves as many octets of the output to the buffer as fit. Returns how many.
     ///
     /// # Errors
     ///
@@ -331,11 +329,11 @@ impl<Role> End<Role> {
         Ok(count)
     }
 
-    /// Pumps and writes until nothing waits that could go.
+    /// Pumps and writes until nothing more can be sent.
     ///
     /// # Errors
     ///
-    /// Those of the writer: what it has not taken still waits, so it can be called again.
+    /// Those of the writer: what it did not accept is still waiting, so this can be called again.
     /// `Memory`, as an [`io::Error`].
     pub fn write_out(&mut self, writer: &mut impl Write) -> io::Result<()> {
         loop {
@@ -356,22 +354,23 @@ impl<Role> End<Role> {
         }
     }
 
-    /// Whether 65,536 octets of output or more wait, so that what writes a frame is refused.
+    /// Whether 65,536 octets of output or more are waiting, so that calls that send are refused.
     pub fn is_full(&self) -> bool {
         self.is(ffi::bj_is_full)
     }
 
-    /// Whether no output waits, and no stream is active or the connection has failed.
+    /// Whether no output is waiting, and no stream is active or the connection has failed.
     pub fn is_drained(&self) -> bool {
         self.is(ffi::bj_is_drained)
     }
 
-    /// Whether the connection is up, no output waits, nothing is owed, and nothing could be sent.
+    /// Whether the connection has not failed, no output is waiting, no credit is owed, and nothing
+    /// kept can be sent.
     pub fn is_quiet(&self) -> bool {
         self.is(ffi::bj_is_quiet)
     }
 
-    /// Whether a stream is active: open or half-closed. That does not end with the connection.
+    /// Whether a stream is active: open or half-closed. A failed connection does not change that.
     pub fn is_active(&self, stream: u32) -> bool {
         // SAFETY: the place is as the library has left it.
         unsafe { ffi::bj_is_active(self.place(), stream) == 1 }
@@ -393,7 +392,7 @@ impl<Role> End<Role> {
         (answer == ffi::OK).then(|| Why::from_number(why))
     }
 
-    /// The stream of the part of a message that was refused last, and the rule that it breaks.
+    /// The stream of the last malformed message that was received, and the rule that it breaks.
     pub fn last_malformed(&self) -> Option<(u32, Rule)> {
         let (mut stream, mut error) = (0, ffi::OK);
         // SAFETY: the pointers are of the place and of two numbers.
@@ -404,9 +403,9 @@ impl<Role> End<Role> {
         }
     }
 
-    /// How many octets the payload of the last DATA had, padding included, and 0 before any: after
-    /// [`Event::Body`] what is to be [released](End::release) once its octets are used, where it is
-    /// not 0 and the stream is still active.
+    /// The payload length of the last DATA frame, padding included; 0 before the first. After
+    /// [`Event::Body`], [release](End::release) it once the octets are used, if it is not 0 and the
+    /// stream is still active.
     pub fn last_flow(&self) -> u32 {
         let mut flow = 0;
         // SAFETY: the pointers are of the place and of a number.
@@ -414,9 +413,9 @@ impl<Role> End<Role> {
         flow
     }
 
-    /// How many RST_STREAM frames of the peer's were read, and [`u32::MAX`] where it is more than
-    /// that; one at fault is not among them. An end sets no limit on them: a caller may
-    /// [end](End::fail) the connection where the peer opens streams and resets them at once.
+    /// The number of valid RST_STREAM frames received from the peer, at most [`u32::MAX`]. There is
+    /// no limit on them: [fail](End::fail) the connection if the peer opens streams only to reset
+    /// them at once.
     pub fn resets_received(&self) -> u32 {
         let mut count = 0;
         // SAFETY: the pointers are of the place and of a number.
@@ -424,9 +423,9 @@ impl<Role> End<Role> {
         count
     }
 
-    /// How many frames without octets of the peer's were read that say nothing: DATA, padded or
-    /// not, without END_STREAM, and HEADERS and CONTINUATION without END_HEADERS; [`u32::MAX`]
-    /// where it is more than that.
+    /// The number of empty frames received from the peer, at most [`u32::MAX`]: DATA without
+    /// END_STREAM, and HEADERS and CONTINUATION without END_HEADERS, that carry no octets besides
+    /// padding.
     pub fn empty_frames_received(&self) -> u32 {
         let mut count = 0;
         // SAFETY: the pointers are of the place and of a number.
@@ -434,8 +433,7 @@ impl<Role> End<Role> {
         count
     }
 
-    /// How many PING frames of the peer's were read that are to be answered; [`u32::MAX`] where it
-    /// is more than that.
+    /// The number of PING frames without ACK received from the peer, at most [`u32::MAX`].
     pub fn pings_received(&self) -> u32 {
         let mut count = 0;
         // SAFETY: the pointers are of the place and of a number.
@@ -443,8 +441,7 @@ impl<Role> End<Role> {
         count
     }
 
-    /// How many SETTINGS frames of the peer's were read that are to be acknowledged; [`u32::MAX`]
-    /// where it is more than that.
+    /// The number of SETTINGS frames without ACK received from the peer, at most [`u32::MAX`].
     pub fn settings_received(&self) -> u32 {
         let mut count = 0;
         // SAFETY: the pointers are of the place and of a number.
@@ -452,8 +449,8 @@ impl<Role> End<Role> {
         count
     }
 
-    /// The stream of the field block that has begun and is not whole. `None` where no block is
-    /// open, and once the connection has failed.
+    /// The stream of an incomplete field block. `None` if there is none, or the connection has
+    /// failed.
     pub fn block_stream(&self) -> Option<u32> {
         let mut stream = 0;
         // SAFETY: the pointers are of the place and of a number.
@@ -461,8 +458,8 @@ impl<Role> End<Role> {
         (answer == ffi::OK).then_some(stream)
     }
 
-    /// The values of the peer's settings that are in force: those that were read last, and those of
-    /// the standard before. Once the connection has failed they say nothing.
+    /// The current settings of the peer: those received last, and the initial values before any.
+    /// They are meaningless once the connection has failed.
     pub fn peer_settings(&self) -> PeerSettings {
         let mut settings = ffi::Settings { initial_window: 0, max_frame: 0 };
         // SAFETY: the pointers are of the place and of a `bj_settings`.
@@ -471,8 +468,8 @@ impl<Role> End<Role> {
         PeerSettings { initial_window, max_frame }
     }
 
-    /// How many octets may be sent on a stream, or on the connection, which is 0; below zero where
-    /// settings have shifted the window so. `None`: the stream isn't active, or the connection has
+    /// The send window of a stream, or of the connection (stream 0), in octets; negative if
+    /// SETTINGS have reduced it so. `None` if the stream is not active, or the connection has
     /// failed.
     pub fn room(&self, stream: u32) -> Option<i64> {
         let mut room = 0;
@@ -481,8 +478,8 @@ impl<Role> End<Role> {
         (answer == ffi::OK).then_some(room)
     }
 
-    /// How many octets of a stream were handed out and are not released: 0 once the connection has
-    /// failed.
+    /// How many octets of a stream were handed out and are not released yet; 0 once the connection
+    /// has failed.
     pub fn owed(&self, stream: u32) -> u32 {
         let mut owed = 0;
         // SAFETY: the pointers are of the place and of a number.
@@ -490,7 +487,7 @@ impl<Role> End<Role> {
         owed
     }
 
-    /// How many octets of the body that was given for a stream wait for [`pump`](End::pump).
+    /// How many octets of the body given for a stream are kept for [`pump`](End::pump).
     pub fn unsent(&self, stream: u32) -> usize {
         let mut unsent = 0;
         // SAFETY: the pointers are of the place and of a number.
@@ -498,7 +495,7 @@ impl<Role> End<Role> {
         unsent
     }
 
-    /// The streams that are active, lowest first; none once the connection has failed.
+    /// The active streams, lowest first; none once the connection has failed.
     pub fn live(&self) -> impl Iterator<Item = u32> + '_ {
         let mut above = 0;
         std::iter::from_fn(move || {
@@ -512,8 +509,8 @@ impl<Role> End<Role> {
         })
     }
 
-    /// Keeps a number beside a stream, which [`Taken::user`] has with each event of the stream; 0
-    /// forgets it. It stays until then, also when the stream is over.
+    /// Attaches a value to a stream, which [`Taken::user`] returns with each event of the stream; 0
+    /// removes it. It stays until then, even after the stream is closed.
     ///
     /// # Errors
     ///
@@ -523,7 +520,7 @@ impl<Role> End<Role> {
         check(unsafe { ffi::bj_set_user(self.place(), stream, user) })
     }
 
-    /// The number beside a stream, or 0.
+    /// The value attached to a stream, or 0.
     pub fn user(&self, stream: u32) -> usize {
         let mut user = 0;
         // SAFETY: the pointers are of the place and of a number.

@@ -79,51 +79,51 @@ impl fmt::Display for Code {
     }
 }
 
-/// A value of a [`Config`](crate::Config) that is out of its bounds.
+/// A value of a [`Config`](crate::Config) that is out of range.
 #[derive(Clone, Copy, Debug, PartialEq, Eq, Hash)]
 pub enum BadConfig {
-    /// The table limit is above 65,536.
+    /// The header table limit is above 65,536.
     TableLimit,
-    /// The initial window isn't from 1 to 2^31 - 1.
+    /// The initial window is not from 1 to 2^31 - 1.
     InitialWindow,
-    /// The number of streams isn't from 100 to 1,000.
+    /// The stream limit is not from 100 to 1,000.
     MaxStreams,
-    /// The greatest frame isn't from 16,384 to 1,048,576.
+    /// The frame size limit is not from 16,384 to 1,048,576.
     MaxFrame,
 }
 
-/// A rule that a message breaks, the first one of several (RFC 9113, section 8).
+/// A rule that a message breaks, the first of several (RFC 9113, section 8).
 #[derive(Clone, Copy, Debug, PartialEq, Eq, Hash)]
 pub enum Rule {
-    /// A name is empty or has an octet that no name has.
+    /// A field name is empty or has a forbidden octet.
     BadName,
-    /// A value has an octet that no value has, or a blank at an end.
+    /// A field value has a forbidden octet, or a blank at either end.
     BadValue,
-    /// A pseudo-field stands after a regular field, or in trailers.
+    /// A pseudo-header field after a regular field, or in trailers.
     PseudoPlace,
-    /// This kind of message has no such pseudo-field.
+    /// A pseudo-header field that this message may not have.
     PseudoUnknown,
-    /// A pseudo-field stands twice.
+    /// A pseudo-header field occurs twice.
     PseudoTwice,
-    /// A pseudo-field is missing.
+    /// A required pseudo-header field is missing.
     PseudoMissing,
-    /// The method is no token, or CONNECT.
+    /// The method is not a token, or is CONNECT.
     BadMethod,
-    /// The path doesn't begin with a slash, nor is it `*` with OPTIONS.
+    /// The path neither begins with `/` nor is `*` with OPTIONS.
     BadPath,
-    /// The status isn't one that can be sent or read.
+    /// The status is not valid here.
     BadStatus,
-    /// A field is specific to one connection.
+    /// A connection-specific field.
     ConnectionField,
-    /// A `content-length` is bad, or the body is of another length.
+    /// `content-length` is invalid, or not the length of the body.
     BadLength,
     /// The parts of the message are out of order.
     BadOrder,
 }
 
-/// Why a call was refused, or failed. Its text is the library's.
+/// Why a call was refused, or failed. The text is that of the library.
 ///
-/// Where a call doesn't say otherwise, nothing has changed after an error.
+/// Unless documented otherwise, an error leaves everything unchanged.
 ///
 /// ```
 /// use belkjoef::{Client, Config, Error, Field, Rule};
@@ -138,54 +138,54 @@ pub enum Rule {
 #[derive(Clone, Copy, Debug, PartialEq, Eq, Hash)]
 #[non_exhaustive]
 pub enum Error {
-    /// A value of a `Config` is out of its bounds.
+    /// A value of a `Config` is out of range.
     BadConfig(BadConfig),
-    /// The connection fails, or has failed, with this code. A GOAWAY waits as output: write it,
-    /// and close. INTERNAL_ERROR means that memory was refused, or that [`End::fail`] was given it
-    /// ([`End::why`] says which).
+    /// The connection fails, or has failed, with this code. GOAWAY is queued as output: write it,
+    /// and close the transport. INTERNAL_ERROR means out of memory, or that [`End::fail`] was
+    /// called with it: see [`End::why`].
     ///
     /// [`End::fail`]: crate::End::fail
     /// [`End::why`]: crate::End::why
     Failed(Code),
-    /// No error code has this number.
+    /// Unknown error code.
     BadCode,
     /// The connection has failed.
     Closed,
-    /// The stream isn't active.
+    /// The stream is idle or closed.
     NoSuchStream,
-    /// This end has ended the stream.
+    /// END_STREAM was already sent on the stream.
     Ended,
-    /// As many streams are active as the peer allows.
+    /// The peer allows no more concurrent streams.
     TooManyStreams,
-    /// No number is left for a stream.
+    /// No stream number is left.
     StreamsExhausted,
-    /// A GOAWAY was sent, or read.
+    /// GOAWAY was sent or received.
     GoingAway,
-    /// 65,536 octets of output or more wait: write, and call again.
+    /// 65,536 octets of output or more are waiting: write, and retry.
     OutputFull,
-    /// A PING awaits its answer.
+    /// The last PING is not answered yet.
     PingWaits,
-    /// This end has reset 1,000 streams.
+    /// 1,000 streams were already reset by this endpoint.
     TooManyResets,
-    /// The fields have more than 65,536 octets, 32 counted for each.
+    /// The field list is larger than 65,536 octets, counting 32 extra for each field.
     ListTooLarge,
-    /// So much isn't owed on the stream, or it is nothing.
+    /// Nothing was released, or more than is owed on the stream.
     NotOwed,
-    /// An allocation was refused.
+    /// Out of memory.
     Memory,
-    /// Settings await their acknowledgment.
+    /// The last SETTINGS are not acknowledged yet.
     SettingsWait,
     /// The message breaks a rule.
     BadMessage(Rule),
-    /// The stream isn't active, or has no request, or no open message.
+    /// The stream has no request to answer, or no open message.
     NotAsked,
-    /// The request has its answer, or one was begun.
+    /// The request was answered already, or an answer was begun.
     Answered,
-    /// The octets are no field block ([`Decoder`](crate::Decoder)).
+    /// The field block cannot be decoded ([`Decoder`](crate::Decoder)).
     Compression,
     /// An earlier block failed.
     DecoderFailed,
-    /// An error that these bindings don't know, by its number in `belkjoef.h`.
+    /// An error unknown to these bindings, by its number in `belkjoef.h`.
     Other(i32),
 }
 
@@ -249,7 +249,7 @@ impl Error {
             ffi::bj_error_text(self.number(), &mut text);
             CStr::from_ptr(text)
         };
-        text.to_str().unwrap_or("an error")
+        text.to_str().unwrap_or("unknown error")
     }
 }
 

@@ -1,20 +1,19 @@
-//! What an end hands out.
+//! Events of an endpoint.
 
 use crate::{Code, Fields};
 
-/// What became of octets that an end took.
+/// The result of [`take`](crate::End::take).
 #[derive(Clone, Copy, Debug, PartialEq, Eq)]
 pub struct Taken<'a> {
-    /// How many of them were used. The others are given again.
+    /// How many octets were used. Pass the others again.
     pub used: usize,
-    /// What is handed out, if anything is.
+    /// The event, if there is one.
     pub event: Option<Event<'a>>,
-    /// The number that [`set_user`](crate::End::set_user) keeps beside the stream of the event, or
-    /// 0.
+    /// The value that [`set_user`](crate::End::set_user) attached to the stream of the event, or 0.
     pub user: usize,
 }
 
-/// What is handed out. Fields and octets are lent, until the next call of the end.
+/// An event. Fields and octets are lent until the next call of the endpoint.
 #[derive(Clone, Copy, Debug, PartialEq, Eq)]
 #[non_exhaustive]
 pub enum Event<'a> {
@@ -29,18 +28,18 @@ pub enum Event<'a> {
     Head {
         /// Its stream.
         stream: u32,
-        /// Its fields, the pseudo-fields first.
+        /// Its fields, the pseudo-header fields first.
         fields: Fields<'a>,
-        /// Whether the message is whole with it.
+        /// Whether the message is complete.
         end: bool,
     },
-    /// Octets of a body, which may be none.
+    /// Octets of a body, possibly none.
     Body {
         /// Its stream.
         stream: u32,
-        /// The octets. The peer may send as many more once they are released.
+        /// The octets, for which credit is owed to the peer until they are released.
         octets: &'a [u8],
-        /// Whether the message is whole with them.
+        /// Whether the message is complete.
         end: bool,
     },
     /// Trailers, which end a message.
@@ -50,31 +49,31 @@ pub enum Event<'a> {
         /// Its fields.
         fields: Fields<'a>,
     },
-    /// A stream is over before its messages are.
+    /// A stream was reset before its messages were complete.
     Reset {
         /// The stream.
         stream: u32,
         /// Why.
         code: Code,
-        /// Whether this end has reset it: the peer's message broke a rule.
+        /// Whether this endpoint reset it: the message of the peer was malformed.
         ours: bool,
     },
-    /// The server has not processed this request, and will not: it may be sent again, on another
+    /// The server did not process this request, and will not: it may be retried on another
     /// connection.
     Unprocessed {
         /// The stream of the request.
         stream: u32,
     },
-    /// The peer takes no streams above this one.
+    /// The peer processes no streams above this one.
     GoAway {
-        /// The greatest stream that it processes.
+        /// The highest stream that it processes.
         last: u32,
         /// Why.
         code: Code,
     },
-    /// The peer has applied this end's settings.
+    /// The peer acknowledged the settings of this endpoint.
     Acked,
-    /// The peer has answered a PING.
+    /// The peer answered a PING.
     Pong {
         /// The octets of the PING.
         octets: [u8; 8],
@@ -82,7 +81,7 @@ pub enum Event<'a> {
 }
 
 impl Event<'_> {
-    /// The stream of which it speaks.
+    /// The stream of the event.
     pub fn stream(&self) -> Option<u32> {
         match *self {
             Event::Interim { stream, .. }

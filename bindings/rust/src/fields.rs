@@ -1,11 +1,11 @@
-//! Fields of messages.
+//! Header and trailer fields.
 
 use crate::ffi;
 use std::fmt;
 use std::marker::PhantomData;
 use std::slice;
 
-/// A field, lent: a name, a value, and whether it is sensitive.
+/// A borrowed field: a name, a value, and whether it is sensitive.
 ///
 /// ```
 /// use belkjoef::Field;
@@ -16,7 +16,7 @@ use std::slice;
 /// assert_eq!(field.value(), b"12");
 /// ```
 ///
-/// It lives no longer than what it lends:
+/// It lives no longer than what it borrows:
 ///
 /// ```compile_fail,E0597
 /// use belkjoef::Field;
@@ -45,7 +45,7 @@ unsafe impl Send for Field<'_> {}
 unsafe impl Sync for Field<'_> {}
 
 impl<'a> Field<'a> {
-    /// A field that isn't sensitive. Names are in lowercase.
+    /// A field that is not sensitive. Names are in lower case.
     pub fn new<N, V>(name: &'a N, value: &'a V) -> Self
     where
         N: AsRef<[u8]> + ?Sized,
@@ -62,8 +62,7 @@ impl<'a> Field<'a> {
         }
     }
 
-    /// The same field, sensitive: it is written as one that is never indexed (RFC 7541, section
-    /// 7.1.3).
+    /// The same field, sensitive: it is sent as a never-indexed field (RFC 7541, section 7.1.3).
     pub fn sensitive(self) -> Self {
         Field { sensitive: 1, ..self }
     }
@@ -96,7 +95,7 @@ impl PartialEq for Field<'_> {
 
 impl Eq for Field<'_> {}
 
-/// Names the field; its value is hidden where it is sensitive.
+/// Shows the name and the value, which is hidden if it is sensitive.
 impl fmt::Debug for Field<'_> {
     fn fmt(&self, f: &mut fmt::Formatter<'_>) -> fmt::Result {
         let name = self.name().escape_ascii();
@@ -107,7 +106,7 @@ impl fmt::Debug for Field<'_> {
     }
 }
 
-/// A list of fields that an end has handed out, and lends.
+/// A list of fields that an endpoint has handed out, and lends.
 ///
 /// ```
 /// # use belkjoef::{Client, Config, Event, Field, Server};
@@ -145,28 +144,28 @@ impl<'a> Fields<'a> {
         Fields { list }
     }
 
-    /// How many there are.
+    /// The number of fields.
     pub fn len(&self) -> usize {
         self.list.len()
     }
 
-    /// Whether there is none.
+    /// Whether the list is empty.
     pub fn is_empty(&self) -> bool {
         self.list.is_empty()
     }
 
-    /// The field at a place, of which 0 is the first.
+    /// The field at an index, from 0.
     pub fn get(&self, place: usize) -> Option<Field<'a>> {
         self.list.get(place).copied()
     }
 
-    /// The value of the first field with a name, octet for octet.
+    /// The value of the first field with exactly this name.
     pub fn value(&self, name: impl AsRef<[u8]>) -> Option<&'a [u8]> {
         let name = name.as_ref();
         self.iter().find(|field| field.name() == name).map(|field| field.value())
     }
 
-    /// The values of all fields with a name, octet for octet.
+    /// The values of all fields with exactly this name.
     pub fn values<'n>(&self, name: &'n [u8]) -> impl Iterator<Item = &'a [u8]> + 'n
     where
         'a: 'n,

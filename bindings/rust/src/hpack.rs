@@ -5,8 +5,8 @@ use crate::{ffi, Error, Field, Fields};
 use std::fmt;
 use std::ptr;
 
-/// Encodes the field blocks of one direction of a connection, in order. An end has its own; this is
-/// for whoever frames by itself.
+/// Encodes the field blocks of one direction of a connection, in order. An endpoint has its own;
+/// this is for callers with a framing layer of their own.
 ///
 /// ```
 /// use belkjoef::{Decoder, Encoder, Field};
@@ -39,8 +39,8 @@ impl fmt::Debug for Encoder {
 }
 
 impl Encoder {
-    /// Makes an encoder with an empty table, whose maximum and limit are so many octets: 4,096 for a
-    /// connection that begins.
+    /// Creates an encoder with an empty dynamic table whose maximum size and limit are `maximum`
+    /// octets: 4,096 for a new connection.
     ///
     /// # Errors
     ///
@@ -52,14 +52,14 @@ impl Encoder {
         Ok(Encoder { place })
     }
 
-    /// Sets the limit of the peer's table (SETTINGS_HEADER_TABLE_SIZE); the next block says what has
-    /// changed. That block takes room for `limit / 32` entries, so cap what a peer asks for.
+    /// Applies the peer's SETTINGS_HEADER_TABLE_SIZE; the next block signals the change. That block
+    /// allocates `limit / 32` entries, so cap what a peer asks for.
     pub fn set_limit(&mut self, limit: u32) {
         // SAFETY: the place is as the library has left it.
         unsafe { ffi::bj_encoder_set_limit(&mut self.place, limit) };
     }
 
-    /// Makes the block of fields, and lends it. The decoder is to be given each block, in order:
+    /// Encodes fields, and lends the block. The decoder must be given each block, in order, since
     /// the next one builds on it.
     ///
     /// ```compile_fail,E0499
@@ -72,7 +72,7 @@ impl Encoder {
     ///
     /// # Errors
     ///
-    /// `ListTooLarge`: the fields have 2^35 octets or more. `Memory`. The encoder is as it was.
+    /// `ListTooLarge`: the fields have 2^35 octets or more. `Memory`. The encoder is unchanged.
     pub fn encode(&mut self, fields: &[Field<'_>]) -> Result<&[u8], Error> {
         let mut block = ffi::Span { octets: ptr::null(), length: 0 };
         // SAFETY: the pointers are of the place, of so many fields and of a span. What it lends is
@@ -109,8 +109,8 @@ impl fmt::Debug for Decoder {
 }
 
 impl Decoder {
-    /// Makes a decoder with an empty table, whose maximum and limit are so many octets: 4,096 for a
-    /// connection that begins.
+    /// Creates a decoder with an empty dynamic table whose maximum size and limit are `maximum`
+    /// octets: 4,096 for a new connection.
     ///
     /// # Errors
     ///
@@ -122,8 +122,8 @@ impl Decoder {
         Ok(Decoder { place, fields: Vec::new() })
     }
 
-    /// Sets the limit of the table, for the size updates of later blocks: once the peer has
-    /// acknowledged the SETTINGS that say it.
+    /// Sets the limit of the table, which applies to size updates in later blocks: call it once the
+    /// peer has acknowledged the SETTINGS with this value.
     pub fn set_limit(&mut self, limit: u32) {
         // SAFETY: the place is as the library has left it.
         unsafe { ffi::bj_decoder_set_limit(&mut self.place, limit) };
@@ -133,9 +133,9 @@ impl Decoder {
     ///
     /// # Errors
     ///
-    /// `DecoderFailed`: an earlier block failed. `Compression`: the octets are no block. `Memory`.
-    /// After these two the decoder has failed. `ListTooLarge`: the fields have more than
-    /// `list_limit` octets, each counting 32 more; the next block can be decoded.
+    /// `DecoderFailed`: an earlier block failed. `Compression`: the block cannot be decoded.
+    /// `Memory`. After the last two the decoder has failed. `ListTooLarge`: the fields have more
+    /// than `list_limit` octets, counting 32 extra for each; the next block can be decoded.
     pub fn decode(&mut self, block: &[u8], list_limit: u32) -> Result<Fields<'_>, Error> {
         let (mut count, mut said) = (0, 0);
         // SAFETY: the pointers are of the place, of so many octets and of a number.

@@ -1,12 +1,13 @@
-//! The two ends of a connection of HTTP/2 over cleartext (RFC 9113), without input and output: a
-//! [`Server`] and a [`Client`], over the C library Belkjoef, whose code is proved.
+//! The two endpoints of an HTTP/2 connection over cleartext (RFC 9113), a [`Server`] and a
+//! [`Client`], which do no I/O themselves: bindings to the C library Belkjoef, whose code is
+//! proved.
 //!
-//! An end takes octets and gives octets. The loop is the caller's, once for each piece that was
-//! read: [`take`](End::take) until all is used and nothing is handed out, answer,
-//! [`release_all`](End::release_all), and [`write_out`](End::write_out), which alone does output.
-//! There are no clocks.
+//! An endpoint takes octets and returns octets. The caller runs the loop, once for each piece that
+//! was read: [`take`](End::take) until all octets are used and there is no event, answer,
+//! [`release_all`](End::release_all), and [`write_out`](End::write_out), the only call that writes.
+//! There are no timers.
 //!
-//! A client and a server that are joined in memory:
+//! A client and a server joined in memory:
 //!
 //! ```
 //! use belkjoef::{Client, Config, Event, Field, Server};
@@ -47,17 +48,17 @@
 //!
 //! # Linking
 //!
-//! The library is linked statically. It is looked for in the folder that the environment variable
-//! `BELKJOEF_LIB_DIR` names, or else where `pkg-config` says.
+//! The library is linked statically. It is searched for in the folder that the environment variable
+//! `BELKJOEF_LIB_DIR` names, or else with `pkg-config`.
 //!
-//! # What is lent
+//! # Borrowing
 //!
-//! An [`Event`] lends fields and octets from the end, so while it is in use no call of the end is
-//! made: the compiler refuses it. Copy what is needed longer.
+//! An [`Event`] borrows fields and octets from the endpoint, so the endpoint cannot be called while
+//! the event is in use. Copy what is needed for longer.
 //!
 //! # Threads
 //!
-//! An end may be sent to another thread, and isn't shared by threads.
+//! An endpoint can be sent to another thread, but not shared between threads.
 
 mod client;
 mod config;

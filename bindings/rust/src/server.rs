@@ -1,4 +1,4 @@
-//! The end of a server.
+//! The server endpoint.
 
 use crate::error::check;
 use crate::{ffi, Config, End, Error, Field};
@@ -7,9 +7,9 @@ use crate::{ffi, Config, End, Error, Field};
 #[derive(Debug)]
 pub enum AsServer {}
 
-/// The server's end of one connection.
+/// The server of one connection.
 ///
-/// This one serves a connection with the same text for each request:
+/// This one answers every request of a connection with the same text:
 ///
 /// ```no_run
 /// use belkjoef::{Config, Event, Field, Server};
@@ -50,7 +50,7 @@ pub enum AsServer {}
 /// Server::new(&Config::default()).unwrap().request(&[], b"");
 /// ```
 ///
-/// Nor is it shared by threads:
+/// It cannot be shared between threads:
 ///
 /// ```compile_fail,E0277
 /// # use belkjoef::{Config, Server};
@@ -62,7 +62,7 @@ pub enum AsServer {}
 pub type Server = End<AsServer>;
 
 impl Server {
-    /// Makes a server. Its SETTINGS wait as output.
+    /// Creates a server. Its SETTINGS are queued as output.
     ///
     /// # Errors
     ///
@@ -71,8 +71,8 @@ impl Server {
         End::make(config, ffi::bj_server_new)
     }
 
-    /// Gives a response to the request on a stream: its head, `:status` first, is sent, and a copy
-    /// of its body waits for [`pump`](End::pump). The request need not be whole.
+    /// Responds to the request on a stream: the head, `:status` first, is queued as output, and a
+    /// copy of the body is kept for [`pump`](End::pump). The request need not be complete.
     ///
     /// # Errors
     ///
@@ -85,13 +85,13 @@ impl Server {
         })
     }
 
-    /// Begins a response: sends its head, after which its body, and its end or trailers, follow.
-    /// Copies of the last head are kept, at most 64 fields of 8,192 octets, and only what differs
-    /// in its place is copied anew.
+    /// Begins a response: the head is sent; the body and its end, or trailers, follow. The last
+    /// head is kept, if it has at most 64 fields and 8,192 octets, and only names and values that
+    /// differ at the same index are copied.
     ///
     /// # Errors
     ///
-    /// As of [`respond`](Server::respond).
+    /// As for [`respond`](Server::respond).
     pub fn begin(&mut self, stream: u32, head: &[Field<'_>]) -> Result<(), Error> {
         // SAFETY: the pointers are of the place and of so many fields.
         check(unsafe { ffi::bj_begin_response(self.place(), stream, head.as_ptr(), head.len()) })

@@ -4,8 +4,8 @@ use crate::ffi;
 use std::ffi::CStr;
 use std::fmt;
 
-/// Why a connection has failed: the rule that the peer has broken, the limit that was reached, or
-/// what this end did. Its text is the library's.
+/// Why a connection has failed: the rule that the peer broke, the limit that was reached, or what
+/// this endpoint did. The text is that of the library.
 ///
 /// ```
 /// use belkjoef::{Config, Server, Why};
@@ -18,61 +18,61 @@ use std::fmt;
 #[derive(Clone, Copy, Debug, PartialEq, Eq, Hash)]
 #[non_exhaustive]
 pub enum Why {
-    /// An octet differs from the preface.
+    /// The connection preface is wrong.
     BadPreface,
-    /// A payload is above the limit.
+    /// A frame is longer than the limit.
     FrameTooLong,
-    /// PUSH_PROMISE came.
+    /// PUSH_PROMISE, though push is disabled.
     PushPromise,
-    /// A frame is on a stream that its type does not allow.
+    /// A frame on a stream that its type does not allow.
     WrongStream,
-    /// A frame has a length that its type does not allow.
+    /// A frame of a length that its type and flags do not allow.
     WrongLength,
-    /// Padding is above what the payload leaves.
+    /// Padding longer than the payload leaves room for.
     PaddingTooLong,
-    /// The first frame is no SETTINGS.
+    /// The first frame is not SETTINGS.
     FirstFrameNotSettings,
-    /// Another frame came inside a field block.
+    /// Another frame interrupts a field block.
     BlockInterrupted,
-    /// CONTINUATION came outside a field block.
+    /// CONTINUATION outside a field block.
     StrayContinuation,
-    /// A field block has more than 65,552 octets.
+    /// A field block of more than 65,552 octets.
     BlockTooLong,
-    /// A field block does not decode.
+    /// A field block cannot be decoded.
     BlockNotDecoded,
-    /// A frame came on an idle stream.
+    /// A frame other than HEADERS or PRIORITY on an idle stream.
     FrameOnIdleStream,
-    /// DATA came on a closed stream.
+    /// DATA on a closed stream.
     DataOnClosedStream,
-    /// A field block came on a closed stream.
+    /// HEADERS on a closed stream.
     BlockOnClosedStream,
-    /// A field block is on a number not the peer's to open.
+    /// HEADERS on an idle stream that the peer may not open.
     BlockOnIdleNumber,
-    /// DATA is above the connection's window.
+    /// DATA exceeds the connection's window.
     DataAboveConnectionWindow,
-    /// DATA is above its stream's window.
+    /// DATA exceeds the stream's window.
     DataAboveStreamWindow,
-    /// WINDOW_UPDATE adds 0 to the connection's window.
+    /// WINDOW_UPDATE of 0 on the connection.
     ZeroConnectionIncrement,
-    /// The connection's window is above 2^31 - 1.
+    /// The connection's window exceeds 2^31 - 1.
     ConnectionWindowTooLarge,
-    /// A bad value of ENABLE_PUSH.
+    /// ENABLE_PUSH is above 1, or 1 from a server.
     BadEnablePush,
-    /// A bad value of INITIAL_WINDOW_SIZE.
+    /// INITIAL_WINDOW_SIZE is above 2^31 - 1.
     BadInitialWindow,
-    /// A bad value of MAX_FRAME_SIZE.
+    /// MAX_FRAME_SIZE is not from 16,384 to 2^24 - 1.
     BadMaxFrameSize,
-    /// SETTINGS bring a stream's window above 2^31 - 1.
+    /// INITIAL_WINDOW_SIZE brings a stream's window above 2^31 - 1.
     ShiftTooLarge,
-    /// This end would reset a 1,001st stream.
+    /// 1,001 streams would have been reset.
     TooManyResets,
-    /// Replies would bring the output above 262,144 octets.
+    /// Replies exceed 262,144 octets of waiting output.
     TooMuchOutput,
-    /// An allocation was refused.
+    /// Out of memory.
     OutOfMemory,
-    /// `fail` ended it.
+    /// `fail` was called.
     EndedAbove,
-    /// A reason that these bindings don't know, by its number in `belkjoef.h`.
+    /// A reason unknown to these bindings, by its number in `belkjoef.h`.
     Other(u32),
 }
 
@@ -130,6 +130,6 @@ impl fmt::Display for Why {
             ffi::bj_why_text(self.number(), &mut text);
             CStr::from_ptr(text)
         };
-        f.write_str(text.to_str().unwrap_or("a reason"))
+        f.write_str(text.to_str().unwrap_or("unknown reason"))
     }
 }

@@ -14,28 +14,28 @@ text_in (one ∷ rest) other number =
     if number == one.0 then with_zero one.1 else text_in rest other number
 
 abbrev pub no_error_text : List ℕ
-no_error_text = codes "no error of this library"
+no_error_text = codes "unknown error"
 
 -- errors of a place, by the numbers that they are minus
 abbrev pub place_texts : List (ℕ × List ℕ)
 place_texts =
     (0, codes "no error") ∷
-    (1, codes "the place holds nothing") ∷
-    (2, codes "the place is in use already") ∷
-    (3, codes "the call is of the other role") ∷
+    (1, codes "the object is empty") ∷
+    (2, codes "the object is already in use") ∷
+    (3, codes "the function is for the other role") ∷
     (4, codes "the connection has failed") ∷
-    (5, codes "there is no such field") ∷
-    (6, codes "there is none") ∷
-    (7, codes "there is no such error code") ∷
+    (5, codes "no such field") ∷
+    (6, codes "no such value") ∷
+    (7, codes "unknown error code") ∷
     []
 
 -- errors of a configuration: K1 to K4
 abbrev pub config_texts : List (ℕ × List ℕ)
 config_texts =
-    (11, codes "K1 TableLimit: the header table's limit is above 65536") ∷
-    (12, codes "K2 InitialWindow: the initial window isn't from 1 to 2147483647") ∷
-    (13, codes "K3 MaxStreams: the number of streams isn't from 100 to 1000") ∷
-    (14, codes "K4 MaxFrame: the greatest frame isn't from 16384 to 1048576") ∷
+    (11, codes "K1 TableLimit: the header table limit is above 65,536") ∷
+    (12, codes "K2 InitialWindow: the initial window is not from 1 to 2,147,483,647") ∷
+    (13, codes "K3 MaxStreams: the stream limit is not from 100 to 1,000") ∷
+    (14, codes "K4 MaxFrame: the frame size limit is not from 16,384 to 1,048,576") ∷
     []
 
 -- refusals of the connection: C1 to C13
@@ -135,7 +135,7 @@ high_why_texts =
     []
 
 abbrev pub no_why_text : List ℕ
-no_why_text = codes "no reason of this library"
+no_why_text = codes "unknown reason"
 
 -- the text of a reason
 -- rule: c (own) Each number of an error or a reason has its text

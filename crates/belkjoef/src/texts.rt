@@ -42,7 +42,7 @@ fn text_of(error: i32) -> &'static [u8]
     ensures { result.now ≡ error_text error }
 {
     if error > 0 {
-        return b"no error of this library\0";
+        return b"unknown error\0";
     }
     text_of_number(error.unsigned_abs())
 }
@@ -71,14 +71,14 @@ fn text_of_place(number: u32) -> &'static [u8]
 {
     match number {
         0 => b"no error\0",
-        1 => b"the place holds nothing\0",
-        2 => b"the place is in use already\0",
-        3 => b"the call is of the other role\0",
+        1 => b"the object is empty\0",
+        2 => b"the object is already in use\0",
+        3 => b"the function is for the other role\0",
         4 => b"the connection has failed\0",
-        5 => b"there is no such field\0",
-        6 => b"there is none\0",
-        7 => b"there is no such error code\0",
-        _ => b"no error of this library\0",
+        5 => b"no such field\0",
+        6 => b"no such value\0",
+        7 => b"unknown error code\0",
+        _ => b"unknown error\0",
     }
 }
 
@@ -88,11 +88,11 @@ fn text_of_config(number: u32) -> &'static [u8]
     ensures { result.now ≡ text_in config_texts no_error_text number }
 {
     match number {
-        11 => b"K1 TableLimit: the header table's limit is above 65536\0",
-        12 => b"K2 InitialWindow: the initial window isn't from 1 to 2147483647\0",
-        13 => b"K3 MaxStreams: the number of streams isn't from 100 to 1000\0",
-        14 => b"K4 MaxFrame: the greatest frame isn't from 16384 to 1048576\0",
-        _ => b"no error of this library\0",
+        11 => b"K1 TableLimit: the header table limit is above 65,536\0",
+        12 => b"K2 InitialWindow: the initial window is not from 1 to 2,147,483,647\0",
+        13 => b"K3 MaxStreams: the stream limit is not from 100 to 1,000\0",
+        14 => b"K4 MaxFrame: the frame size limit is not from 16,384 to 1,048,576\0",
+        _ => b"unknown error\0",
     }
 }
 
@@ -115,7 +115,7 @@ fn text_of_refusal(number: u32) -> &'static [u8]
         31 => b"C11 NotOwed: nothing was released, or more than is owed on the stream\0",
         32 => b"C12 Memory: out of memory\0",
         33 => b"C13 SettingsWait: the last SETTINGS are not acknowledged yet\0",
-        _ => b"no error of this library\0",
+        _ => b"unknown error\0",
     }
 }
 
@@ -139,7 +139,7 @@ fn text_of_message(number: u32) -> &'static [u8]
         52 => b"M12 BadOrder: the parts of the message are out of order\0",
         61 => b"E3 NotAsked: the stream has no request to answer, or no open message\0",
         62 => b"E4 Answered: the request was answered already\0",
-        _ => b"no error of this library\0",
+        _ => b"unknown error\0",
     }
 }
 
@@ -151,7 +151,7 @@ fn text_of_block(number: u32) -> &'static [u8]
     match number {
         71 => b"P1 Compression: the field block cannot be decoded\0",
         72 => b"P3 Failed: an earlier block failed\0",
-        _ => b"no error of this library\0",
+        _ => b"unknown error\0",
     }
 }
 
@@ -186,7 +186,7 @@ fn text_of_low_why(number: u32) -> &'static [u8]
         12 => b"a frame other than HEADERS or PRIORITY on an idle stream (PROTOCOL_ERROR)\0",
         13 => b"DATA on a closed stream (STREAM_CLOSED)\0",
         14 => b"HEADERS on a closed stream (PROTOCOL_ERROR)\0",
-        _ => b"no reason of this library\0",
+        _ => b"unknown reason\0",
     }
 }
 
@@ -209,6 +209,6 @@ fn text_of_high_why(number: u32) -> &'static [u8]
         25 => b"replies exceed 262,144 octets of waiting output (ENHANCE_YOUR_CALM)\0",
         26 => b"out of memory (INTERNAL_ERROR)\0",
         27 => b"the layer above ended the connection\0",
-        _ => b"no reason of this library\0",
+        _ => b"unknown reason\0",
     }
 }

@@ -24,12 +24,12 @@ pub struct FollowWords<'a> {
 
 const FOLLOW: &str = "follow";
 
-const FOLLOW_HELP: &str = r"Read the text that tshark prints of both sides of a
-connection, and show both; without --hex and --from";
+const FOLLOW_HELP: &str = r"Show both sides of a connection from the text printed by
+tshark; takes only --max-frame and --page";
 
 const PAGE: &str = "page";
 
-const PAGE_HELP: &str = r"Write a page of HTML to this file in place of the lines";
+const PAGE_HELP: &str = "Write an HTML page to this file instead of printing lines";
 
 // contract: follow (own) The word --follow excludes --hex and --from
 // rule: follow (own) The word --follow excludes --hex and --from
@@ -80,9 +80,9 @@ pub(super) fn follow_arg<'a>(alloc: Global) -> Arg<'a>
 /// What the help of the words says.
 const TEXT: CommandText<'static> = CommandText {
     called: "h2 show",
-    about: "Prints the frames of both sides of a connection, of what tshark prints of it",
+    about: "Show both sides of a connection from the output of tshark",
     usage: "h2 show --follow [--max-frame N] [--page FILE] < TEXT",
-    more: "`h2 show --help` says what the lines and the statuses mean.",
+    more: "`h2 show --help` explains the lines and the exit statuses.",
 };
 
 // The command as clap has it.

@@ -104,122 +104,123 @@ const URL_HELP: &str = "http://HOST:PORT/PATH?QUERY";
 
 const OTHERS: &str = "URLS";
 
-const OTHERS_HELP: &str = r"More of the same host and port, asked for at once
-over the same connection";
+const OTHERS_HELP: &str = r"More URLs of the same host and port, fetched at once over
+the same connection";
 
 const INCLUDE: &str = "include";
 
-const INCLUDE_HELP: &str = r"Print the response's fields too: each on a line
+const INCLUDE_HELP: &str = r"Print the fields of the response too: one per line
 after the status, then an empty line; trailers
-after the body";
+follow the body";
 
 const HEADER: &str = "header";
 
-const HEADER_HELP: &str = r"A field of the request, whose name is sent in lower
-case and is not host; may be given several times";
+const HEADER_HELP: &str = r"Add a field to the request; its name is sent in
+lower case and must not be host; may be repeated";
 
 const REQUEST: &str = "request";
 
-const REQUEST_HELP: &str = r"The request's method [default: GET, or POST with
---data]";
+const REQUEST_HELP: &str = "Request method [default: GET, or POST with --data]";
 
 const DATA: &str = "data";
 
-const DATA_HELP: &str = r"The request's body: UTF-8 text as it is, @FILE for
-what a file holds, or @- for standard input; text
-that begins with - or = as --data=DATA";
+const DATA_HELP: &str = r"Request body: UTF-8 text as it is, @FILE for the
+contents of a file, or @- for standard input; text
+that begins with - or = needs --data=DATA";
 
 const FAIL: &str = "fail";
 
-const FAIL_HELP: &str = r"End with status 1 where the response's status is
-400 or above, and don't print its body";
+const FAIL_HELP: &str = r"Exit with status 1 and print no body if the status
+of the response is 400 or above";
 
 const AT_PORT: &str = "port";
 
-const AT_PORT_HELP: &str = r"The port where the URL names none, 1 to 65535";
+const AT_PORT_HELP: &str = "Port to use if the URL has none, 1 to 65535";
 
 const OUTPUT: &str = "output";
 
-const OUTPUT_HELP: &str = r"Write the body into this file as it comes, and not
-to standard output";
+const OUTPUT_HELP: &str = r"Write the body to this file as it arrives, instead
+of to standard output";
 
 const STREAM: &str = "stream";
 
-const STREAM_HELP: &str = r"Print the body as it comes, and keep none of it";
+const STREAM_HELP: &str = "Print the body as it arrives, and keep none of it";
 
 const TIMEOUT: &str = "timeout";
 
-const TIMEOUT_HELP: &str = r"Give up after so many seconds, 1 to 65535";
+const TIMEOUT_HELP: &str = "Give up after this many seconds, 1 to 65535";
 
 const VERBOSE: &str = "verbose";
 
 const VERBOSE_HELP: &str = r"Print the frames of both sides on standard error,
-as show --follow does; the body goes out as with
+as show --follow does; the body is printed as with
 --stream";
 
 /// What `get` prints, how it ends, and an example.
 const FETCHED_AND_STATUSES: &str =
-    r"It asks for the URL over a new connection, which begins with the preface: the
-server has to speak HTTP/2 without being asked (RFC 9113, section 3.3). It
-prints the status with its phrase, `200 OK`, or the status alone where it has no
-phrase, and then the octets of the body as they are. Interim responses (1xx)
-aren't printed, nor are trailers without --include. It follows no redirection.
-Without --timeout it waits for a server that stays idle; with it, it gives up so
-many seconds after it began to connect, but while a name is looked up.
+    r"The URL is fetched over a new connection, with prior knowledge of HTTP/2
+(RFC 9113, section 3.3). The status is printed with its reason phrase, as in
+`200 OK`, or alone if it has none, followed by the body as it is. Interim
+responses (1xx) are not printed, nor are trailers without --include. Redirects
+are not followed. A server that stays idle is waited for without limit, unless
+--timeout is given: the command then gives up that many seconds after it began
+to connect (name resolution is not interrupted).
 
-Several URLs are asked for at once, each with the same fields and the same body.
-Their responses are printed in the order of the URLs, each after a line end but
-the first. The one that is printed goes out as it comes, as with --stream; what
-comes of later ones meanwhile is kept, which is little: the windows of all
-streams are 65535 octets together, so each of N responses has a window of 65535
-divided by N, and a long body takes N times the round trips. One that is reset,
-or fails by --fail, ends no other, and a hint names its URL; the status is that
-of the first that failed. At most 100 URLs are taken, of one host and one port.
+Several URLs are requested at once, each with the same fields and the same body.
+The responses are printed in the order of the URLs, with a newline between them.
+The current one is printed as it arrives, as with --stream; what arrives of
+later ones in the meantime is kept. That is little: the windows of all streams
+are 65535 octets together, so each of N responses has a window of 65535 divided
+by N, and a long body takes N times the round trips. A response that is reset,
+or fails by --fail, does not end the others, and a hint names its URL; the exit
+status is that of the first failure. At most 100 URLs are accepted, all of the
+same host and port.
 
-With one URL, and without --output, --stream and --verbose, the body is kept
-until the response is complete, and nothing is printed of one that isn't. With
-any of them the body goes out as it comes, with --output into the file, and
-little of it is kept: where the response is reset or cut off, what came before
-stands in the file or was printed. A file is made, or emptied where it is there,
-once the response's head has come, and not where --fail makes it a failure; then
-no more of the response is fetched either. A FILE of - is a file of that name.
-With several URLs there is no --output.
+With one URL and none of --output, --stream and --verbose, the body is kept
+until the response is complete, and nothing is printed of an incomplete one.
+Otherwise the body is printed, or written to the --output file, as it arrives,
+and little of it is kept: if the response is reset or cut off, what arrived
+before is already there. The file is created or truncated once the head of the
+response has arrived. If --fail makes the response a failure, the file is left
+alone, and no more of the response is fetched. `--output -` writes a file of
+that name. --output cannot be used with several URLs.
 
-With --verbose a frame has its line on standard error as it is sent, after `> `,
-or as it has come, after `< `, as h2 show --follow prints it. With --output, and
-without --verbose, a line there says how much of the body has come, where
-standard error is a terminal.
+With --verbose, each frame is printed on standard error when it is sent, after
+`> `, or received, after `< `, in the format of h2 show --follow. With --output
+and without --verbose, a line on standard error shows how much of the body has
+arrived, if standard error is a terminal.
 
-The URL has the scheme http, a host, and a port of 1 to 65535, unless --port
-names one; a user's name is refused, and a fragment is dropped.
+The URL must have the scheme http, a host, and a port from 1 to 65535 unless
+--port gives one. A user name is refused, and a fragment is dropped.
 
-Fields are sent in the order of the words, after those that name the method and
-the URL. No other is added, so no content-length: the end of the stream ends the
-body. A field host is refused, since the URL names the host. Spaces and tabs at
-the ends of a value are no part of it. With --include an octet of a field that
-is no printable ASCII, or a backslash, is printed as `\x00`, so that a server
-writes nothing to the terminal by its fields. Trailers stand after the body and
-a line end.
+Fields are sent in the order given, after the pseudo-header fields. No others
+are added, not even content-length: the end of the stream ends the body. A host
+field is refused, since the URL names the host. Spaces and tabs around a value
+are removed. With --include, an octet of a field that is not printable ASCII, or
+is a backslash, is printed as `\x00`, so a server cannot send control characters
+to the terminal in its fields. Trailers follow the body and a newline.
 
-Exit status (the lines in backquotes are on standard error):
-  0  a response has come, whatever its status without --fail
-  1  `N2 Stream CODE`: the connection failed with this code (RFC 9113, section
-     7)
-     `N4 CutOff`: it ended before the response was complete
-     `N6 Reset CODE`: the request was reset with this code, or with 7, where it
-     was not processed
-     `error: status NUMBER`: with --fail, a response of 400 or above has come
-  2  wrong arguments, or a URL that can't be fetched
-     `N7 Refused`: the request breaks a rule, or its fields are too many
-  3  `N1 Device`: no connection can be made, or a read or a write failed, of
-     the files of --data and --output too, which a hint names, or the time is
-     over, with `hint: timed out`
-     `N5 NoProgress`: a write took nothing
+Exit status (lines in backquotes go to standard error):
+  0  a response was received, whatever its status unless --fail is given
+  1  `N2 Stream CODE`: the connection failed with this code (RFC 9113,
+     section 7)
+     `N4 CutOff`: the connection ended before the response was complete
+     `N6 Reset CODE`: the request was reset with this code, or with 7 if it was
+     not processed
+     `error: status NUMBER`: with --fail, the status of the response is 400 or
+     above
+  2  invalid arguments, or a URL that cannot be fetched
+     `N7 Refused`: the request is malformed, or its fields are too large
+  3  `N1 Device`: the connection cannot be made, a read or a write failed (also
+     of the files of --data and --output, which a hint names), or the time is
+     over (`hint: timed out`)
+     `N5 NoProgress`: a write accepted no octets
   4  `N3 Memory`: out of memory
 
-A hint may follow that line. It is for people, and no status depends on it.
+A hint may follow that line. It is meant for people; the exit status does not
+depend on it.
 
-Example, beside `h2 serve 9001 2`:
+Example, with `h2 serve 9001 2` running:
   $ h2 get http://127.0.0.1:9001/a
   200 OK
   GET /a
@@ -306,7 +307,7 @@ fn fetching_command<'a>(alloc: Global) -> Result<Command<'a>, AllocError>
 {
     let text = CommandText {
         called: "h2 get",
-        about: "Fetches URLs, and prints the status and the body of each",
+        about: "Fetch URLs and print the status and the body of each",
         usage: "h2 get [OPTIONS] URL [URL]...",
         more: FETCHED_AND_STATUSES,
     };

@@ -67,76 +67,78 @@ pub fn host_args<'a>(alloc: Global, words: &'a [String]) -> Result<HostWords<'a>
 
 const HOST_PORT: &str = "PORT";
 
-const HOST_PORT_HELP: &str = "The port, 1 to 65535";
+const HOST_PORT_HELP: &str = "Port to listen on, 1 to 65535";
 
 const ROOT: &str = "root";
 
-const ROOT_HELP: &str = r"Answer with the files below this folder, and not with
-what was asked";
+const ROOT_HELP: &str = "Serve the files below this folder instead of echoing";
 
 const ADDRESS: &str = "address";
 
-const ADDRESS_HELP: &str = "The address [default: 127.0.0.1]";
+const ADDRESS_HELP: &str = "IP address to listen on [default: 127.0.0.1]";
 
 const CONNECTIONS: &str = "connections";
 
-const CONNECTIONS_HELP: &str = r"How many connections at once, 1 to 1048576
+const CONNECTIONS_HELP: &str = r"Maximum number of connections at once, 1 to 1048576
 [default: 10000]";
 
 const IDLE: &str = "idle";
 
-const IDLE_HELP: &str = r"End a connection after so many seconds without a
-request, 0 to 86400, where 0 is never [default: 75]";
+const IDLE_HELP: &str = r"Close a connection after this many seconds without a
+request, 0 to 86400; 0 means never [default: 75]";
 
 const LOG: &str = "log";
 
-const LOG_HELP: &str = r"Print a line for each request, in the common log
-format";
+const LOG_HELP: &str = "Print a line for each request in the common log format";
 
 const UNTIL_CLOSED: &str = "until-closed";
 
-const UNTIL_CLOSED_HELP: &str = r"End in order once standard input, a pipe, is
+const UNTIL_CLOSED_HELP: &str = r"Shut down gracefully once standard input, a pipe, is
 closed";
 
 /// What `host` serves, how it ends, and an example.
 const HOSTED_AND_STATUSES: &str =
-    r"Many connections at once, in one thread. Without --root each request is answered
-as `h2 serve` does: with its method, a space, its path, a line end, and its own
-body.
+    r"Many connections are served at once, in one thread. Without --root, each request
+is answered as by `h2 serve`: with its method, a space, its path, a newline, and
+its own body.
 
-With --root the answer is a file below that folder, of any size, with its type,
-length, `etag`, `last-modified` and `date`. GET and HEAD are served; conditions
-and one range are followed (RFC 9110, sections 13 and 14). A path that ends with
-a slash is the folder's `index.html`. Other answers are a short text: 404 for
-what is not there, for names that begin with a dot, and for folders without a
-slash; 403 for links and for what is below one, for what is no regular file, and
-for what may not be read; 405 for other methods. Links are not followed: the
-file and the folders on its way are looked at before and after it is opened. Who
-may write below the folder can still swap a link in and out again between two
-looks. A file that gets shorter while it is sent is a reset with code 2.
+With --root, GET and HEAD are answered with a file below that folder, of any
+size, with its type, length, `etag`, `last-modified` and `date`. Conditional
+requests and single ranges are supported (RFC 9110, sections 13 and 14). A path
+that ends with a slash is the `index.html` of that folder. Errors have a short
+text: 404 for what does not exist, for names that begin with a dot, and for
+folders without a trailing slash; 403 for symbolic links and what is below one,
+for files that are not regular, and for files that may not be read; 405 for
+other methods. Symbolic links are not followed: the file and the folders on its
+path are checked before and after it is opened. Someone who can write below the
+folder could still swap a link in and out again between the two checks. If a
+file shrinks while it is sent, the stream is reset with code 2.
 
-A connection is ended with a GOAWAY that sends no frame in 10 seconds, that
-takes 30 for a frame or for 1024 octets of a body, or 60 for the next octet of
-an answer; one without a request after --idle seconds, in order. One that sends
-above 500 resets, 500 empty frames, 50 malformed requests or 32768 octets of
-replies' worth of PING and SETTINGS in 10 seconds is ended with code 11. One
-connection holds at most 16 MiB, all of them 256 MiB.
+A connection is closed with GOAWAY if its first frame takes more than
+10 seconds, a later frame or 1024 octets of a request body more than 30, or the
+next octet of a response more than 60; after --idle seconds without a request,
+it is closed gracefully. A connection that sends more than 500 resets, 500 empty
+frames, 50 malformed requests, or PING and SETTINGS worth 32768 octets of
+replies in 10 seconds is closed with code 11. One connection holds at most
+16 MiB of memory, all of them 256 MiB.
 
-With --until-closed GOAWAY goes to all once standard input is closed, what was
-asked is answered, as long as 65536 octets of answers go in each 5 seconds, and
-the status is 0. A line of --log is
+With --until-closed, GOAWAY is sent on all connections once standard input is
+closed, and pending requests are answered, as long as 65536 octets of bodies are
+sent or received every 5 seconds; the exit status is then 0. A --log line is
   127.0.0.1 - - [28/Nov/2026:04:20:00 +0000] `GET / HTTP/2.0` 200 6
-with double quotes, in which other octets than printable ASCII, quotes and
-backslashes are as `\x00`.
+with double quotes for the backquotes; between them, quotes, backslashes and
+octets outside printable ASCII are written as `\x00`.
 
 Exit status, with the line on standard error:
-  0  standard input was closed, with --until-closed, and all have ended
-  2  wrong arguments, or `error: no address: A`
-  3  `N1 Device`: the port or the folder can't be had, standard input is no
-     pipe, or a wait or a write of the log failed
+  0  with --until-closed, standard input was closed, and all connections have
+     ended
+  2  invalid arguments, or `error: not an IP address: ADDR`
+  3  `N1 Device`: the port or the folder is not available, standard input is not
+     a pipe, or waiting or writing the log failed
   4  `N3 Memory`: out of memory
 
-A hint may follow that line. It is for people, and no status depends on it.
+A hint may follow that line. It is meant for people; the exit status does not
+depend on it.
 
 Example:
   $ h2 host 9001 --root examples &
@@ -189,14 +191,14 @@ fn served_command<'a>(alloc: Global) -> Result<Command<'a>, AllocError>
 {
     let text = CommandText {
         called: "h2 host",
-        about: "Answers requests at a port, of many connections at once",
+        about: "Serve files or echo requests on many connections at once",
         usage: "h2 host [OPTIONS] PORT",
         more: HOSTED_AND_STATUSES,
     };
     named_command(alloc, "host", text)?
         .arg(number_arg(alloc, HOST_PORT, counts(), HOST_PORT_HELP))?
         .arg(valued_arg(alloc, ROOT, "DIR", ROOT_HELP))?
-        .arg(valued_arg(alloc, ADDRESS, "A", ADDRESS_HELP))
+        .arg(valued_arg(alloc, ADDRESS, "ADDR", ADDRESS_HELP))
 }
 
 /// The command as clap has it.

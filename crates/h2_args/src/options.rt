@@ -48,7 +48,7 @@ fn with_help<'a>(command: Command<'a>, text: CommandText<'a>) -> Command<'a>
 /// The name of the flag: the input is hexadecimal text.
 pub(super) const HEX: &str = "hex";
 
-const HEX_HELP: &str = r"Read hexadecimal text, of which spaces, tabs and line
+const HEX_HELP: &str = r"Read the input as hexadecimal text; spaces, tabs and line
 ends are ignored";
 
 /// The flag as clap has it.

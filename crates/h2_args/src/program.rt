@@ -59,7 +59,7 @@ fn named_program<'a>(alloc: Global) -> Result<Command<'a>, AllocError>
     let program = Command::new(alloc, "h2")
         .no_binary_name(true)
         .bin_name("h2")?
-        .about("Shows, replays, serves and fetches HTTP/2 over cleartext")
+        .about("Show, replay, serve and fetch HTTP/2 over cleartext")
         .version("0.1.0");
     Ok(program)
 }

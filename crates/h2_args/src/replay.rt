@@ -57,7 +57,7 @@ const AS: &str = "as";
 
 const MESSAGES: &str = "messages";
 
-const MESSAGES_HELP: &str = r"Check the rules of messages too (RFC 9113, section 8)";
+const MESSAGES_HELP: &str = "Also check the rules of messages (RFC 9113, section 8)";
 
 // The flag as clap has it.
 fn messages_arg<'a>(alloc: Global) -> Arg<'a>
@@ -72,68 +72,69 @@ fn messages_arg<'a>(alloc: Global) -> Arg<'a>
 
 /// The lines that `replay` prints, how it ends, how octets are had, and an example.
 const EVENTS_AND_STATUSES: &str =
-    r"The octets are handed to one end of a new connection, which has the default
-settings and makes no call of its own: it answers no request, opens no stream
-and releases no octets. So the 101st request is reset with code 7, a body above
-65535 octets is a fault, and so is a response at a client.
+    r"The input is fed to one endpoint of a new connection. The endpoint has the
+default settings and makes no calls of its own: it answers no request, opens no
+stream and releases no octets. So the 101st request is reset with code 7, a body
+above 65535 octets is a fault, and so is a response to a client.
 
-Each event has a line:
-  fields ID          a field block has come on stream ID; `end` after it, as
-                     after `data`: nothing follows on the stream
-    name: value      a header field, as `h2 show` prints it
+Each event is printed on one line:
+  fields ID          a field block was received on stream ID; `end` after it, as
+                     after `data`, means that the peer ended the stream
+    name: value      a header field, printed as by `h2 show`
   data ID octets=N flow=M
-                     N octets of a body, which took M of the windows
+                     N octets of a body, which used M octets of the flow-control
+                     windows
   reset ID code=N ours
-                     this end has reset the stream, for a fault of the peer or
-                     since it takes no more; `theirs`: the peer has
+                     this endpoint reset the stream, for a stream error or
+                     because of a limit of its own; `theirs`: the peer reset it
   goaway last=N code=M
-                     the peer takes no streams above N
+                     the peer processes no streams above N
   unprocessed ID, pong OCTETS
-                     of streams and PINGs of this end's own: none come here
-  acked              the peer has applied this end's settings
+                     about streams and PINGs of this endpoint's own; they do not
+                     occur here
+  acked              the peer acknowledged the settings of this endpoint
 Then, once the input has ended or the connection has failed:
-  fault CODE         the connection has failed with this code (RFC 9113,
-                     section 7)
-  out OCTETS         all that this end sends, in hexadecimal: its opening and
-                     its replies
+  fault CODE         the connection failed with this code (RFC 9113, section 7)
+  out OCTETS         everything that this endpoint sends, in hexadecimal: its
+                     connection preface and its replies
 
-The rules of messages are checked with --messages alone: M1 to M12 of
-docs/PROTOCOL.md, of section 8. CONNECT breaks one of them here, since it isn't
-supported; whether host and :authority agree, a user in them and :scheme aren't
-looked at. The end is a client or a server of messages then, and a part of a
-message that breaks a rule is not handed out. This end resets its stream, and
-before the line of that stands
-  malformed ID RULE  the number and the name of the least rule that the part
-                     breaks, as `M10 ConnectionField` (docs/PROTOCOL.md)
-A malformed message is no fault, so the status stays 0; but the 1001st stream
-that this end resets is a fault, which stands in place of its line. Of a fault a
-hint says the reason, where no other hint is given.
+The rules of messages (RFC 9113, section 8) are checked only with --messages:
+they are M1 to M12 of docs/PROTOCOL.md. CONNECT is not supported, and breaks one
+of them. Not checked are :scheme, a user in host or :authority, and whether
+those two agree. A part of a message that breaks a rule is not reported; the
+endpoint resets its stream, and this line precedes that of the reset:
+  malformed ID RULE  the number and name of the first rule that the part breaks,
+                     such as `M10 ConnectionField` (docs/PROTOCOL.md)
+A malformed message is not a fault, so the exit status stays 0. The 1001st
+stream that this endpoint would reset is a fault, and only the fault is printed.
+A hint gives the reason for a fault, unless there is another hint.
 
-Exit status (the lines in backquotes are on standard error):
+Exit status (lines in backquotes go to standard error):
   0  the connection has not failed, wherever the input ends
   1  a fault
-  2  wrong arguments; or `bad hex`: the input isn't hexadecimal text, and
-     nothing of it is used
+  2  invalid arguments; or `bad hex`: the input is not hexadecimal text, and
+     none of it is used
   3  `N1 Device`: a read or a write failed
   4  `N3 Memory`: out of memory
 
-A hint may follow on standard error. It is for people; no status depends on it.
+A hint may follow on standard error. It is meant for people; the exit status
+does not depend on it.
 
-It reads octets, no capture and no socket. This keeps what a client sends first:
+The input is octets, not a capture or a socket. To record what a client sends
+first:
   $ nc -l 127.0.0.1 9002 > client.octets &
   $ curl --http2-prior-knowledge --max-time 1 http://127.0.0.1:9002/
   $ h2 replay < client.octets
-`tcpflow -r FILE` makes a file of each direction of a capture.
+`tcpflow -r FILE` writes each direction of a capture to a file.
 
-Example (the last line goes on):
+Example (the last line is shortened):
   $ echo 000000 04 00 00000000 000008 07 00 00000000 00000003 00000000 |
       h2 replay --hex --as client
   goaway last=3 code=0
   out 505249202a20485454502f322e300d0a0d0a534d0d0a0d0a000018040000000000";
 
-const AS_HELP: &str = r"The end that takes the octets, which are its peer's:
-server, whose peer begins with the preface, or client
-[default: server]";
+const AS_HELP: &str = r"Endpoint that receives the input: server (the input begins
+with the preface) or client [default: server]";
 
 /// The command as clap has it.
 pub(super) fn replay_command<'a>(alloc: Global) -> Result<Command<'a>, AllocError>
@@ -141,7 +142,7 @@ pub(super) fn replay_command<'a>(alloc: Global) -> Result<Command<'a>, AllocErro
 {
     let text = CommandText {
         called: "h2 replay",
-        about: "Hands a stream to one end of a connection, and prints its events",
+        about: "Feed input to one endpoint and print its events",
         usage: "h2 replay [OPTIONS] < FILE",
         more: EVENTS_AND_STATUSES,
     };

@@ -149,128 +149,134 @@ fn named_file(file: &str) -> Option<&str>
 
 const FILE: &str = "file";
 
-const FILE_HELP: &str = r"Read this file, and not standard input; - is standard
+const FILE_HELP: &str = r"Read this file instead of standard input; - is standard
 input";
 
 const CLIENT: &str = "client";
 
-const CLIENT_HELP: &str = r"With --server: read the client's octets from this file,
+const CLIENT_HELP: &str = r"With --server: read the client's octets from this file
 and show both sides, the client's first";
 
 const SERVER: &str = "server";
 
-const SERVER_HELP: &str = r"With --client: read the server's octets from this file";
+const SERVER_HELP: &str = "With --client: read the server's octets from this file";
 
 const NAMES: &str = "names";
 
-const NAMES_HELP: &str = r"Print settings by name, and names after error codes
+const NAMES_HELP: &str = r"Print settings by name, and the names of error codes
 (RFC 9113, sections 6.5.2 and 7)";
 
 const OFFSETS: &str = "offsets";
 
-const OFFSETS_HELP: &str = r"Print before the preface and each frame the number of
+const OFFSETS_HELP: &str = r"Prefix the preface and each frame with the position of
 its first octet, counted from 1, in ten digits";
 
 const COLOR: &str = "color";
 
-const COLOR_HELP: &str = r"Whether types are bold, fields faint and faults red:
-always, never, or auto where standard output is a
-terminal and NO_COLOR is not set [default: never]";
+const COLOR_HELP: &str = r"Print types bold, fields faint and faults red: always,
+never, or auto (if standard output is a terminal and
+NO_COLOR is not set) [default: never]";
 
 const JSON: &str = "json";
 
-const JSON_HELP: &str = r"Print a JSON object a line, with names and offsets in
-any case and without colors (docs/SHOW-JSON.md)";
+const JSON_HELP: &str = r"Print one JSON object per line, always with names and
+offsets and without colors (docs/SHOW-JSON.md)";
 
 const FROM: &str = "from";
 
 /// The lines that `show` prints, how it ends, and an example.
 const LINES_AND_STATUSES: &str =
-    r"Each frame has a line: its type, its stream, the length of its payload, and what
-the type adds, in this order:
-  end, whole, ack    its flag END_STREAM, END_HEADERS or ACK is set
+    r"Each frame is printed on one line: its type, its stream, its payload length, and
+what the type adds, in this order:
+  end, whole, ack    the flag END_STREAM, END_HEADERS or ACK is set
   pad=N              N octets of padding
-  priority           HEADERS has a priority
+  priority           HEADERS with priority fields
   code=N             an error code (RFC 9113, section 7)
   ID=VALUE           a setting: 1 HEADER_TABLE_SIZE, 2 ENABLE_PUSH,
                      3 MAX_CONCURRENT_STREAMS, 4 INITIAL_WINDOW_SIZE,
                      5 MAX_FRAME_SIZE, 6 MAX_HEADER_LIST_SIZE
   last=N code=N debug=COUNT
-                     of GOAWAY: its last stream, and its octets of debug data
-  add=N              an increment of a window
-  KIND66, flags=N    a type that the RFC doesn't define, and its flags
-PING has its octets in hexadecimal, and PRIORITY the length alone. The fields of
-a block follow the frame that ends it. Other lines:
-  preface            the client's preface
-    name: value      a header field; `!` before the name: it is never to be
-                     indexed; `\x00`: an octet that is no printable ASCII, or a
-                     backslash, in hexadecimal
-    list too large   the fields of the block have more than 65536 octets, with
-                     32 added for each field
-  fault CODE at N    octet N, counted from 1, is a connection error with this
-                     code (RFC 9113, section 7); nothing after it is shown
-  rest N             the input ends inside the preface or a frame, N octets of
-                     which came
+                     GOAWAY: the last stream, the error code, and the number of
+                     octets of debug data
+  add=N              the window size increment
+  KIND66, flags=N    a frame type that RFC 9113 does not define, and its flags
+PING adds its eight octets in hexadecimal, and PRIORITY adds nothing. The fields
+of a block follow the frame that ends it. Other lines:
+  preface            the client connection preface
+    name: value      a header field; `!` before the name marks it as never
+                     indexed, and `\x00` is an octet outside printable ASCII, or
+                     a backslash, in hexadecimal
+    list too large   the field section exceeds 65536 octets, counting 32 extra
+                     for each field
+  fault CODE at N    a connection error with this code (RFC 9113, section 7) at
+                     octet N, counted from 1; nothing after it is shown
+  rest N             the input ends N octets into the preface or a frame
   unfinished block   the input ends inside a field block
 
-With --names a setting has its name in place of its number, where it has one,
-and an error code its name after the number: code=8 CANCEL. With --offsets the
-preface and each frame begin with the number of their first octet, which
-`fault CODE at N` counts likewise, in ten digits or more and with a space; lines
-of fields and others have none. With --color always the type of a frame is bold,
-its fields are faint, and a fault, `rest N` and `unfinished block` are red. With
---json each line is an object, in which --names and --offsets change nothing.
---follow takes none of these.
+With --names, a known setting is printed by name instead of by number, and an
+error code is followed by its name: code=8 CANCEL. With --offsets, the preface
+and each frame are preceded by the position of their first octet, in ten digits
+or more and a space, counted as in `fault CODE at N`; other lines have none.
+With --color always, frame types are bold, fields are faint, and `fault`, `rest`
+and `unfinished block` lines are red. With --json, each line is a JSON object,
+and --names and --offsets have no effect. --follow accepts none of these
+options.
 
---client FILE --server FILE shows the octets of both sides, each from its file:
-the client's lines whole, after `> `, and then the server's, after `< `; with
---json each object begins with its side. In what order the octets of one side
-and of the other came isn't known, so neither is checked by the SETTINGS of the
-other: --max-frame is the limit of both. --from says nothing.
+--client FILE --server FILE shows both sides of a connection, each from a file
+of its own: first all lines of the client, prefixed with `> `, then those of the
+server, prefixed with `< `. With --json, each object begins with its side. How
+the two sides interleaved is not known, so neither is checked against the
+SETTINGS of the other, and --max-frame limits both. --from has no effect.
 
-The rules of a connection (`h2 replay` checks them) and those of messages
-(section 8) are not checked.
+The rules of connections, which `h2 replay` checks, and those of messages
+(RFC 9113, section 8) are not checked.
 
-Exit status (the lines in backquotes are on standard error):
-  0  the input is complete frames and field blocks, or nothing at all
-  1  a fault, or the end inside the preface, a frame or a field block
-  2  wrong arguments; or `bad hex`: the input isn't hexadecimal text, and
-     nothing of it is shown, or, with --follow, nothing after the line that
-     isn't of tshark's text
-  3  `N1 Device`: a read or a write failed, or the file can't be opened
+Exit status (lines in backquotes go to standard error):
+  0  the input is complete frames and field blocks, or empty
+  1  a fault, or the input ends inside the preface, a frame or a field block
+  2  invalid arguments; or `bad hex`: the input is not hexadecimal text, and
+     none of it is shown, or, with --follow, a line is not tshark's, and nothing
+     after it is shown
+  3  `N1 Device`: a read or a write failed, or the file cannot be opened
   4  `N3 Memory`: out of memory
 
-A hint may follow on standard error. It is for people; no status depends on it.
+A hint may follow on standard error. It is meant for people; the exit status
+does not depend on it.
 
-A capture of packets is no stream. tshark gives the octets of both sides of its
-first connection (behind TLS, with their keys, by follow,tls,raw,0):
+A packet capture is not a stream of octets. tshark extracts both sides of its
+first connection (inside TLS, given the keys, with follow,tls,raw,0):
   $ tshark -r FILE -q -z follow,tcp,raw,0 | h2 show --follow
-The client's lines stand after `> `, the server's after `< `, each where the
-last octet of its frame came. A fault ends its side, while the other goes on;
-at the end each side says what is unfinished, the client first. The client is
-the node whose octets come first, where they begin as the preface, and else the
-other. The status is 0 only where both sides are good to their ends. A line
-that is not of tshark's text ends all with `bad hex`; the hint has its number.
-With --page FILE beside --follow no lines are printed, but a page of HTML is
-written to FILE, which a browser draws: two lifelines, a row a frame, a colour a
-stream, the windows of the connection, faults in red; a click folds a stream.
-Frames and header tables are checked by the SETTINGS of the other side: a
-greater value is in force from them on, a smaller one from the ACK on. Frames
-of up to the octets of --max-frame are taken in any case.
-`> not checked` or `< not checked` says once that they allow that side a table
-above 65536 octets or frames above 1048576: a fault after it may be none.
+Lines of the client are prefixed with `> `, those of the server with `< `, and
+each is printed where the last octet of its frame arrived. A fault ends its
+side, and the other side goes on; at the end, each side reports what is
+unfinished, the client first. The client is the node that sent first, if it
+began with the preface, and otherwise the other node. The exit status is 0 only
+if both sides are valid and complete. A line that is not tshark's ends the
+command with `bad hex`, and the hint gives its number.
+
+With --follow and --page FILE, no lines are printed; instead, an HTML page for a
+browser is written to FILE: two lifelines, one row per frame, one color per
+stream, the windows of the connection, and faults in red. Clicking a frame folds
+its stream.
+
+With --follow, frame sizes and header tables are checked against the SETTINGS of
+the other side: a higher value applies from the SETTINGS on, a lower one from
+the ACK on. Frames of up to --max-frame octets are always accepted.
+`> not checked` or `< not checked` is printed once if those SETTINGS allow that
+side a table above 65536 octets or frames above 1048576; a fault reported after
+it may not be one.
 
 Example:
   $ echo 000004 08 00 00000000 0000000f | h2 show --hex --from server
   WINDOW_UPDATE 0 4 add=15";
 
-const FROM_HELP: &str = r"The end that sent the octets: client, which begins with
-the preface, or server [default: client]";
+const FROM_HELP: &str = r"Endpoint that sent the input: client (which begins with
+the preface) or server [default: client]";
 
 pub(super) const MAX_FRAME: &str = "max-frame";
 
-const MAX_FRAME_HELP: &str = r"The most octets that a frame's payload may have, 16384 to
-1048576 [default: 16384]";
+const MAX_FRAME_HELP: &str = r"Maximum length of a frame's payload, 16384 to 1048576
+[default: 16384]";
 
 // The limits of payloads that are taken.
 fn max_frames<'a>() -> ValueParser<'a>
@@ -322,7 +328,7 @@ fn shown_input_command<'a>(alloc: Global) -> Result<Command<'a>, AllocError>
 {
     let text = CommandText {
         called: "h2 show",
-        about: "Prints the frames of a stream and the header fields of its blocks",
+        about: "Print the frames and header fields that one endpoint sends",
         usage: "h2 show [OPTIONS] < FILE",
         more: LINES_AND_STATUSES,
     };

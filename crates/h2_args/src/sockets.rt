@@ -85,46 +85,46 @@ pub fn loop_args(alloc: Global, words: &[String]) -> Result<LoopOptions, Error>
 
 const PORT: &str = "PORT";
 
-const PORT_HELP: &str = "The port of 127.0.0.1, 1 to 65535";
+const PORT_HELP: &str = "Port on 127.0.0.1, 1 to 65535";
 
 const COUNT: &str = "COUNT";
 
-const COUNT_HELP: &str = "How many connections are served, 1 to 65535";
+const COUNT_HELP: &str = "Number of connections to serve, 1 to 65535";
 
 const OCTETS: &str = "N";
 
-const OCTETS_HELP: &str = "How many octets are posted, 0 to 1048576";
+const OCTETS_HELP: &str = "Number of octets to post, 0 to 1048576";
 
 const EACH_WAY: &str = "each-way";
 
-const EACH_WAY_HELP: &str = r"Print the megabytes posted and got, and the seconds that
-it took, on standard error";
+const EACH_WAY_HELP: &str = r"Print the megabytes sent each way and the seconds taken on
+standard error";
 
 /// How `serve` responds, how it ends, and an example.
 const SERVED_AND_STATUSES: &str =
-    r"Each request is answered with status 200 and a body: its method, a space, its
-path, a line end, and the request's own body. An answer to HEAD has no body. A
-stream whose request has a body above 1048576 octets is reset with code 11.
+    r"Each request is answered with status 200 and a body: the method, a space, the
+path, a newline, and the body of the request. The response to HEAD has no body.
+A stream whose request body exceeds 1048576 octets is reset with code 11.
 
-A client begins with the preface: it knows already that HTTP/2 is spoken here
-(RFC 9113, section 3.3). `h2 serve` takes one connection at a time and has no
-clocks: one that stays idle keeps others waiting, and so does one that has
-failed and that its client keeps open. It ends after COUNT connections, and
-prints nothing on standard output.
+Clients need prior knowledge of HTTP/2 (RFC 9113, section 3.3). Connections are
+served one at a time and without timeouts: a client that stays idle keeps others
+waiting, and so does one that leaves a failed connection open. The command exits
+after COUNT connections, and prints nothing on standard output.
 
 A connection that ends early has a line on standard error, and the next one is
 served. Exit status, that of the first such connection, with its line:
-  0  each connection was served until its client ended it
-  1  `N2 Stream CODE`: it failed with this code (RFC 9113, section 7), or with
-     11, where no more of its streams could be reset
+  0  every connection was served until its client ended it
+  1  `N2 Stream CODE`: the connection failed with this code (RFC 9113,
+     section 7), or with 11 if no more of its streams could be reset
      `N4 CutOff`: it ended inside the preface or a frame, or while a stream was
      active
-  2  wrong arguments
-  3  `N1 Device`: the port can't be had, or a read or a write failed
-     `N5 NoProgress`: a write took nothing
+  2  invalid arguments
+  3  `N1 Device`: the port is not available, or a read or a write failed
+     `N5 NoProgress`: a write accepted no octets
   4  `N3 Memory`: out of memory
 
-A hint may follow that line. It is for people, and no status depends on it.
+A hint may follow that line. It is meant for people; the exit status does not
+depend on it.
 
 Example:
   $ h2 serve 9001 1 &
@@ -134,20 +134,20 @@ Example:
 
 /// What `loop` prints, how it ends, and an example.
 const LOOPED_AND_STATUSES: &str =
-    r"A client and a server of this process are joined by one TCP connection of
-127.0.0.1. The client posts N octets to `/`, of which octet k, counted from 0,
-is k mod 251, and the server answers as `h2 serve` does. Each end in turn writes
-at most 4096 octets, which the other then reads.
+    r"A client and a server in this process are joined by one TCP connection on
+127.0.0.1. The client posts N octets to `/`; octet k, counted from 0, is k mod
+251. The server answers as `h2 serve` does. The two take turns: each writes at
+most 4096 octets, which the other then reads.
 
-Exit status, with the line on standard error but for 0:
-  0  the response has come, and the line `sent N got M status 200` is printed,
-     with M = N + 7; with --each-way, after it, a line on standard error:
-     `0.070000 MB posted, 0.070007 MB got, 0.004321 s`, of 10^6 octets a MB
-  1  `N4 CutOff`: the response isn't complete, and neither end writes any more;
-     `N2 Stream CODE` and `N6 Reset CODE` as at `h2 get`
-  2  wrong arguments
-  3  `N1 Device`: no connection can be made, or a read or a write failed
-     `N5 NoProgress`: an end can't go on
+Exit status, with the line on standard error unless it is 0:
+  0  the response is complete, and `sent N got M status 200` is printed, with
+     M = N + 7; with --each-way, a line on standard error follows:
+     `0.070000 MB posted, 0.070007 MB got, 0.004321 s` (1 MB is 10^6 octets)
+  1  `N4 CutOff`: the response is incomplete, and neither side writes any more
+     `N2 Stream CODE` and `N6 Reset CODE`: as for `h2 get`
+  2  invalid arguments
+  3  `N1 Device`: the connection cannot be made, or a read or a write failed
+     `N5 NoProgress`: one side cannot go on
   4  `N3 Memory`: out of memory
 
 Example:
@@ -199,7 +199,7 @@ pub(super) fn serve_command<'a>(alloc: Global) -> Result<Command<'a>, AllocError
 {
     let text = CommandText {
         called: "h2 serve",
-        about: "Answers requests at a port, each with what it asked",
+        about: "Echo requests on a port, one connection at a time",
         usage: "h2 serve PORT COUNT",
         more: SERVED_AND_STATUSES,
     };
@@ -214,7 +214,7 @@ pub(super) fn loop_command<'a>(alloc: Global) -> Result<Command<'a>, AllocError>
 {
     let text = CommandText {
         called: "h2 loop",
-        about: "Posts octets from a client to a server in one process",
+        about: "Post octets from a client to a server in one process",
         usage: "h2 loop N [--each-way]",
         more: LOOPED_AND_STATUSES,
     };

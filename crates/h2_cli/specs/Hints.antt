@@ -82,17 +82,17 @@ connect_hint kind = device_hint kind
 -- the text of a hint
 abbrev pub hint_text : Hint → List ℕ
 hint_text hints.Capture =
-    codes "the input is a capture: see its recipe in h2 show --help"
-hint_text hints.Http1Server = codes "the server answers in HTTP/1.1"
+    codes "the input is a packet capture: see h2 show --help for how to read it"
+hint_text hints.Http1Server = codes "the server speaks HTTP/1.1, not HTTP/2"
 hint_text hints.Http1Client =
-    codes "the client asks in HTTP/1.1: try curl --http2-prior-knowledge"
+    codes "the client speaks HTTP/1.1: try curl --http2-prior-knowledge"
 hint_text (hints.ErrorCode code) = decimal (code_number code) ++ (codes " is " ++ name_of code)
-hint_text hints.ConnectionRefused = codes "the connection was refused: nothing listens at that port"
-hint_text hints.ConnectionReset = codes "the peer has reset the connection"
-hint_text hints.HostUnreachable = codes "the host can't be reached"
-hint_text hints.PortInUse = codes "the port is in use"
-hint_text hints.PortForbidden = codes "the port needs a permission"
-hint_text hints.UnknownHost = codes "the host is unknown"
+hint_text hints.ConnectionRefused = codes "connection refused: nothing is listening on that port"
+hint_text hints.ConnectionReset = codes "connection reset by peer"
+hint_text hints.HostUnreachable = codes "the host is unreachable"
+hint_text hints.PortInUse = codes "the port is already in use"
+hint_text hints.PortForbidden = codes "no permission to use the port"
+hint_text hints.UnknownHost = codes "the host name could not be resolved"
 
 -- the line of a hint
 abbrev pub hint_line : Hint → List ℕ

@@ -41,21 +41,21 @@ impl fmt::Display for Hint {
     fn fmt<W: fmt::Write>(&self, f: &mut fmt::Formatter<W>) -> fmt::Result {
         match *self {
             Hint::Capture => f.write_str(
-                "the input is a capture: see its recipe in h2 show --help",
+                "the input is a packet capture: see h2 show --help for how to read it",
             ),
-            Hint::Http1Server => f.write_str("the server answers in HTTP/1.1"),
+            Hint::Http1Server => f.write_str("the server speaks HTTP/1.1, not HTTP/2"),
             Hint::Http1Client => f.write_str(
-                "the client asks in HTTP/1.1: try curl --http2-prior-knowledge",
+                "the client speaks HTTP/1.1: try curl --http2-prior-knowledge",
             ),
             Hint::ErrorCode(code) => write!(f, "{} is {code}", code.number()),
             Hint::ConnectionRefused => f.write_str(
-                "the connection was refused: nothing listens at that port",
+                "connection refused: nothing is listening on that port",
             ),
-            Hint::ConnectionReset => f.write_str("the peer has reset the connection"),
-            Hint::HostUnreachable => f.write_str("the host can't be reached"),
-            Hint::PortInUse => f.write_str("the port is in use"),
-            Hint::PortForbidden => f.write_str("the port needs a permission"),
-            Hint::UnknownHost => f.write_str("the host is unknown"),
+            Hint::ConnectionReset => f.write_str("connection reset by peer"),
+            Hint::HostUnreachable => f.write_str("the host is unreachable"),
+            Hint::PortInUse => f.write_str("the port is already in use"),
+            Hint::PortForbidden => f.write_str("no permission to use the port"),
+            Hint::UnknownHost => f.write_str("the host name could not be resolved"),
         }
     }
 }

@@ -13,16 +13,16 @@ pub enum PathFault {
     #[error("the path is too long")]
     TooLong,
     /// It does not begin with a slash: 400.
-    #[error("the path isn't absolute")]
+    #[error("the path is not absolute")]
     NotAbsolute,
     /// A `%` without two hexadecimal digits after it: 400.
-    #[error("an escape isn't complete")]
+    #[error("a percent-encoding is incomplete")]
     BadEscape,
     /// A name has a control character, such as NUL: 400.
     #[error("a name has a control character")]
     Control,
     /// A name isn't UTF-8: 400.
-    #[error("a name isn't UTF-8")]
+    #[error("a name is not UTF-8")]
     NotText,
     /// A name before the last is empty: 404.
     #[error("a name is empty")]

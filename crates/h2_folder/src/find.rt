@@ -19,7 +19,7 @@ use std::os::unix::fs::MetadataExt;
 /// [`ErrorKind`] names.
 const NO_DESCRIPTOR: i32 = 24;
 
-/// That no process has one (ENFILE).
+/// ENFILE: the system has no file descriptor left.
 const NO_DESCRIPTOR_OF_ALL: i32 = 23;
 
 /// Why a path has no file that is served.

@@ -21,10 +21,10 @@ use thiserror::Error;
 #[derive(Clone, Copy, Debug, PartialEq, Eq, Hash, Error)]
 pub enum RequestFault {
     /// A field has no colon.
-    #[error("error: a field has to be NAME:VALUE")]
+    #[error("error: a header field must be NAME:VALUE")]
     NoColon,
     /// A field is named `host`, which is `:authority` in the request (RFC 9113, section 8.3.1).
-    #[error("error: the URL names the host, so a field host is not taken")]
+    #[error("error: a host field is not allowed: the URL names the host")]
     Host,
     /// The request breaks this rule (RFC 9113, section 8), the first one of several.
     #[error("N7 Refused")]

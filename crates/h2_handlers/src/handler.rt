@@ -22,7 +22,7 @@ pub enum HandlerFault {
     #[error("out of memory")]
     Memory,
     /// Something else has failed, as a read of a file.
-    #[error("the handler has failed")]
+    #[error("the handler failed")]
     Failed,
 }
 

@@ -34,7 +34,7 @@ pub struct HostOptions<'a> {
     pub port: u16,
     /// The address.
     pub address: IpAddr,
-    /// The folder whose files are served; none for an answer with what was asked.
+    /// The folder to serve, or `None` to echo.
     pub root: Option<&'a str>,
     /// How many connections there are, at most.
     pub connections: usize,
@@ -233,14 +233,14 @@ fn refuse_root<E: Write>(root: &str, error: &io::Error, err: &mut E) -> Status
     ensures { IsFailedHost result }
 {
     let status = give_up(error, None, err);
-    let why = match error.kind() {
-        ErrorKind::NotFound => "there is none",
-        ErrorKind::PermissionDenied => "permission denied",
-        ErrorKind::NotADirectory => "it is no folder",
-        _ => "it can't be looked at",
+    let (what, why) = match error.kind() {
+        ErrorKind::NotFound => ("folder ", " does not exist"),
+        ErrorKind::PermissionDenied => ("folder ", ": permission denied"),
+        ErrorKind::NotADirectory => ("", " is not a folder"),
+        _ => ("folder ", " cannot be accessed"),
     };
     // There is no place left to report that this write fails.
-    let _ = writeln!(err, "hint: folder {root}: {why}");
+    let _ = writeln!(err, "hint: {what}{root}{why}");
     status
 }
 
@@ -252,8 +252,8 @@ fn end_early<E: Write>(error: &io::Error, err: &mut E) -> Status
 {
     let status = give_up(error, hint_of(error), err);
     let hint = match error.raw_os_error() {
-        Some(NO_PIPE) => "--until-closed waits for a pipe at standard input",
-        _ if error.kind() == ErrorKind::AddrNotAvailable => "the address is none of this machine's",
+        Some(NO_PIPE) => "--until-closed needs a pipe as standard input",
+        _ if error.kind() == ErrorKind::AddrNotAvailable => "address not available",
         _ => return status,
     };
     // There is no place left to report that this write fails.

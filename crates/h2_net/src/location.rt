@@ -28,19 +28,19 @@ pub struct Location {
 #[derive(Clone, Copy, Debug, PartialEq, Eq, Hash, Error)]
 pub enum TargetFault {
     /// It is no URL.
-    #[error("the URL can't be read")]
+    #[error("the URL is malformed")]
     Unread,
     /// Its scheme isn't `http`.
-    #[error("the URL's scheme isn't http")]
+    #[error("the URL does not begin with http://")]
     OtherScheme,
     /// It has no host.
     #[error("the URL has no host")]
     NoHost,
     /// It has no port, or one that isn't from 1 to 65,535.
-    #[error("the URL names no port from 1 to 65535, as :80")]
+    #[error("the URL needs a port from 1 to 65535, such as :80")]
     NoPort,
     /// It has a userinfo, which is not to be sent (RFC 9113, section 8.3.1).
-    #[error("the URL names a user")]
+    #[error("a user name in the URL is not supported")]
     UserInfo,
     /// Out of memory.
     #[error("N3 Memory")]

@@ -110,8 +110,7 @@ impl<S: Read + WriteParts + OpenStream> StreamLink<S> {
         &self.first
     }
 
-    /// Of which kind the error was of the stream's last read or write that failed, if one has. A
-    /// write that took nothing has none.
+    /// The kind of the last I/O error, if any. A write that accepted no octets is not an error.
     pub fn last_error(&self) -> Option<ErrorKind>
         ensures { result ≡ self.now.last_error }
     {

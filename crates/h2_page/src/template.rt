@@ -131,12 +131,12 @@ noscript { display: block; padding: 1rem; }
 <header><h1>Both sides of a connection <small id='count'></small></h1>
 <div id='keys'></div>
 <div class='ends'>
-<span></span><span>its window</span><span>client</span><span>server</span>
-<span style='text-align:right'>its window</span>
+<span></span><span>client may send</span><span>client</span><span>server</span>
+<span style='text-align:right'>server may send</span>
 </div></header>
 <main id='rows'></main>
-<noscript>The lines of the connection stand in the source of this page; a browser draws them
-with scripts.</noscript>
+<noscript>This page needs JavaScript to draw the connection; its lines are in the page source.
+</noscript>
 <script type='text/plain' id='lines'>
 ";
 
@@ -145,14 +145,14 @@ pub(crate) const END: &str = r"</script>
 <script>
 'use strict';
 const RULES = {
-  PROTOCOL_ERROR: 'RFC 9113, 5.4: a rule of frames or of their order is broken',
-  INTERNAL_ERROR: 'an end has failed',
-  FLOW_CONTROL_ERROR: 'RFC 9113, 6.9: more octets than a window has',
+  PROTOCOL_ERROR: 'RFC 9113, 5.4: a frame, or the order of frames, violates the protocol',
+  INTERNAL_ERROR: 'an endpoint has failed',
+  FLOW_CONTROL_ERROR: 'RFC 9113, 6.9: a flow-control window is exceeded or overflows',
   SETTINGS_TIMEOUT: 'RFC 9113, 6.5.3: SETTINGS were not acknowledged in time',
   STREAM_CLOSED: 'RFC 9113, 5.1: a frame on a closed stream',
-  FRAME_SIZE_ERROR: 'RFC 9113, 4.2: the length of a frame is not allowed',
-  COMPRESSION_ERROR: 'RFC 9113, 4.3: a field block does not decode',
-  ENHANCE_YOUR_CALM: 'RFC 9113, 10.5: the peer does too much',
+  FRAME_SIZE_ERROR: 'RFC 9113, 4.2: a frame has an invalid length',
+  COMPRESSION_ERROR: 'RFC 9113, 4.3: a field block cannot be decoded',
+  ENHANCE_YOUR_CALM: 'RFC 9113, 10.5: the peer causes excessive load',
 };
 const SIDES = ['client', 'server'];
 const other = { client: 'server', server: 'client' };

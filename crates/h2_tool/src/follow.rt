@@ -105,43 +105,43 @@ fn give_hint<E: Write>(hint: Option<FollowHint>, err: &mut E) {
         Some(FollowHint::Capture) => write_hint(Some(Hint::Capture), err),
         Some(FollowHint::BadLine(number)) => writeln!(
             err,
-            "hint: line {number} is not of the text that tshark -q -z follow,tcp,raw,N prints"
+            "hint: line {number} is not output of tshark -q -z follow,tcp,raw,N"
         ),
         Some(FollowHint::NoOctets) => writeln!(
             err,
-            "hint: the text has no octets: has tshark found the connection, and its TLS keys?"
+            "hint: the text has no octets: did tshark find the connection and its TLS keys?"
         ),
         Some(FollowHint::LostSegment(number)) => writeln!(
             err,
-            "hint: line {number}: octets are missing in the capture"
+            "hint: line {number}: octets are missing from the capture"
         ),
         Some(FollowHint::Http1) => writeln!(
             err,
-            "hint: the connection begins with HTTP/1.1, and --follow reads HTTP/2 alone"
+            "hint: the connection begins with HTTP/1.1; --follow reads only HTTP/2"
         ),
         Some(FollowHint::NoPreface) => writeln!(
             err,
-            "hint: no side begins with a client's preface: the capture may begin later"
+            "hint: neither side begins with the client preface: the capture may start too late"
         ),
         Some(FollowHint::LongFrame) => writeln!(
             err,
-            "hint: a frame is longer than the limit: --max-frame 1048576 takes longer frames"
+            "hint: a frame is longer than the limit: --max-frame 1048576 accepts longer frames"
         ),
         Some(FollowHint::CutOff) => writeln!(
             err,
-            "hint: a side ends inside a frame: the capture may end before the connection does"
+            "hint: one side ends inside a frame: the capture may end before the connection does"
         ),
         Some(FollowHint::NotChecked) => writeln!(
             err,
-            "hint: SETTINGS allow more than is read: a fault after `not checked` may be none"
+            "hint: SETTINGS allow more than h2 supports: a fault after `not checked` may not be one"
         ),
         Some(FollowHint::Table) => writeln!(
             err,
-            "hint: a block leaves a greater table than the other side's SETTINGS allow"
+            "hint: a field block leaves a larger table than the other side's SETTINGS allow"
         ),
         Some(FollowHint::Fault) => writeln!(
             err,
-            "hint: the capture may be at fault: has it all segments, from the connection's first?"
+            "hint: the capture may be incomplete: does it have all segments, from the first one on?"
         ),
     };
 }

@@ -247,7 +247,7 @@ fn report_fetch<E: Write>(ending: Ending, is_late: bool, err: &mut E) -> Status
     // The status is that of the error, whether or not these writes fail.
     let _ = match error {
         LinkError::Device if is_late => writeln!(err, "hint: timed out"),
-        LinkError::Refused => writeln!(err, "hint: the fields of the request are too many"),
+        LinkError::Refused => writeln!(err, "hint: the header fields of the request are too large"),
         LinkError::Reset(code) => write_hint(hint_at_client(code, &[]), err),
         _ => Ok(()),
     };
@@ -319,7 +319,7 @@ fn refuse_file<E: Write>(path: &str, err: &mut E) -> Status
     ensures { result ≡ Device }
 {
     // There is no place left to report that this write fails.
-    let _ = writeln!(err, "N1 Device\nhint: file {path}: it can't be written");
+    let _ = writeln!(err, "N1 Device\nhint: file {path} cannot be written");
     Status::Device
 }
 
@@ -346,7 +346,7 @@ pub(crate) fn refuse_url<E: Write>(fault: TargetFault, port: Option<u16>, err: &
         return give_up(Failure::Memory, err);
     }
     if fault == TargetFault::NoPort && port.is_none() {
-        let hint = "hint: --port N names the port of a URL that has none";
+        let hint = "hint: --port N gives the port of a URL without one";
         return status_after(writeln!(err, "error: {fault}\n{hint}"));
     }
     status_after(writeln!(err, "error: {fault}"))

@@ -70,7 +70,7 @@ where
         → R.remaining input.new ≡ R.remaining input.old }
 {
     if options.output.is_some() {
-        return refuse_words("-o takes one URL", err);
+        return refuse_words("--output cannot be used with several URLs", err);
     }
     if has_too_many(options) {
         return refuse_words("at most 100 URLs can be fetched at once", err);
@@ -343,7 +343,7 @@ fn refuse_locations<E: Write>(fault: LocationsFault, port: Option<u16>, err: &mu
     match fault {
         LocationsFault::Url(fault) => refuse_url(fault, port, err),
         LocationsFault::OtherHost => {
-            refuse_words("URLs of one connection have one host and port", err)
+            refuse_words("all URLs must have the same host and port", err)
         }
     }
 }

@@ -69,7 +69,7 @@ fn no_address<E: Write>(text: &str, err: &mut E) -> Status
     ensures { result ≡ Usage }
 {
     // There is no place left to report that this write fails.
-    let _ = writeln!(err, "error: no address: {text}");
+    let _ = writeln!(err, "error: not an IP address: {text}");
     Status::Usage
 }
 

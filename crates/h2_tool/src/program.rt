@@ -92,14 +92,14 @@ where
     }
 }
 
-/// Ends the program where its words can't be had: out of memory, or a word isn't UTF-8.
+/// Ends the program where its words can't be had: out of memory, or an argument is not UTF-8.
 pub fn no_words<E: Write>(error: &io::Error, err: &mut E) -> Status
     ensures { result ≢ Status.Good }
 {
     if let io::ErrorKind::OutOfMemory = error.kind() {
         return give_up(Failure::Memory, err);
     }
-    match writeln!(err, "error: a word isn't UTF-8") {
+    match writeln!(err, "error: an argument is not UTF-8") {
         Ok(()) => Status::Usage,
         Err(_) => Status::Device,
     }
@@ -164,10 +164,10 @@ fn give_hint<E: Write>(hint: Option<Hint>, from_server: &str, err: &mut E) {
     let _ = match hint {
         None => Ok(()),
         Some(Hint::Capture) => write_hint(Some(h2_cli::Hint::Capture), err),
-        Some(Hint::Http1) => writeln!(err, "hint: the input is HTTP/1.1, and not HTTP/2"),
+        Some(Hint::Http1) => writeln!(err, "hint: the input is HTTP/1.1, not HTTP/2"),
         Some(Hint::ClientPreface) => writeln!(
             err,
-            "hint: the input begins with a client's preface: leave out {from_server}"
+            "hint: the input begins with the client preface: omit {from_server}"
         ),
         Some(Hint::Hexadecimal) => {
             writeln!(
@@ -177,7 +177,7 @@ fn give_hint<E: Write>(hint: Option<Hint>, from_server: &str, err: &mut E) {
         }
         Some(Hint::FromServer) => writeln!(
             err,
-            "hint: the input begins with no client's preface: try {from_server}"
+            "hint: the input does not begin with the client preface: try {from_server}"
         ),
     };
 }

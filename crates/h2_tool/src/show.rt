@@ -120,13 +120,13 @@ pub(crate) fn end_unopened<E: Write>(path: &str, error: &io::Error, err: &mut E)
     ensures { result ≡ Device }
 {
     let why = match error.kind() {
-        ErrorKind::NotFound => "there is none",
-        ErrorKind::PermissionDenied => "permission denied",
-        ErrorKind::IsADirectory => "it is a folder",
-        _ => "it can't be opened",
+        ErrorKind::NotFound => " does not exist",
+        ErrorKind::PermissionDenied => ": permission denied",
+        ErrorKind::IsADirectory => " is a folder",
+        _ => " cannot be opened",
     };
     // There is no place left to report that these writes fail.
     let _ = writeln!(err, "{}", Failure::Device);
-    let _ = writeln!(err, "hint: file {path}: {why}");
+    let _ = writeln!(err, "hint: file {path}{why}");
     Status::Device
 }

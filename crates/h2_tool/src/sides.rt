@@ -57,7 +57,7 @@ fn end_sides<E: Write>(shown: Result<Shown, Failure>, err: &mut E) -> Status
             // The status is that of the inputs, whether or not this write fails.
             let _ = writeln!(
                 err,
-                "hint: a client's octets begin with the preface: are the files swapped?"
+                "hint: the preface belongs in the client's file: are the files swapped?"
             );
             status
         }
@@ -73,7 +73,7 @@ pub(crate) fn refuse_files<E: Write>(err: &mut E) -> Status
     // There is no place left to report that this write fails.
     let _ = writeln!(
         err,
-        "error: --client FILE and --server FILE go together, and without --file"
+        "error: --client and --server must be used together, and without --file"
     );
     Status::Usage
 }

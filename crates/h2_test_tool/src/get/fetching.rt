@@ -44,7 +44,7 @@ fn hint_after_the_line(rt: HostRuntime) {
         hint: Some(Hint::Http1Server),
         why: Some(Why::FrameTooLong),
     };
-    let lines = "N2 Stream 6\nhint: the server answers in HTTP/1.1\n";
+    let lines = "N2 Stream 6\nhint: the server speaks HTTP/1.1, not HTTP/2\n";
     assert!(rt; reports(rt.alloc(), ending, Status::Fault, lines));
 }
 

@@ -45,11 +45,11 @@ fn new_client<R: Net>(rt: &R, address: SocketAddr, octets: &[u8]) -> Result<R::S
 
 /// What is reported of a client that asks in HTTP/1.1.
 const ASKED: &str =
-    "N2 Stream 1\nhint: the client asks in HTTP/1.1: try curl --http2-prior-knowledge\n";
+    "N2 Stream 1\nhint: the client speaks HTTP/1.1: try curl --http2-prior-knowledge\n";
 
 /// What is reported of one whose input is cut off, and then of such a client.
 const CUT_AND_ASKED: &str = "N4 CutOff\nN2 Stream 1\n\
-    hint: the client asks in HTTP/1.1: try curl --http2-prior-knowledge\n";
+    hint: the client speaks HTTP/1.1: try curl --http2-prior-knowledge\n";
 
 /// Whether what is read of a stream ends with these octets.
 fn ends_with<S: Read>(alloc: Global, stream: &mut S, last: &[u8]) -> Result<bool, Fail> {

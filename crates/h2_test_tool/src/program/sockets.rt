@@ -12,10 +12,10 @@ use std::test::Fail;
 use std::time::Clock;
 
 /// What is reported where nothing listens at a port.
-const REFUSED: &str = "N1 Device\nhint: the connection was refused: nothing listens at that port\n";
+const REFUSED: &str = "N1 Device\nhint: connection refused: nothing is listening on that port\n";
 
 /// What is reported where another listens at a port.
-const IN_USE: &str = "N1 Device\nhint: the port is in use\n";
+const IN_USE: &str = "N1 Device\nhint: the port is already in use\n";
 
 /// Whether a line prints nothing and ends with N1, and with these lines on standard error. Nothing
 /// is read.
@@ -112,7 +112,7 @@ fn get_with_too_many_fields(rt: HostRuntime) -> Result<(), Fail> {
     for _ in 0..70_000 {
         line.push('b')?;
     }
-    let lines = "N7 Refused\nhint: the fields of the request are too many\n";
+    let lines = "N7 Refused\nhint: the header fields of the request are too large\n";
     assert!(rt; ends_with(&rt, rt.alloc(), &line, Status::Usage, lines)?);
     Ok(())
 }

@@ -75,7 +75,7 @@ fn ends(alloc: Global, kind: ErrorKind, text: &str, status: Status, unwritten: S
 
 #[test]
 fn words_that_cannot_be_had(rt: HostRuntime) {
-    let (invalid, no_text) = (ErrorKind::InvalidData, "error: a word isn't UTF-8\n");
+    let (invalid, no_text) = (ErrorKind::InvalidData, "error: an argument is not UTF-8\n");
     assert!(rt; ends(rt.alloc(), invalid, no_text, Status::Usage, Status::Device));
     let (memory, text) = (ErrorKind::OutOfMemory, "N3 Memory\n");
     assert!(rt; ends(rt.alloc(), memory, text, Status::Memory, Status::Memory));
