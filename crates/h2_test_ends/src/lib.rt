@@ -6,7 +6,7 @@
 //!   README's programs run. `calling`: the callers that each CALLING.md quotes.
 //!
 //! They stand in one crate without code of its own, so that the gate proves the crates that they
-//! test once for all of them. Ends that are driven at random are cases: `bench/drive` makes them.
+//! test once for all of them. Ends that are driven at random are cases: `fuzz/drive` makes them.
 #![tactic(auto)]
 
 #[cfg(test)]

@@ -1,4 +1,4 @@
-# The tries of `h2 host` of bench/peers, which reads this file.
+# The tries of `h2 host` of interop/peers, which reads this file.
 
 # host WORD ..: starts `h2 host` with these words at a new port
 host() {
@@ -87,7 +87,7 @@ host_until_closed() {
   server=$!
   exec 4> "pipe$port"
   await "$port" "$server" || return 1
-  python3 "$root/bench/hosts/leaving.py" "$port" 20 > asked 4>&- &
+  python3 "$root/bench/clients/leaving.py" "$port" 20 > asked 4>&- &
   local asking=$!
   until [ -s asked ] || ! kill -0 "$asking" 2> /dev/null; do sleep 0.1; done
   exec 4>&-
@@ -114,7 +114,7 @@ host_full_table() {
   next_port
   (ulimit -n 40 && exec timeout 300 "$program" host --root files "$port" > served 2> served.err < /dev/null) &
   server=$!
-  await "$port" "$server" && python3 "$root/bench/hosts/full.py" "$port" 100 > answer &&
+  await "$port" "$server" && python3 "$root/bench/clients/full.py" "$port" 100 > answer &&
     [ "$(ask "$(url /)")" = hello ] && [ ! -s served.err ]
 }
 
@@ -122,7 +122,7 @@ host_full_table() {
 host_ends() {
   make_root
   host --root files
-  timeout 60 python3 "$root/bench/hosts/hostile.py" "$1" "$port" 30 > answer
+  timeout 60 python3 "$root/bench/clients/hostile.py" "$1" "$port" 30 > answer
   # A connection that is closed while octets come is reset, and what was sent last may be lost.
   grep -Eq "^ended after .* GOAWAY \[($2)?\]$" answer && [ "$(ask "$(url /)")" = hello ]
 }

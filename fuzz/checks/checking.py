@@ -2,7 +2,7 @@
 import collections
 from typing import NamedTuple
 
-import definitions as said
+import stated as said
 from items import Block, Count, Data, DataEvent, FieldsEvent, OtherEvent, Passed, ResetEvent, SendData
 
 FAULT = "fault"

@@ -1,8 +1,8 @@
 """How many rounds two joined ends need until they are quiet, beside what the specifications say of that."""
 import copy
 
-import definitions as said
 import pair_cases
+import stated as said
 from coverage import Marks
 from joined import Joined
 from messages import REQUESTS, Message
@@ -21,7 +21,7 @@ def check_rounds(checker, joined):
     """Makes rounds until the ends are quiet; says how many, and of how many."""
     client, server = joined.halves.values()
     most = said.most_rounds(side_of(client, server), side_of(server, client))
-    checker.check("most_rounds", most_rounds(joined) == most, most_rounds(joined), "by bench/drives, not", most)
+    checker.check("most_rounds", most_rounds(joined) == most, most_rounds(joined), "by fuzz/models, not", most)
     count = 0
     while not joined.is_quiet() and count <= most:
         make_round(joined)
@@ -55,7 +55,7 @@ def check_directed(checker):
 
 
 def watch_rounds(checker, seed, count):
-    """The lists of acts of bench/drive of a seed, each of whose pairs goes on until it is quiet."""
+    """The lists of acts of fuzz/drive of a seed, each of whose pairs goes on until it is quiet."""
     class RoundedPlay(pair_cases.Play):
         def __init__(self, *words):
             super().__init__(*words)

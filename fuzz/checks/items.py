@@ -1,7 +1,7 @@
 """What a log is made of: items, events, calls and their answers (h2_block Grouping, h2_spec_log Events and Acts),
 and items read from octets. Lists of them have the newest first, as in the definitions.
 
-Frames of no use here are `Other`. It shares no code with bench/drives."""
+Frames of no use here are `Other`. It shares no code with fuzz/models."""
 from typing import NamedTuple
 
 PREFACE_SIZE = 24

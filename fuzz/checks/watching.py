@@ -1,6 +1,6 @@
-"""Logs of ends that bench/drive drives: what they read, write, report and are asked.
+"""Logs of ends that fuzz/drive drives: what they read, write, report and are asked.
 
-The octets that an end reads and writes, its events and its calls are those of bench/drives, which the cases
+The octets that an end reads and writes, its events and its calls are those of fuzz/models, which the cases
 say and the gate holds the machine to; items are made of the octets here. A watcher is told of each step."""
 import calls
 import conn_cases
@@ -84,7 +84,7 @@ class Log:
 
 
 def event_of(event):
-    """An event of bench/drives as one of h2_spec_log."""
+    """An event of fuzz/models as one of h2_spec_log."""
     match event.kind:
         case "fields":
             return FieldsEvent(event.stream, event.fields, event.end)
@@ -101,7 +101,7 @@ def event_of(event):
 
 
 def act_of(name, words):
-    """A call of bench/drives as one of h2_spec_log."""
+    """A call of fuzz/models as one of h2_spec_log."""
     match name:
         case "open":
             return Open(words[0], bool(words[1]))
@@ -121,7 +121,7 @@ def answer_of(act, answer):
 
 
 class Watched:
-    """Puts watched ends in place of those of bench/drives; what it makes is the same."""
+    """Puts watched ends in place of those of fuzz/models; what it makes is the same."""
 
     def __init__(self, watcher):
         self.watcher = watcher
@@ -258,7 +258,7 @@ class Watched:
         return WatchedPlay
 
     def cases(self, group, seed, count):
-        """The texts of cases that bench/drive makes of a seed; of the group `scenes` their names."""
+        """The texts of cases that fuzz/drive makes of a seed; of the group `scenes` their names."""
         if group == "scenes":
             for name, ends in scenes.play(self.new, self.take, self.take_unprocessed):
                 for end in ends:

@@ -1,4 +1,4 @@
-"""HPACK from the words of RFC 7541, as far as the drives need it.
+"""HPACK from the words of RFC 7541, as far as the models need it.
 
 Here are integers, strings, a table, a decoder, and an encoder with the choices that docs/PROTOCOL.md
 names. A field is a tuple of its name, its value (both octets) and whether it is sensitive, so that it is

@@ -1,6 +1,6 @@
 """Wrong ends: what each does wrong some definition has to notice, so that none of them lets everything pass.
 
-Each puts a wrong part in the place of one of bench/drives."""
+Each puts a wrong part in the place of one of fuzz/models."""
 import calls
 import receive
 from joined import Half

@@ -1,8 +1,8 @@
 """Wrong neighbours of the definitions: each puts one wrong function in the place of a right one.
 
-The runs have to notice each. What is only weaker than a definition, no run of a right end can notice; so faults.py
-has wrong ends too."""
-import definitions as said
+The runs have to notice each. What is only weaker than a definition, no run of a right end can notice; so
+wrong_ends.py has wrong ends too."""
+import stated as said
 from items import Block, Data, GoAway, Settings
 
 RIGHT = dict(vars(said))

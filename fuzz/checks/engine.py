@@ -3,7 +3,7 @@
 A case says what comes, how the engine ends, and what it has written, or the body of that. What it was asked
 inside is not seen: a message waits where its head was written and no END_STREAM, and what was released is what
 was returned."""
-import definitions as said
+import stated as said
 from items import PREFACE_SIZE, Data, DataEvent, Done, Grouping, Release
 from watching import Log
 
