@@ -1,4 +1,4 @@
-//! Tests of the engines, of two joined ends, of laws and of the programs of `h2_uses` that are no
+//! Tests of the engines, of two joined ends, of laws and of the README's programs that are no
 //! cases of `h2_cases`.
 //!
 //! - `engines`: refused allocations, `Debug`, and a list of acts that is run.
@@ -6,7 +6,7 @@
 //!   README's programs run. `calling`: the callers that each CALLING.md quotes.
 //! - `parts`: programs whose messages go in parts, with bodies of 8 MiB.
 //!
-//! Ends that are driven at random are cases.
+//! Ends that are driven at random are cases: `fuzz/drive` makes them.
 #![tactic(auto)]
 
 #[cfg(test)]
