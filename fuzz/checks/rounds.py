@@ -6,7 +6,7 @@ import stated as said
 from coverage import Marks
 from joined import Joined
 from messages import REQUESTS, Message
-from model import Config
+from endpoint import Config
 from random_numbers import Random
 from settling import make_round, most_rounds, waiting_at
 from text import counted

@@ -3,7 +3,7 @@
 `new` makes a watched end; `take` hands a frame over, or has the next stream reported that is not processed."""
 import calls
 from frames import Frame, too_long
-from model import Config
+from endpoint import Config
 
 GET = (b":method", b"GET", False)
 

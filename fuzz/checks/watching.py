@@ -13,7 +13,7 @@ from coverage import Marks
 from items import (PREFACE_SIZE, AckedEvent, Block, BodyHanded, Count, Data, DataEvent, Done, FieldsEvent, GoAway,
                    Grouping, HeadHanded, InterimHanded, Number, Open, OtherAct, OtherEvent, Passed, Refused, Release,
                    Reset, ResetEvent, SendData, SendFields, Settings, TrailersHanded, UnprocessedEvent)
-from model import Model
+from endpoint import Model
 from random_numbers import Random
 
 

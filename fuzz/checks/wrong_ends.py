@@ -4,7 +4,7 @@ Each puts a wrong part in the place of one of fuzz/models."""
 import calls
 import receive
 from joined import Half
-from model import Fault, Model
+from endpoint import Fault, Model
 
 SEND_DATA, CHANGE, WRITE, NEXT_LIVE = calls.CALLS["data"], calls.CALLS["change"], Model.write, Model.next_live
 HAND_OUT, PUMP_STREAM, TAKE_FRAME, BODY = Half.hand_out, Half.pump_stream, receive.take_frame, Half.body

@@ -1,7 +1,7 @@
 """What an end makes of a call, and for what it is refused (docs/ENDPOINT.md, "Calls")."""
 from frames import four
 from hpack import size_of
-from model import FIRST_FRAME, FULL, MAX_DATA, MAX_LIST, MOST_RESETS, Fault
+from endpoint import FIRST_FRAME, FULL, MAX_DATA, MAX_LIST, MOST_RESETS, Fault
 from text import CODES
 
 REFUSALS = {

@@ -1,7 +1,7 @@
 """What a connection is driven to: its mood, and random frames and calls."""
 from frames import GREATEST, MALFORMED, Frame, too_long
 from hpack import integer, raw
-from model import FIRST_FRAME, Config
+from endpoint import FIRST_FRAME, Config
 
 # What each mood is: mostly what is allowed; all that a peer may do wrong; as many streams as are
 # allowed; a thousand resets and more; replies that nobody takes away; DATA that nobody releases.

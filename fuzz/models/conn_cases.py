@@ -5,7 +5,7 @@ all numbers that have changed."""
 import calls
 from choose import CYCLE, GET, STEPS, Chooser, config
 from frames import PREFACE, Frame
-from model import MOST_RESETS, Model
+from endpoint import MOST_RESETS, Model
 from receive import end_word, fault_event, take, take_unprocessed
 from text import CODES, command_octets, fields_text, frames_lines, last_text, runs
 

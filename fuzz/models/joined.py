@@ -1,9 +1,9 @@
 """A client and a server that are joined by two pipes, from the words of docs/MESSAGES.md and docs/PAIR.md.
 
-Each is an end of a connection (model.py), with the messages that it was given and has handed out."""
+Each is an end of a connection (endpoint.py), with the messages that it was given and has handed out."""
 import calls
 from frames import PREFACE, read_frame, split_frame
-from model import Model
+from endpoint import Model
 from receive import end_word, take, take_unprocessed
 from text import CODES, field_lines, last_text
 

@@ -5,7 +5,7 @@ from choose import FRAME_SIZES
 from coverage import Marks
 from joined import EndRefused, Joined
 from messages import ENDINGS, GOOD_ENDINGS, REQUESTS, RESPONSES, TRAILERS, any_begun, any_list, any_message
-from model import FIRST_FRAME, Config
+from endpoint import FIRST_FRAME, Config
 from settling import settle
 from text import counted, fields_text, last_text
 

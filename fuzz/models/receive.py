@@ -3,7 +3,7 @@
 docs/ENDPOINT.md has it under "What an end does with what it reads". The events are lines, as
 crates/h2_case_conn/src/conn_events.rt has them."""
 from hpack import BadBlock, size_of
-from model import FIRST_FRAME, MAX_BLOCK, MAX_LIST, MOST_RESETS, Fault, exceeds, is_too_great
+from endpoint import FIRST_FRAME, MAX_BLOCK, MAX_LIST, MOST_RESETS, Fault, exceeds, is_too_great
 from text import CODES, field_lines, last_text
 
 

@@ -1,4 +1,4 @@
-/* Refuses one allocation of a program, or all between two marks: see bench/scarce. Loaded before
+/* Refuses one allocation of a program, or all between two marks: see faults/scarce. Loaded before
  * the C library (LD_PRELOAD), or linked with --wrap=malloc, calloc and realloc (-DWRAP).
  *
  * An allocation of one of the sizes below is a mark, and is never refused: h2_test_scarce makes

@@ -1,4 +1,4 @@
-/* client KIND LIVE COUNT: writes what a client sends: the preface, SETTINGS, a WINDOW_UPDATE to the
+/* traffic KIND LIVE COUNT: writes what a client sends: the preface, SETTINGS, a WINDOW_UPDATE to the
  * connection's widest window, LIVE requests that it never ends, and then COUNT times:
  * get       a request without a body
  * post      one with a body of 1,000 octets
