@@ -2,7 +2,7 @@
 -- escaped, and its end. What stands in the lines is read by the page's script alone, as text.
 -- contract: h2_page::page_of
 use Rattle.std.specs.Prelude.{ℕ, ◌==◌, ◌||◌, Bool, if◌then◌else◌, List, [], ◌∷◌, ◌++◌, flat_map}
-use Rattle.h2_show.specs.Lines.{hex_octet}
+use Rattle.hex.specs.Hex.{encode_lower}
 
 -- an octet that HTML gives a meaning: `<`, `>`, `&`, `"` or `'`
 -- rule: page (own) No octet of a peer has a meaning in HTML
@@ -13,7 +13,7 @@ has_meaning octet = octet == 60 || octet == 62 || octet == 38 || octet == 34 || 
 -- rule: page (own) No octet of a peer has a meaning in HTML
 abbrev pub escaped_octet : ℕ → List ℕ
 escaped_octet octet =
-    if has_meaning octet then 92 ∷ 120 ∷ hex_octet octet else octet ∷ []
+    if has_meaning octet then 92 ∷ 120 ∷ encode_lower (octet ∷ []) else octet ∷ []
 
 -- rule: page (own) No octet of a peer has a meaning in HTML
 abbrev pub escaped : List ℕ → List ℕ

@@ -1,8 +1,8 @@
 //! Lines of both sides of a connection as a page.
 
-ghost use Rattle.std.specs.Prelude.{◌≡◌, ◌∷◌, ◌++◌, ℕ, List, true, not, IfOk, OnOk};
+ghost use Rattle.std.specs.Prelude.{◌≡◌, [], ◌∷◌, ◌++◌, ℕ, List, true, not, IfOk, OnOk};
 ghost use Rattle.std.specs.List.{list_all};
-ghost use Rattle.h2_show.specs.Lines.{hex_octet};
+ghost use Rattle.hex.specs.Hex.{encode_lower};
 ghost use Rattle.h2_page.specs.Page.{escaped, has_meaning, page_of};
 
 use crate::template::{END, HEAD};
@@ -59,8 +59,9 @@ fn has_meaning(octet: u8) -> bool
 }
 
 // The escape of an octet that has a meaning.
+#[tactic(auto, unfolding(hex::specs::Hex::encode_with))]
 fn escape_of<'a>(octet: u8) -> &'a [u8]
-    ensures { has_meaning octet ≡ true → result.now ≡ 92 ∷ 120 ∷ hex_octet octet }
+    ensures { has_meaning octet ≡ true → result.now ≡ 92 ∷ 120 ∷ encode_lower (octet ∷ []) }
 {
     match octet {
         b'<' => b"\\x3c",
