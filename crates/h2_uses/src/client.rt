@@ -165,16 +165,26 @@ fn release<W: Write>(alloc: Global, client: &mut Client, to: &mut W) -> Result<(
 /// Sends what windows let through, and writes all queued output.
 fn send<W: Write>(alloc: Global, client: &mut Client, to: &mut W) -> Result<()> {
     let mut output = Vec::new(alloc);
+    send_into(client, &mut output, to)
+}
+
+fn send_into<W: Write>(client: &mut Client, output: &mut Vec<u8>, to: &mut W) -> Result<()> {
     for _ in 0..u64::MAX {
         let pumped = client.pump();
-        output.clear();
-        let count = client.put_out(usize::MAX, &mut output)?;
-        to.write_all(&output)?;
-        to.flush()?;
+        let count = write_out(client, output, to)?;
         pumped?; // after a fault of the connection, once its GOAWAY is written
         if count == 0 {
             break;
         }
     }
     Ok(())
+}
+
+/// Writes all queued output, and returns how many octets that were.
+fn write_out<W: Write>(client: &mut Client, output: &mut Vec<u8>, to: &mut W) -> Result<usize> {
+    output.clear();
+    let count = client.put_out(usize::MAX, output)?;
+    to.write_all(output)?;
+    to.flush()?;
+    Ok(count)
 }

@@ -77,17 +77,7 @@ pub fn serve_files<R: Read, W: Write, O: Opener>(
         output: Vec::new(alloc),
         downloads: Vec::new(alloc),
     };
-    for _ in 0..u64::MAX {
-        files.send(to)?;
-        let count = from.read(&mut input)?;
-        if count == 0 {
-            break;
-        }
-        let taken = files.take_piece(&input[..count], to, opener);
-        files.write_out(to)?; // GOAWAY at last, where the connection failed
-        taken?;
-    }
-    Ok(())
+    files.serve(&mut input, from, to, opener)
 }
 
 // calling: h2_ends parts
@@ -146,6 +136,27 @@ fn answer_to<O: Opener>(head: &FieldList, opener: &mut O) -> Answer<O::File> {
 }
 
 impl<F: Read + Drop> Files<F> {
+    /// Takes what is read, a piece at a time, and sends what can go before each.
+    fn serve<R: Read, W: Write, O: Opener<File = F>>(
+        &mut self,
+        input: &mut [u8],
+        from: &mut R,
+        to: &mut W,
+        opener: &mut O,
+    ) -> Result<()> {
+        for _ in 0..u64::MAX {
+            self.send(to)?;
+            let count = from.read(input)?;
+            if count == 0 {
+                break;
+            }
+            let taken = self.take_piece(&input[..count], to, opener);
+            self.write_out(to)?; // GOAWAY at last, where the connection failed
+            taken?;
+        }
+        Ok(())
+    }
+
     /// Takes what was read, and answers the requests whose heads are in it. A stream that the
     /// client resets drops its file.
     fn take_piece<W: Write, O: Opener<File = F>>(

@@ -99,10 +99,12 @@ impl Relay {
     ///
     /// An allocation was refused.
     pub fn new(alloc: Global) -> Result<Relay> {
+        let front = Server::new(alloc, Config::default())?;
+        let back = Client::new(alloc, Config::default())?;
         Ok(Relay {
             alloc,
-            front: Server::new(alloc, Config::default())?,
-            back: Client::new(alloc, Config::default())?,
+            front,
+            back,
             front_id: None,
             back_id: None,
             request: Passage::new(alloc),

@@ -128,17 +128,27 @@ fn release<W: Write>(alloc: Global, server: &mut Server, to: &mut W) -> Result<(
 /// Sends what windows let through, and writes all queued output.
 fn send<W: Write>(alloc: Global, server: &mut Server, to: &mut W) -> Result<()> {
     let mut output = Vec::new(alloc);
+    send_into(server, &mut output, to)
+}
+
+fn send_into<W: Write>(server: &mut Server, output: &mut Vec<u8>, to: &mut W) -> Result<()> {
     for _ in 0..u64::MAX {
         let pumped = server.pump();
-        output.clear();
-        let count = server.put_out(usize::MAX, &mut output)?;
-        to.write_all(&output)?;
-        to.flush()?;
+        let count = write_out(server, output, to)?;
         pumped?; // after a fault of the connection, once its GOAWAY is written
         if count == 0 {
             break;
         }
     }
     Ok(())
+}
+
+/// Writes all queued output, and returns how many octets that were.
+fn write_out<W: Write>(server: &mut Server, output: &mut Vec<u8>, to: &mut W) -> Result<usize> {
+    output.clear();
+    let count = server.put_out(usize::MAX, output)?;
+    to.write_all(output)?;
+    to.flush()?;
+    Ok(count)
 }
 // end

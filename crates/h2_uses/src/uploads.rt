@@ -57,26 +57,26 @@ pub fn upload<R: Read, W: Write, S: Read + Drop>(
     limit: usize,
 ) -> Result<Uploaded> {
     let mut input = vec![in alloc; 0u8; 16_384]?;
-    let mut client = Client::new(alloc, Config::default())?;
-    let request = Message::request(alloc, b"POST", authority, path)?;
+    let source = BufReader::with_capacity(alloc, PART, source)?;
+    let (client, id) = begun(alloc, authority, path)?;
     let mut sending = Sending {
-        id: client.begin(&request.head)?,
         client,
-        source: BufReader::with_capacity(alloc, PART, source)?,
+        id,
+        source,
         is_sent: false,
         output: Vec::new(alloc),
         coming: Coming::new(alloc, limit),
     };
-    match sending.exchange(from, to, &mut input) {
-        Ok(()) => {
-            sending.leave(to, Code::NoError)?;
-            Ok(sending.coming.uploaded)
-        }
-        Err(error) => {
-            let _ = sending.leave(to, Code::Cancel);
-            Err(error)
-        }
-    }
+    sending.run(from, to, &mut input)?;
+    Ok(sending.coming.uploaded)
+}
+
+/// A client that has begun the request, and the number of its stream.
+fn begun(alloc: Global, authority: &[u8], path: &[u8]) -> Result<(Client, u32)> {
+    let request = Message::request(alloc, b"POST", authority, path)?;
+    let mut client = Client::new(alloc, Config::default())?;
+    let id = client.begin(&request.head)?;
+    Ok((client, id))
 }
 
 impl Coming {
@@ -115,6 +115,18 @@ impl Coming {
 }
 
 impl<S: Read + Drop> Sending<S> {
+    /// Sends and reads until the answer is whole, and then lets the server know that no more is
+    /// wanted; so too where the upload has failed.
+    fn run<R: Read, W: Write>(&mut self, from: &mut R, to: &mut W, input: &mut [u8]) -> Result<()> {
+        match self.exchange(from, to, input) {
+            Ok(()) => self.leave(to, Code::NoError),
+            Err(error) => {
+                let _ = self.leave(to, Code::Cancel);
+                Err(error)
+            }
+        }
+    }
+
     /// Sends and reads in turns, until the answer is whole.
     fn exchange<R: Read, W: Write>(
         &mut self,
