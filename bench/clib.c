@@ -1,4 +1,4 @@
-/* clib CLIENT BODY [parts]: serves what a client sends (client.c), each request with a body of so
+/* clib CLIENT BODY [parts]: serves what a client sends (traffic.c), each request with a body of so
  * many octets, and prints the answers, the octets of the output, the octets that are held at last
  * and the calls that allocate; the last two are 0 but where COUNTS is defined, and the program is
  * linked with --wrap=malloc, calloc, realloc and free. */

@@ -1,8 +1,9 @@
 -- The lines of events that `h2 replay` prints, as octets.
 use Rattle.std.specs.Prelude.{ℕ, Bool, true, false, List, ◌++◌, length, codes, decimal, flat_map}
+use Rattle.hex.specs.Hex.{encode_lower}
 use Rattle.h2_spec_log.specs.Events.{Event, FieldsEvent, DataEvent, ResetEvent, GoAwayEvent}
 use Rattle.h2_spec_log.specs.Events.{UnprocessedEvent, AckedEvent, PongEvent}
-use Rattle.h2_show.specs.Lines.{field_line, flag_word, hex_octet}
+use Rattle.h2_show.specs.Lines.{field_line, flag_word}
 
 -- a space and the word of END_STREAM, where it is set (RFC 9113, section 6.1)
 -- rule: replay (own) The line of an event has its type, stream and more
@@ -31,4 +32,4 @@ event_lines (GoAwayEvent last code) =
     codes "goaway last=" ++ decimal last ++ codes " code=" ++ decimal code ++ codes "\n"
 event_lines (UnprocessedEvent id) = codes "unprocessed " ++ decimal id ++ codes "\n"
 event_lines AckedEvent = codes "acked\n"
-event_lines (PongEvent octets) = codes "pong " ++ flat_map hex_octet octets ++ codes "\n"
+event_lines (PongEvent octets) = codes "pong " ++ encode_lower octets ++ codes "\n"

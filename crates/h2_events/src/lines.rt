@@ -9,7 +9,7 @@ ghost use Rattle.h2_events.specs.EventLines.{event_lines, end_word};
 
 use h2_cli::{Failure, PIECE};
 use h2_conn::{Conn, Event};
-use h2_show::write_field;
+use h2_show::{hexadecimal_of, write_field};
 use hpack::FieldList;
 use std::alloc::Global;
 use std::fmt;
@@ -90,9 +90,7 @@ fn write_pong<W: Write>(octets: [u8; 8], out: &mut W) -> io::Result<()>
         (event_lines (PongEvent octets))) }
 {
     out.write_all(b"pong ")?;
-    for octet in octets {
-        write!(out, "{octet:02x}")?;
-    }
+    out.write_all(&hexadecimal_of(octets))?;
     out.write_all(b"\n")
 }
 

@@ -29,16 +29,16 @@ pub struct Config {
 #[derive(Clone, Copy, Debug, PartialEq, Eq, Hash, Error)]
 pub enum BadConfig {
     /// The table limit is above 65,536 octets.
-    #[error("K1 TableLimit: the header table limit is above 65,536")]
+    #[error("K1 TableLimit: the header table's limit is above 65536")]
     TableLimit,
     /// The initial window isn't from 1 to 2^31 - 1 octets.
-    #[error("K2 InitialWindow: the initial window is not from 1 to 2,147,483,647")]
+    #[error("K2 InitialWindow: the initial window isn't from 1 to 2147483647")]
     InitialWindow,
     /// The number of streams isn't from 100 to 1,000.
-    #[error("K3 MaxStreams: the stream limit is not from 100 to 1,000")]
+    #[error("K3 MaxStreams: the number of streams isn't from 100 to 1000")]
     MaxStreams,
     /// The greatest frame isn't from 16,384 to 1,048,576 octets.
-    #[error("K4 MaxFrame: the frame size limit is not from 16,384 to 1,048,576")]
+    #[error("K4 MaxFrame: the greatest frame isn't from 16384 to 1048576")]
     MaxFrame,
 }
 

@@ -93,7 +93,7 @@ impl From<AllocError> for Unfollowed {
 ///
 /// [`Failure::BadHex`] where a line isn't of the text that tshark prints, with its number: what the
 /// lines before it give is written then, and nothing of the sides' ends. [`Failure::Device`] where
-/// a read or a write failed, and [`Failure::Memory`] when out of memory, which a line of any length
+/// a read or a write has failed, and [`Failure::Memory`] when out of memory, which a line of any length
 /// may need. What was printed by then is written, unless the writer itself fails.
 pub fn follow_input<R: Read, W: Write>(
     alloc: Global,

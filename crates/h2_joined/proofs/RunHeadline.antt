@@ -82,7 +82,7 @@ module _ (client_values server_values : Values) (joined : Joined) (made : List M
 
   -- The headline holds of every two joined ends.
   pub has_headline : JoinedRepresents client_values server_values joined made client server
-      → HasHeadline joined made client server
+      → HasHeadline client_values server_values joined made client server
   has_headline is = record {
     in_order = in_order is;
     client_without_fault = client_no_fault client_values server_values made client server is.joint;

@@ -97,11 +97,14 @@ module _ (client_values server_values : Values) (made : List Made) (client serve
 pub keep_at : (client_values server_values : Values) (made : List Made) (client server : JointEnd)
     → IsJoint client_values server_values made client server → (later before : List Made)
     → made ≡ later ++ before
-    → (then_client then_server : JointEnd) × ActsLeadTo then_client then_server later client server
+    → (then_client then_server : JointEnd)
+    × IsJoint client_values server_values before then_client then_server
+    × ActsLeadTo then_client then_server later client server
     × KeepsWindows then_client.happened.log × KeepsWindows then_server.happened.log
 keep_at client_values server_values made client server joint [] before split = (
   client,
   server,
+  subst (λ (it : List Made). IsJoint client_values server_values it client server) split joint,
   leads_nowhere,
   client_keeps client_values server_values made client server joint,
   server_keeps client_values server_values made client server joint,
@@ -112,10 +115,11 @@ keep_at client_values server_values _ client server
     (continues {history = history} joint act next) (one ∷ later) before split =
     let same : act ≡ one = cc in
     let others : history ≡ later ++ before = cc in
-    let (then_client, then_server, leads, client_kept, server_kept) =
+    let (then_client, then_server, then_joint, leads, client_kept, server_kept) =
     keep_at client_values server_values history _ _ joint later before others in (
       then_client,
       then_server,
+      then_joint,
       subst (λ (it : Made). ActsLeadTo then_client then_server (it ∷ later) client server) same
           (leads_on leads act next),
       client_kept,

@@ -16,7 +16,7 @@ use Rattle.h2_joined.specs.declared.act.Acted.TheVariants as acted
 use Rattle.h2_joined.specs.declared.act.JointAct.{JointAct}
 use Rattle.h2_joined.specs.declared.kept.Kept.{Kept}
 use Rattle.h2_joined.specs.declared.joined.Joined.{Joined}
-use Rattle.h2_joined.specs.Joints.{Doing, JointEnd, Made, IsNextAct, MemorySufficed}
+use Rattle.h2_joined.specs.Joints.{Doing, JointEnd, Made, IsJoint, IsNextAct, MemorySufficed}
 use Rattle.h2_joined.specs.Joints.{NoneWasEnded}
 use Rattle.h2_joined.specs.Headline.{AreQuiet, WasResetIn, ReportsNoFault}
 use Rattle.h2_joined.specs.Kept.{Shown, accepted_shown, side_of, doing_of, JoinedRepresents}
@@ -64,13 +64,16 @@ pub data ActsLeadTo (first_client first_server : JointEnd) : (acts : List Made)
       → IsNextAct client server act new_client new_server
       → ActsLeadTo first_client first_server (act ∷ acts) new_client new_server
 
--- After each of the acts that were made, the ends that there were then, from which the later acts
--- have led to these, had let no DATA pass its windows.
+-- After each of the acts that were made, the ends that the acts so far had made, from which the
+-- later acts have led to these, had let no DATA pass its windows.
 -- rule: 6.9.1 DATA is sent within both windows
-abbrev pub KeepWindowsThroughout : List Made → (client server : JointEnd) → Type 0
-KeepWindowsThroughout made client server =
+abbrev pub KeepWindowsThroughout : (client_values server_values : Values) → List Made
+    → (client server : JointEnd) → Type 0
+KeepWindowsThroughout client_values server_values made client server =
     (later before : List Made) → made ≡ later ++ before
-    → (then_client then_server : JointEnd) × ActsLeadTo then_client then_server later client server
+    → (then_client then_server : JointEnd)
+    × IsJoint client_values server_values before then_client then_server
+    × ActsLeadTo then_client then_server later client server
     × KeepsWindows then_client.happened.log × KeepsWindows then_server.happened.log
 
 -- The headline. What each end has handed out on every stream is a prefix of what the other has
@@ -78,15 +81,15 @@ KeepWindowsThroughout made client server =
 -- caller, neither end reports a fault. No DATA of either has passed its windows, after whichever
 -- act. Once both are quiet, it is all of it, on every stream that was not reset.
 -- rule: joined (own) What one end has handed out is a prefix of what the other accepted
-pub record HasHeadline (joined : Joined) (made : List Made) (client server : JointEnd) : Type 0
-  where
-    pub in_order : AreInOrder joined
-    pub client_without_fault : MemorySufficed client server → NoneWasEnded made
-        → ReportsNoFault made client.happened sides.Server
-    pub server_without_fault : MemorySufficed client server → NoneWasEnded made
-        → ReportsNoFault made server.happened sides.Client
-    pub keep_windows : KeepWindowsThroughout made client server
-    pub whole : AreQuiet client server → AreWhole joined made client
+pub record HasHeadline (client_values server_values : Values) (joined : Joined) (made : List Made)
+    (client server : JointEnd) : Type 0 where
+  pub in_order : AreInOrder joined
+  pub client_without_fault : MemorySufficed client server → NoneWasEnded made
+      → ReportsNoFault made client.happened sides.Server
+  pub server_without_fault : MemorySufficed client server → NoneWasEnded made
+      → ReportsNoFault made server.happened sides.Client
+  pub keep_windows : KeepWindowsThroughout client_values server_values made client server
+  pub whole : AreQuiet client server → AreWhole joined made client
 
 -- an act without its result
 abbrev pub act_made : Made → Side × Doing
@@ -146,4 +149,4 @@ pub record RunsActs (client_values server_values : Values) (acts : List JointAct
 pub record Runs (client_values server_values : Values) (acts : List JointAct) (joined : Joined)
     : Type 0 where
   pub runs : RunsActs client_values server_values acts joined
-  pub headline : HasHeadline joined runs.made runs.client runs.server
+  pub headline : HasHeadline client_values server_values joined runs.made runs.client runs.server

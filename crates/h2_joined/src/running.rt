@@ -28,7 +28,7 @@ pub fn headline()
     ensures { (client_values server_values : Values) (joined : types.Joined) (made : List Made)
         (client server : JointEnd)
         → JoinedRepresents client_values server_values joined made client server
-        → HasHeadline joined made client server }
+        → HasHeadline client_values server_values joined made client server }
 {}
 
 // contract: joined (own) What one end has handed out is a prefix of what the other accepted

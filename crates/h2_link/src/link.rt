@@ -12,7 +12,7 @@ use thiserror::Error;
 
 /// A call of a link has failed. Nothing more is known of it.
 #[derive(Clone, Copy, Debug, PartialEq, Eq, Hash, Error)]
-#[error("a read or a write failed")]
+#[error("a read or a write has failed")]
 pub struct LinkFault;
 
 /// What carries the octets of a connection, both ways. It waits for its peer where it has to.

@@ -65,7 +65,7 @@ struct Ended {
 ///
 /// # Errors
 ///
-/// [`Failure::Device`] where a read or a write failed, [`Failure::Memory`] when out of memory, and
+/// [`Failure::Device`] where a read or a write has failed, [`Failure::Memory`] when out of memory, and
 /// [`Failure::BadHex`] where the input isn't the hexadecimal text that was announced. What was
 /// printed by then is written in any case, unless the writer itself fails: where it does so at the
 /// end, that is [`Failure::Device`], whatever its error.

@@ -5,6 +5,7 @@ use Rattle.std.proofs.lemmas.Grind.{common_steps}
 use Rattle.std.proofs.lemmas.Bool.{cases_eq}
 use Rattle.std.proofs.lemmas.List.Folds.{list_all-append}
 use Rattle.std.specs.List.{list_all}
+use Rattle.hex.specs.Hex.{encode_with}
 use Rattle.h2_page.specs.Page.{escaped, escaped_octet, has_meaning}
 
 -- whether none of the octets has a meaning
@@ -13,6 +14,7 @@ are_text octets = list_all (λ octet. not (has_meaning octet)) octets
 
 -- an octet, escaped where it has a meaning
 octet_text : (octet : ℕ) → are_text (escaped_octet octet) ≡ true
+unfolding encode_with
 octet_text octet = by (cases_eq octet 60) (cases_eq octet 62) (cases_eq octet 38) (cases_eq octet 34)
     (cases_eq octet 39)
   where

@@ -8,4 +8,4 @@
 mod page;
 mod template;
 
-pub use page::{escaped_lines_are_text, page_of};
+pub use page::{escaped_lines_are_text, lines_stand_in_a_text, page_of};

@@ -1,9 +1,9 @@
 //! Lines of both sides of a connection as a page.
 
-ghost use Rattle.std.specs.Prelude.{◌≡◌, ◌∷◌, ◌++◌, ℕ, List, true, not, IfOk, OnOk};
+ghost use Rattle.std.specs.Prelude.{◌≡◌, [], ◌∷◌, ◌++◌, ℕ, List, true, not, IfOk, OnOk};
 ghost use Rattle.std.specs.List.{list_all};
-ghost use Rattle.h2_show.specs.Lines.{hex_octet};
-ghost use Rattle.h2_page.specs.Page.{escaped, has_meaning, page_of};
+ghost use Rattle.hex.specs.Hex.{encode_lower};
+ghost use Rattle.h2_page.specs.Page.{escaped, has_meaning, page_of, IsPageHead, IsPageEnd};
 
 use crate::template::{END, HEAD};
 use std::alloc::{AllocError, Global};
@@ -16,8 +16,7 @@ use std::alloc::{AllocError, Global};
 ///
 /// [`AllocError`] when out of memory.
 pub fn page_of(alloc: Global, lines: &[u8]) -> Result<Vec<u8>, AllocError>
-    ensures { IfOk result (λ page. (head : List ℕ) × (end : List ℕ)
-        × (page.items ≡ page_of head end lines.now)) }
+    ensures { IfOk result (λ page. page.items ≡ page_of lines.now) }
 {
     page_with(alloc, HEAD.as_bytes(), END.as_bytes(), lines)
 }
@@ -25,7 +24,7 @@ pub fn page_of(alloc: Global, lines: &[u8]) -> Result<Vec<u8>, AllocError>
 // rule: page (own) A page is its head, the lines, escaped, and its end
 // A page with this head and this end.
 fn page_with(alloc: Global, head: &[u8], end: &[u8], lines: &[u8]) -> Result<Vec<u8>, AllocError>
-    ensures { IfOk result (λ page. page.items ≡ page_of head.now end.now lines.now) }
+    ensures { IfOk result (λ page. page.items ≡ head.now ++ (escaped lines.now ++ end.now)) }
 {
     let mut page = Vec::new(alloc);
     page.extend_from_slice(head)?;
@@ -59,8 +58,9 @@ fn has_meaning(octet: u8) -> bool
 }
 
 // The escape of an octet that has a meaning.
+#[tactic(auto, unfolding(hex::specs::Hex::encode_with))]
 fn escape_of<'a>(octet: u8) -> &'a [u8]
-    ensures { has_meaning octet ≡ true → result.now ≡ 92 ∷ 120 ∷ hex_octet octet }
+    ensures { has_meaning octet ≡ true → result.now ≡ 92 ∷ 120 ∷ encode_lower (octet ∷ []) }
 {
     match octet {
         b'<' => b"\\x3c",
@@ -76,4 +76,12 @@ fn escape_of<'a>(octet: u8) -> &'a [u8]
 pub fn escaped_lines_are_text()
     ensures { (lines : List ℕ)
         → list_all (λ octet. not (has_meaning octet)) (escaped lines) ≡ true }
+{}
+
+// contract: page (own) A page is its head, the lines, escaped, and its end
+/// A page begins and ends as a document of HTML does, and its lines stand in a script of plain
+/// text, which a browser neither runs nor shows.
+pub fn lines_stand_in_a_text()
+    ensures head { IsPageHead HEAD.now }
+    ensures end { IsPageEnd END.now }
 {}

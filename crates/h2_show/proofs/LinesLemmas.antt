@@ -2,20 +2,21 @@
 use Rattle.h2_show.proofs.Names.{◌≡◌, ℕ, ◌+◌, ◌-◌, ◌<◌, ◌≤◌, not, Bool, true, false, if◌then◌else◌}
 use Rattle.h2_show.proofs.Names.{List, [], ◌∷◌, ◌++◌, length, take, drop, flat_map, length-take}
 use Rattle.h2_show.proofs.Names.{Option, Some, None, refl, sym, ◌∙◌, ap, subst, arith, append_assoc}
-use Rattle.h2_show.proofs.Names.{append-nil, codes, Appends-trans, drop-cons, not-true, not-false}
+use Rattle.h2_show.proofs.Names.{append-nil, codes, Appends-trans, not-true, not-false}
 use Rattle.h2_show.proofs.Names.{nat_tests, common_steps, flat_map-append, take_rest}
 use Rattle.h2_show.proofs.Names.{take-append-drop, Appends, Reset, Settings, Ping, GoAway}
 use Rattle.h2_show.proofs.Names.{WindowUpdate, shown_octets, flag_word, pair_words, frame_words}
 use Rattle.h2_show.proofs.Names.{rules, Field}
-use Rattle.std.proofs.Common.{◌/◌, ◌%◌, get_or, position, suc, decimal, ◌*◌}
-use Rattle.std.proofs.lemmas.List.{drop_all, take_more, get_or-take}
+use Rattle.std.proofs.Common.{◌/◌, get_or, position, suc, decimal, ◌*◌}
+use Rattle.std.proofs.lemmas.List.{take_more, get_or-take}
 use Rattle.std.proofs.lemmas.List.Quantifiers.{position-Some}
 use Rattle.std.proofs.lemmas.List.Sums.{fails_before_first}
 use Rattle.std.proofs.lemmas.Fmt.{decimal_digit}
 use Rattle.std.proofs.lemmas.Option.{slice_get_within, get_or_from_slice_get}
 use Rattle.std.specs.List.{slice_get}
+use Rattle.hex.specs.Hex.{encode_lower}
 use Rattle.h2_frame.specs.Pairs.{pairs_of}
-use Rattle.h2_show.specs.Lines.{hex_digit, hex_octet, is_plain, shown_octet}
+use Rattle.h2_show.specs.Lines.{is_plain, shown_octet}
 use Rattle.h2_frame.proofs.PairLemmas.{length-pairs_in}
 
 -- whether an octet is escaped
@@ -25,13 +26,13 @@ is_escaped octet = not (is_plain octet)
 shown_as_it_is : (octet : ℕ) → is_escaped octet ≡ false → shown_octet octet ≡ octet ∷ []
 shown_as_it_is octet plain =
     let known : is_plain octet ≡ true = not-false (is_plain octet) plain in
-    ap (λ (b : Bool). if b then octet ∷ [] else 92 ∷ 120 ∷ hex_octet octet) known
+    ap (λ (b : Bool). if b then octet ∷ [] else 92 ∷ 120 ∷ encode_lower (octet ∷ [])) known
 
 shown_escaped : (octet : ℕ) → is_escaped octet ≡ true
-    → shown_octet octet ≡ 92 ∷ 120 ∷ hex_octet octet
+    → shown_octet octet ≡ 92 ∷ 120 ∷ encode_lower (octet ∷ [])
 shown_escaped octet escaped =
     let known : is_plain octet ≡ false = not-true (is_plain octet) escaped in
-    ap (λ (b : Bool). if b then octet ∷ [] else 92 ∷ 120 ∷ hex_octet octet) known
+    ap (λ (b : Bool). if b then octet ∷ [] else 92 ∷ 120 ∷ encode_lower (octet ∷ [])) known
 
 -- octets of which none is escaped
 shown_plain : (octets : List ℕ)
@@ -53,7 +54,7 @@ shown_first : (octets : List ℕ) (count : ℕ) → count < length octets
     → is_escaped (get_or octets count 0) ≡ true
     → ((k : ℕ) → k < count → is_escaped (get_or octets k 0) ≡ false)
     → shown_octets (take (count + 1) octets)
-    ≡ take count octets ++ (92 ∷ 120 ∷ hex_octet (get_or octets count 0))
+    ≡ take count octets ++ (92 ∷ 120 ∷ encode_lower (get_or octets count 0 ∷ []))
 shown_first octets count within escaped plain =
     let before : shown_octets (take count octets) ≡ take count octets =
     shown_plain (take count octets) (λ k lower.
@@ -69,7 +70,7 @@ pub text_step : (octets prefix rest : List ℕ) (count : ℕ) (escape : List ℕ
     → octets ≡ prefix ++ rest → Appends start before (shown_octets prefix)
     → position (λ octet. not (is_plain octet)) rest ≡ Some count
     → Appends before middle (take count rest)
-    → escape ≡ 92 ∷ 120 ∷ hex_octet (get_or rest count 0) → Appends middle after escape
+    → escape ≡ 92 ∷ 120 ∷ encode_lower (get_or rest count 0 ∷ []) → Appends middle after escape
     → (shown : List ℕ)
     × (octets ≡ shown ++ take (length rest - (count + 1)) (drop (count + 1) rest))
     × Appends start after (shown_octets shown)
@@ -95,43 +96,6 @@ pub text_end : (octets prefix rest : List ℕ) (start before after : Option (Lis
     → Appends start after (shown_octets octets)
 text_end octets prefix rest start before after joined shown none last =
     grind (arith, common_steps, shown_unescaped, flat_map-append, Appends-trans)
-
--- the next octet in hexadecimal, and those after it
-hexadecimal_from : (octets : List ℕ) (index : ℕ) → index < length octets
-    → flat_map hex_octet (drop index octets)
-    ≡ hex_digit (get_or octets index 0 / 16) ∷ hex_digit (get_or octets index 0 % 16)
-    ∷ flat_map hex_octet (drop (suc index) octets)
-hexadecimal_from octets index within = ap (flat_map hex_octet) (drop-cons _ _ 0 within)
-
--- eight octets in hexadecimal
-pub eight_in_hexadecimal : (octets : List ℕ) → length octets ≡ 8
-    → flat_map hex_octet octets
-    ≡ hex_digit (get_or octets 0 0 / 16) ∷ hex_digit (get_or octets 0 0 % 16)
-    ∷ hex_digit (get_or octets 1 0 / 16) ∷ hex_digit (get_or octets 1 0 % 16)
-    ∷ hex_digit (get_or octets 2 0 / 16) ∷ hex_digit (get_or octets 2 0 % 16)
-    ∷ hex_digit (get_or octets 3 0 / 16) ∷ hex_digit (get_or octets 3 0 % 16)
-    ∷ hex_digit (get_or octets 4 0 / 16) ∷ hex_digit (get_or octets 4 0 % 16)
-    ∷ hex_digit (get_or octets 5 0 / 16) ∷ hex_digit (get_or octets 5 0 % 16)
-    ∷ hex_digit (get_or octets 6 0 / 16) ∷ hex_digit (get_or octets 6 0 % 16)
-    ∷ hex_digit (get_or octets 7 0 / 16) ∷ hex_digit (get_or octets 7 0 % 16) ∷ []
-eight_in_hexadecimal octets size =
-    hexadecimal_from octets 0 (omega arith) ∙ ap (λ (rest : List ℕ).
-    hex_digit (get_or octets 0 0 / 16) ∷ hex_digit (get_or octets 0 0 % 16) ∷ rest) (
-    hexadecimal_from octets 1 (omega arith) ∙ ap (λ (rest : List ℕ).
-    hex_digit (get_or octets 1 0 / 16) ∷ hex_digit (get_or octets 1 0 % 16) ∷ rest) (
-    hexadecimal_from octets 2 (omega arith) ∙ ap (λ (rest : List ℕ).
-    hex_digit (get_or octets 2 0 / 16) ∷ hex_digit (get_or octets 2 0 % 16) ∷ rest) (
-    hexadecimal_from octets 3 (omega arith) ∙ ap (λ (rest : List ℕ).
-    hex_digit (get_or octets 3 0 / 16) ∷ hex_digit (get_or octets 3 0 % 16) ∷ rest) (
-    hexadecimal_from octets 4 (omega arith) ∙ ap (λ (rest : List ℕ).
-    hex_digit (get_or octets 4 0 / 16) ∷ hex_digit (get_or octets 4 0 % 16) ∷ rest) (
-    hexadecimal_from octets 5 (omega arith) ∙ ap (λ (rest : List ℕ).
-    hex_digit (get_or octets 5 0 / 16) ∷ hex_digit (get_or octets 5 0 % 16) ∷ rest) (
-    hexadecimal_from octets 6 (omega arith) ∙ ap (λ (rest : List ℕ).
-    hex_digit (get_or octets 6 0 / 16) ∷ hex_digit (get_or octets 6 0 % 16) ∷ rest) (
-    hexadecimal_from octets 7 (omega arith) ∙ ap (λ (rest : List ℕ).
-    hex_digit (get_or octets 7 0 / 16) ∷ hex_digit (get_or octets 7 0 % 16) ∷ rest) (
-    ap (flat_map hex_octet) (drop_all 8 octets (omega arith))))))))))
 
 -- the words of the frames whose lengths or streams are fixed
 
@@ -168,18 +132,18 @@ three_words : (name space stream count first second third : List ℕ)
 three_words name space stream count first second third = simp append_assoc
 
 pub ping_words : (ack : Bool) (octets : List ℕ)
-    → codes "PING 0 8" ++ (flag_word ack (codes "ack") ++ (codes " " ++ flat_map hex_octet octets))
+    → codes "PING 0 8" ++ (flag_word ack (codes "ack") ++ (codes " " ++ encode_lower octets))
     ≡ frame_words (Ping ack octets)
 unfolding frame_words
 ping_words ack octets =
     ap (λ (stream : List ℕ). codes "PING " ++ (stream ++ (codes " 8" ++ (flag_word ack (codes "ack")
-    ++ (codes " " ++ flat_map hex_octet octets)))))
+    ++ (codes " " ++ encode_lower octets)))))
     (sym (decimal_digit 0 (omega arith)))
     ∙ ap (λ (count : List ℕ). codes "PING " ++ (decimal 0 ++ (codes " " ++ (count
-    ++ (flag_word ack (codes "ack") ++ (codes " " ++ flat_map hex_octet octets))))))
+    ++ (flag_word ack (codes "ack") ++ (codes " " ++ encode_lower octets))))))
     (sym (decimal_digit 8 (omega arith)))
     ∙ sym (three_words (codes "PING") (codes " ") (decimal 0) (decimal 8)
-    (flag_word ack (codes "ack")) (codes " ") (flat_map hex_octet octets))
+    (flag_word ack (codes "ack")) (codes " ") (encode_lower octets))
 
 six_words : (name space stream count first second third fourth fifth sixth : List ℕ)
     → (name ++ space ++ stream ++ space ++ count) ++ first ++ second ++ third ++ fourth ++ fifth

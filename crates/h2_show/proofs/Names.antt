@@ -7,7 +7,7 @@ pub use Rattle.std.proofs.Common.{if◌then◌else◌, true, arith, not, inl, in
 pub use Rattle.std.proofs.Common.{length-append, ◌+◌, rules, ◌-◌, codes, MatchOption, ◌==◌, ◌<◌}
 pub use Rattle.std.proofs.Common.{◌≤◌, map, length-take, nat_le, ◌≢◌, IfSome, Result, Ok, Err, IfOk}
 pub use Rattle.std.proofs.KnownBytes.{Appends-trans, Consumes-trans, Consumes-whole, Appends-nil}
-pub use Rattle.std.proofs.Math.Seq.{take-append_seam, drop-cons, take-add}
+pub use Rattle.std.proofs.Math.Seq.{take-append_seam, take-add}
 pub use Rattle.std.proofs.lemmas.Bool.{not-true, not-false, cases_Bool, false≢true}
 pub use Rattle.std.proofs.lemmas.Bool.Decides.{nat_tests}
 pub use Rattle.std.proofs.lemmas.Grind.{flat_map-append, common_steps}

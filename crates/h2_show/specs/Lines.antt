@@ -1,10 +1,11 @@
 -- The lines of `h2 show`, as octets, in the style that no words choose otherwise: what README's tour
 -- and `h2 show --help` say in words.
-use Rattle.std.specs.Prelude.{ℕ, ◌+◌, ◌*◌, ◌/◌, ◌%◌, ◌==◌, nat_lt, nat_le, not, ◌&&◌, Bool}
+use Rattle.std.specs.Prelude.{ℕ, ◌+◌, ◌*◌, ◌==◌, nat_le, not, ◌&&◌, Bool}
 use Rattle.std.specs.Prelude.{true, false, if◌then◌else◌, List, [], ◌∷◌, ◌++◌, length, codes}
 use Rattle.std.specs.Prelude.{decimal}
 use Rattle.std.specs.Prelude.{flat_map, Option, Some, None}
 use Rattle.std.specs.Option.{is_some}
+use Rattle.hex.specs.Hex.{encode_lower}
 use Rattle.hpack.specs.declared.types.field.Field.{Field}
 use Rattle.h2_frame.specs.declared.code.Code.{Code}
 use Rattle.h2_frame.specs.Codes.{name_of}
@@ -12,16 +13,6 @@ use Rattle.h2_frame.specs.Frames.{Frame, Data, Headers, Priority, Reset, Setting
 use Rattle.h2_frame.specs.Frames.{WindowUpdate, Continuation, Unknown}
 use Rattle.h2_show.specs.ShownLines.{Listing, listed, too_large, ShowLine, preface_shown}
 use Rattle.h2_show.specs.ShownLines.{frame_shown, fault_shown, rest_shown, unfinished_shown}
-
--- a number below 16 as a hexadecimal digit
--- rule: show (own) The line of a field has its mark, its name and its value
-abbrev pub hex_digit : ℕ → ℕ
-hex_digit number = if nat_lt number 10 then 48 + number else 87 + number
-
--- an octet as two hexadecimal digits
--- rule: show (own) The line of a field has its mark, its name and its value
-abbrev pub hex_octet : ℕ → List ℕ
-hex_octet octet = hex_digit (octet / 16) ∷ hex_digit (octet % 16) ∷ []
 
 -- whether an octet is shown unescaped: printable ASCII, but for the backslash
 -- rule: show (own) The line of a field has its mark, its name and its value
@@ -31,7 +22,7 @@ is_plain octet = nat_le 32 octet && nat_le octet 126 && not (octet == 92)
 -- an octet as it is, or as `\x` and two hexadecimal digits
 -- rule: show (own) The line of a field has its mark, its name and its value
 abbrev pub shown_octet : ℕ → List ℕ
-shown_octet octet = if is_plain octet then octet ∷ [] else 92 ∷ 120 ∷ hex_octet octet
+shown_octet octet = if is_plain octet then octet ∷ [] else 92 ∷ 120 ∷ encode_lower (octet ∷ [])
 
 -- rule: show (own) The line of a field has its mark, its name and its value
 abbrev pub shown_octets : List ℕ → List ℕ
@@ -101,7 +92,7 @@ frame_words (Settings ack pairs) =
     ++ pair_words pairs
 frame_words (Ping ack octets) =
     frame_head (codes "PING") 0 8 ++ flag_word ack (codes "ack") ++ codes " "
-    ++ flat_map hex_octet octets
+    ++ encode_lower octets
 frame_words (GoAway last code debug) =
     frame_head (codes "GOAWAY") 0 (8 + length debug) ++ codes " last=" ++ decimal last
     ++ codes " code=" ++ decimal code ++ codes " debug=" ++ decimal (length debug)

@@ -3,7 +3,8 @@
 //!
 //! [`show_input`] reads from any reader and prints to any writer, so tests run it in memory.
 //! A [`Viewer`] shows one stream, piece by piece. A [`Style`] says how the lines are printed.
-//! [`write_field`] prints a field for other commands too, and [`write_text`] a name or a value.
+//! [`write_field`] prints a field for other commands too, and [`write_text`] a name or a value;
+//! [`hexadecimal_of`] gives the digits of a PING.
 //! What these share besides is in `h2_cli`.
 #![tactic(auto)]
 
@@ -21,7 +22,7 @@ mod viewer;
 pub use blocks::BlockError;
 pub use h2_cli::{Failure, Status};
 pub use hint::Hint;
-pub use lines::{write_field, write_text};
+pub use lines::{hexadecimal_of, write_field, write_text};
 pub use naming::{code_name, setting_name};
 pub use options::{ShowOptions, Side, Style, TextStyle};
 pub use show::{Lent, Shown, show_input};

@@ -5,12 +5,12 @@ ghost use Rattle.std.specs.Prelude.{Some};
 ghost use Rattle.std.specs.Prelude.{flat_map, if◌then◌else◌, OnOk};
 ghost use Rattle.std.specs.Fmt.{WritesOnOk};
 ghost use Rattle.std.specs.Io.KnownBytes.{Appends};
+ghost use Rattle.hex.specs.Hex.{encode_lower};
 ghost use Rattle.h2_frame.specs.Frames.{frame_of, Data, Headers, Reset, Settings, Ping, GoAway};
 ghost use Rattle.h2_frame.specs.Frames.{WindowUpdate, Continuation, Unknown};
 ghost use Rattle.h2_frame.specs.Pairs.{lent_pairs};
 ghost use Rattle.h2_show.specs.Lines.{frame_line, frame_words, flag_word, pad_word, pad_octets};
-ghost use Rattle.h2_show.specs.Lines.{hex_octet};
-ghost use Rattle.h2_show.specs.Lines.{hex_digit, is_plain as plain, shown_octet, shown_octets};
+ghost use Rattle.h2_show.specs.Lines.{is_plain as plain, shown_octets};
 ghost use Rattle.h2_show.specs.Lines.{field_line};
 ghost use Rattle.hpack.specs.FieldLists.{field_lent};
 ghost use Rattle.h2_show.specs.Lines.{listing_lines};
@@ -120,7 +120,7 @@ impl fmt::Display for Pad {
 struct Hexadecimal([u8; 8]);
 
 impl fmt::Display for Hexadecimal {
-    ghost output = { λ octets. Some (flat_map hex_octet octets.0) };
+    ghost output = { λ octets. Some (encode_lower octets.0) };
 
     fn fmt<W: fmt::Write>(&self, f: &mut fmt::Formatter<W>) -> fmt::Result {
         match str::from_utf8(&hexadecimal_of(self.0)) {
@@ -131,29 +131,13 @@ impl fmt::Display for Hexadecimal {
     }
 }
 
-/// The digits of octets in hexadecimal.
-fn hexadecimal_of(octets: [u8; 8]) -> [u8; 16]
-    ensures { result ≡ flat_map hex_octet octets }
+/// The digits of a PING's octets in hexadecimal, two an octet.
+pub fn hexadecimal_of(octets: [u8; 8]) -> [u8; 16]
+    ensures { result ≡ encode_lower octets }
 {
-    let [a, b, c, d, e, f, g, h] = octets;
-    [
-        digit(a / 16),
-        digit(a % 16),
-        digit(b / 16),
-        digit(b % 16),
-        digit(c / 16),
-        digit(c % 16),
-        digit(d / 16),
-        digit(d % 16),
-        digit(e / 16),
-        digit(e % 16),
-        digit(f / 16),
-        digit(f % 16),
-        digit(g / 16),
-        digit(g % 16),
-        digit(h / 16),
-        digit(h % 16),
-    ]
+    let mut digits = [0; 16];
+    hex::encode_to_slice(octets, &mut digits).unwrap();
+    digits
 }
 
 // rule: show (own) The line of a frame has its type, stream, octets and more
@@ -429,19 +413,9 @@ fn is_plain(octet: u8) -> bool
 
 // An octet as `\x` and two hexadecimal digits.
 fn escaped(octet: u8) -> [u8; 4]
-    ensures { result ≡ 92 ∷ 120 ∷ hex_octet octet }
+    ensures { result ≡ 92 ∷ 120 ∷ encode_lower (octet ∷ []) }
 {
-    [b'\\', b'x', digit(octet / 16), digit(octet % 16)]
-}
-
-// A number as a hexadecimal digit.
-fn digit(number: u8) -> u8
-    requires { number < 16 }
-    ensures { result ≡ hex_digit number }
-{
-    if number < 10 {
-        b'0' + number
-    } else {
-        b'a' + (number - 10)
-    }
+    let mut escape = *b"\\x00";
+    hex::encode_to_slice([octet], &mut escape[2..]).unwrap();
+    escape
 }

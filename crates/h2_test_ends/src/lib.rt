@@ -4,9 +4,9 @@
 //! - `engines`: refused allocations, `Debug`, and a list of acts that is run.
 //! - `laws`: that each law can be called. `texts`: what refusals and faults say. `uses`: that the
 //!   README's programs run. `calling`: the callers that each CALLING.md quotes.
+//! - `parts`: programs whose messages go in parts, with bodies of 8 MiB.
 //!
-//! They stand in one crate without code of its own, so that the gate proves the crates that they
-//! test once for all of them. Ends that are driven at random are cases: `bench/drive` makes them.
+//! Ends that are driven at random are cases: `fuzz/drive` makes them.
 #![tactic(auto)]
 
 #[cfg(test)]
@@ -15,6 +15,8 @@ mod calling;
 mod engines;
 #[cfg(test)]
 mod laws;
+#[cfg(test)]
+mod parts;
 #[cfg(test)]
 mod texts;
 #[cfg(test)]

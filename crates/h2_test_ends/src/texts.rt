@@ -113,5 +113,5 @@ fn faults_have_their_texts(rt: HostRuntime) {
             "the connection has failed: PROTOCOL_ERROR"
         )
     );
-    assert!(rt; is_printed(rt.alloc(), &LinkFault, "a read or a write failed"));
+    assert!(rt; is_printed(rt.alloc(), &LinkFault, "a read or a write has failed"));
 }

@@ -1,12 +1,15 @@
-//! Tests of a host, with a party that counts octets, and of times and budgets.
+//! Tests of hosts, handlers and responses that a handler hears.
 //!
-//! - `till`: the party. `hosts`: each call of a host on its way, and what it refuses. `times`: what
-//!   is late and what a flood is.
+//! - `host`: a host and its times, with a party that counts octets. `hosting`: what a host serves,
+//!   without sockets.
+//! - `serve`: handlers that serve over a link in memory. `receive`: responses that a handler hears.
 #![tactic(auto)]
 
 #[cfg(test)]
-mod hosts;
+mod host;
 #[cfg(test)]
-mod till;
+mod hosting;
 #[cfg(test)]
-mod times;
+mod receive;
+#[cfg(test)]
+mod serve;

@@ -1,5 +1,5 @@
-//! A scenario that ignores that memory was refused. It passes with ample memory, and `bench/scarce`
-//! wants it to fail where the one allocation that it makes is refused.
+//! A scenario that ignores that memory was refused. It passes with ample memory, and
+//! `faults/scarce` wants it to fail where the one allocation that it makes is refused.
 
 use crate::record::{Record, Scenario, holds};
 use h2_frame::{FrameRef, write_ref};

@@ -1,7 +1,7 @@
 //! Tests of refused memory: scenarios that make each call again that was refused it.
 //!
 //! Each test runs a scenario twice. The first run has ample memory; of the second, which stands
-//! between two marks, `bench/scarce` refuses one allocation, another one each time the test is
+//! between two marks, `faults/scarce` refuses one allocation, another one each time the test is
 //! run. A call that is refused memory has changed nothing that can be read, and is made again; a
 //! connection that has failed for it ends with GOAWAY. All other answers, and the octets that are
 //! put out, are those of the first run, or the first of them. In the gate nothing is refused, and
@@ -15,7 +15,7 @@
 //! - `writers`, `coders`, `frames`: the layers below.
 //! - `promises`: what takes no memory, with all allocations refused: a cutter, a gatherer and a
 //!   writer, `h2_flow`, and a connection that takes frames which need none.
-//! - `ignoring`: a scenario that ignores a refusal, by which `bench/scarce` tests itself.
+//! - `ignoring`: a scenario that ignores a refusal, by which `faults/scarce` tests itself.
 #![tactic(auto)]
 
 #[cfg(test)]

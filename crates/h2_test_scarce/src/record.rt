@@ -3,7 +3,7 @@
 use h2_ends::EndRefusal;
 use std::alloc::{AllocError, Global};
 
-/// Allocations of these numbers of octets are marks. `bench/scarce.c` refuses none of them: those
+/// Allocations of these numbers of octets are marks. `faults/scarce.c` refuses none of them: those
 /// after `BEGIN` count, or are all refused after `ALL`, until `END`; `AGAIN` says that a call was
 /// refused memory and is made again, `FAILED` that a connection or a decoder has failed for it.
 const BEGIN: usize = 7_919;

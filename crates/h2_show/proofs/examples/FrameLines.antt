@@ -2,6 +2,7 @@
 use Rattle.h2_show.proofs.Names.{◌≡◌, List, ℕ, [], ◌∷◌, true, false, Some, None, codes, refl, Reset}
 use Rattle.h2_show.proofs.Names.{Settings, Ping, GoAway, WindowUpdate, frame_line, frame_words}
 use Rattle.std.specs.Fmt.{digits}
+use Rattle.hex.specs.Hex.{encode_with}
 use Rattle.h2_frame.specs.Frames.{Data, Headers, Priority, Continuation, Unknown}
 
 -- four octets
@@ -66,12 +67,12 @@ settings_three = refl
 
 ping : frame_line (Ping false (255 ∷ 160 ∷ 2 ∷ 3 ∷ 4 ∷ 5 ∷ 6 ∷ 7 ∷ []))
     ≡ codes "PING 0 8 ffa0020304050607\n"
-unfolding frame_words digits
+unfolding frame_words digits encode_with
 ping = refl
 
 ping_acknowledged : frame_line (Ping true (0 ∷ 1 ∷ 2 ∷ 3 ∷ 4 ∷ 5 ∷ 6 ∷ 7 ∷ []))
     ≡ codes "PING 0 8 ack 0001020304050607\n"
-unfolding frame_words digits
+unfolding frame_words digits encode_with
 ping_acknowledged = refl
 
 goaway : frame_line (GoAway 3 0 []) ≡ codes "GOAWAY 0 8 last=3 code=0 debug=0\n"

@@ -5,6 +5,7 @@ use Rattle.h2_show.proofs.Names.{preface, field_line, listing_lines, fault_line,
 use Rattle.h2_show.proofs.Names.{unfinished_line, end_lines, preface_lines, preface_shown, rest_shown, listing_of}
 use Rattle.h2_show.proofs.Names.{unfinished_shown, Some}
 use Rattle.std.specs.Fmt.{digits}
+use Rattle.hex.specs.Hex.{encode_with}
 use Rattle.h2_show.specs.ShownLines.{listed, too_large}
 use Rattle.h2_frame.specs.declared.code.Code.TheVariants.{FrameSizeError, EnhanceYourCalm}
 
@@ -23,6 +24,7 @@ escaped_field : field_line (record {
   value = 0x1f ∷ 0x20 ∷ 0x7e ∷ 0x80 ∷ [];
   sensitive = false;
 }) ≡ codes "  \\x00\\x5c\\x7f\\xff: \\x1f ~\\x80\n"
+unfolding encode_with
 escaped_field = refl
 
 two_fields : listing_lines (Some (listing_of (record { name = codes "a"; value = codes "b"; sensitive = false }

@@ -1,8 +1,0 @@
-//! Tests of `h2 get` over links: a response that is printed as it comes, and frames that are shown.
-//!
-//! They stand in a crate of their own, so that the gate proves those libraries once for them, and
-//! not once more with their tests. The crate has nothing else.
-#![tactic(auto)]
-
-#[cfg(test)]
-mod tests;
