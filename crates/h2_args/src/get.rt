@@ -211,7 +211,7 @@ Exit status (lines in backquotes go to standard error):
      above
   2  invalid arguments, or a URL that cannot be fetched
      `N7 Refused`: the request is malformed, or its fields are too large
-  3  `N1 Device`: the connection cannot be made, a read or a write has failed (also
+  3  `N1 Device`: the connection cannot be made, a read or a write failed (also
      of the files of --data and --output, which a hint names), or the time is
      over (`hint: timed out`)
      `N5 NoProgress`: a write accepted no octets

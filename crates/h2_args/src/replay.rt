@@ -114,7 +114,7 @@ Exit status (lines in backquotes go to standard error):
   1  a fault
   2  invalid arguments; or `bad hex`: the input is not hexadecimal text, and
      none of it is used
-  3  `N1 Device`: a read or a write has failed
+  3  `N1 Device`: a read or a write failed
   4  `N3 Memory`: out of memory
 
 A hint may follow on standard error. It is meant for people; the exit status

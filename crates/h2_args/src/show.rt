@@ -237,7 +237,7 @@ Exit status (lines in backquotes go to standard error):
   2  invalid arguments; or `bad hex`: the input is not hexadecimal text, and
      none of it is shown, or, with --follow, a line is not tshark's, and nothing
      after it is shown
-  3  `N1 Device`: a read or a write has failed, or the file cannot be opened
+  3  `N1 Device`: a read or a write failed, or the file cannot be opened
   4  `N3 Memory`: out of memory
 
 A hint may follow on standard error. It is meant for people; the exit status

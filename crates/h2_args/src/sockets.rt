@@ -119,7 +119,7 @@ served. Exit status, that of the first such connection, with its line:
      `N4 CutOff`: it ended inside the preface or a frame, or while a stream was
      active
   2  invalid arguments
-  3  `N1 Device`: the port is not available, or a read or a write has failed
+  3  `N1 Device`: the port is not available, or a read or a write failed
      `N5 NoProgress`: a write accepted no octets
   4  `N3 Memory`: out of memory
 
@@ -146,7 +146,7 @@ Exit status, with the line on standard error unless it is 0:
   1  `N4 CutOff`: the response is incomplete, and neither side writes any more
      `N2 Stream CODE` and `N6 Reset CODE`: as for `h2 get`
   2  invalid arguments
-  3  `N1 Device`: the connection cannot be made, or a read or a write has failed
+  3  `N1 Device`: the connection cannot be made, or a read or a write failed
      `N5 NoProgress`: one side cannot go on
   4  `N3 Memory`: out of memory
 
