@@ -4,7 +4,8 @@
 #     make install PREFIX=/usr/local DESTDIR=
 #     make shared install-shared        the same octets as a shared library, for Python and others
 #     make examples                     out/clib/server and client, of examples/c
-#     make check                        tries the library and the examples: examples/c/try
+#     make check                        tries the library and the examples: examples/c/try; and
+#                                       writes .ci/make-check.stamp, of the code that was tried
 #     make ARCHIVE=some/libbelkjoef.a   any of these over an archive that is there, with no proof
 #
 # What it installs is one object: the crates' code and the toolchain's C parts that it needs, of
@@ -85,8 +86,15 @@ examples: $(OUT)/server $(OUT)/client
 $(OUT)/%: examples/c/%.c examples/c/common.h $(CRATE)/belkjoef.h $(LIBRARY)
 	$(CC) $(STRICT) $(CFLAGS) -I $(CRATE) -o $@ $< $(LIBRARY)
 
+# An archive that was there may be of other code.
+ifeq ($(ARCHIVE),$(CRATE)/out/libbelkjoef.a)
+STAMP = .ci/stamps.py --make-check $(LIBRARY)
+else
+STAMP = echo "no stamp: $(ARCHIVE) may be of other code"
+endif
 check: all
 	examples/c/try $(OUT)
+	@if command -v python3 > /dev/null; then $(STAMP); else echo "no stamp: no python3"; fi
 
 clean:
 	rm -rf $(OUT)
