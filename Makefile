@@ -34,9 +34,11 @@ all: $(LIBRARY) $(OUT)/belkjoef.pc
 shared: $(OUT)/libbelkjoef.so.$(VERSION)
 
 ifdef ARCHIVE
+STAMP = echo "no stamp: $(ARCHIVE) was there, and may be of other code"
 $(LIBRARY): $(ARCHIVE)
 else
 ARCHIVE = $(CRATE)/out/libbelkjoef.a
+STAMP = .ci/stamps.py --make-check $(LIBRARY)
 $(LIBRARY): PROVE = (cd $(CRATE) && rt lib)
 $(LIBRARY): $(wildcard crates.txt crates/*/src/*.rt crates/*/src/*/*.rt crates/*/specs/*.antt)
 endif
@@ -86,12 +88,6 @@ examples: $(OUT)/server $(OUT)/client
 $(OUT)/%: examples/c/%.c examples/c/common.h $(CRATE)/belkjoef.h $(LIBRARY)
 	$(CC) $(STRICT) $(CFLAGS) -I $(CRATE) -o $@ $< $(LIBRARY)
 
-# An archive that was there may be of other code.
-ifeq ($(ARCHIVE),$(CRATE)/out/libbelkjoef.a)
-STAMP = .ci/stamps.py --make-check $(LIBRARY)
-else
-STAMP = echo "no stamp: $(ARCHIVE) may be of other code"
-endif
 check: all
 	examples/c/try $(OUT)
 	@if command -v python3 > /dev/null; then $(STAMP); else echo "no stamp: no python3"; fi
