@@ -4,7 +4,8 @@
 #     make install PREFIX=/usr/local DESTDIR=
 #     make shared install-shared        the same octets as a shared library, for Python and others
 #     make examples                     out/clib/server and client, of examples/c
-#     make check                        tries the library and the examples: examples/c/try
+#     make check                        tries the library and the examples: examples/c/try; and
+#                                       writes .ci/make-check.stamp, of the code that was tried
 #     make ARCHIVE=some/libbelkjoef.a   any of these over an archive that is there, with no proof
 #
 # What it installs is one object: the crates' code and the toolchain's C parts that it needs, of
@@ -33,9 +34,11 @@ all: $(LIBRARY) $(OUT)/belkjoef.pc
 shared: $(OUT)/libbelkjoef.so.$(VERSION)
 
 ifdef ARCHIVE
+STAMP = echo "no stamp: $(ARCHIVE) was there, and may be of other code"
 $(LIBRARY): $(ARCHIVE)
 else
 ARCHIVE = $(CRATE)/out/libbelkjoef.a
+STAMP = .ci/stamps.py --make-check $(LIBRARY)
 $(LIBRARY): PROVE = (cd $(CRATE) && rt lib)
 $(LIBRARY): $(wildcard crates.txt crates/*/src/*.rt crates/*/src/*/*.rt crates/*/specs/*.antt)
 endif
@@ -87,6 +90,7 @@ $(OUT)/%: examples/c/%.c examples/c/common.h $(CRATE)/belkjoef.h $(LIBRARY)
 
 check: all
 	examples/c/try $(OUT)
+	@if command -v python3 > /dev/null; then $(STAMP); else echo "no stamp: no python3"; fi
 
 clean:
 	rm -rf $(OUT)

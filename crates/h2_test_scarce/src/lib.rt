@@ -4,8 +4,8 @@
 //! between two marks, `faults/scarce` refuses one allocation, another one each time the test is
 //! run. A call that is refused memory has changed nothing that can be read, and is made again; a
 //! connection that has failed for it ends with GOAWAY. All other answers, and the octets that are
-//! put out, are those of the first run, or the first of them. In the gate nothing is refused, and
-//! both runs are the same.
+//! put out, are those of the first run, or the first of them. `rt ci` refuses nothing, so its two
+//! runs are the same; `faults/scarce --gate`, which the gate runs after it, refuses each in turn.
 //!
 //! - `record`: what a run has shown, and the marks. `lists`: messages and fields.
 //! - `end`, `call`, `walk`: a connection, a client or a server, the calls of it, and lists of them.
