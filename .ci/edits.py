@@ -27,14 +27,16 @@ def pairs_of(text):
             if os.path.normpath(file) != file or not file.startswith(tuple(f"{it}/" for it in PARTS)):
                 raise Unusable("a 'file:' line names no file below src/, specs/ or proofs/")
         elif line.startswith("old: "):
+            if old is not None:
+                raise Unusable("an 'old:' line has no 'new:' line")
             old = line[len("old: ") :]
         elif line.startswith("new:"):
             if not file or not old:
                 raise Unusable("a 'new:' line stands before any 'file:' or 'old:' line")
             found.append((file, old, re.sub(r"\A ", "", line[len("new:") :])))
             old = None
-    if not found:
-        raise Unusable("it has no 'old:' and 'new:' pair")
+    if not found or old is not None:
+        raise Unusable("it has no 'old:' and 'new:' pair" if not found else "an 'old:' line has no 'new:' line")
     return found
 
 
