@@ -2,12 +2,11 @@
 import os
 import re
 
-import edits
-
 MODS = r"(?:(?:pub|abbrev|unfoldable|opaque|data|record|axiom|ruleset) )*"
 # A line that begins an item: words such as `pub`, and then its names, a colon, parameters or `where`.
 HEAD = re.compile(rf"( *)({MODS})((?:[^\s:(){{}}\[\],;]+ )*?[^\s:(){{}}\[\],;]+) ?(?::(?=\s|$)|[({{]|where$)")
 SECTION = re.compile(r" *(?:pub )?(?:module|package|mutual)\b")
+LOOSE = re.compile(r"(?:pub )?(?:infix[lr]?|open|mod|deriving) ")
 USE = re.compile(r" *((?:unfoldable |pub )*)use ")
 WORD = re.compile(r"[^\s(){}\[\],;λ⟦⟧⌜⌝«»\"@|\\]+")
 # What a name stands for: an item of a file, by its module and its number there; a module; something of src/, by its
@@ -37,10 +36,15 @@ def uses_of(text):
             yield (alias.strip() or name), path + tuple(name.split(".")), words
 
 
+def bare(text):
+    """Returns the text of a file without blank lines and lines that are comments."""
+    return "\n".join(it for it in text.split("\n") if it.strip() and not re.match(r"\s*--(?=[\s-]|$)", it))
+
+
 def blocks_of(text):
     """Returns the blocks of a file: each begins at a line without an indent."""
     found = []
-    for line in edits.without_comments(text).split("\n"):
+    for line in bare(text).split("\n"):
         if line[:1].strip() or not found:
             found.append([line])
         else:
@@ -71,37 +75,50 @@ def names_of(block):
     return names
 
 
+def is_operator(name):
+    """Returns whether a name may be used without standing there as a word."""
+    return "◌" in name or WORD.findall(name) != [name]
+
+
 class File:
     """A file of specs/ or proofs/: its items, what each name of it stands for, and what its `use` lines bring in."""
 
     def __init__(self, module, text):
         self.module, self.items, self.own, self.uses = module, [], {}, {}
-        self.loose = []
-        blocks = blocks_of(text)
+        # What stands before all items, or counts for all: how operators bind, for one.
+        # A comment between marks may hold items, so that a file with one counts as a whole.
+        self.loose = [text] if "{-" in text else []
+        blocks, texts, self.operators = blocks_of(text), [], []
         given = {name for block in blocks for name in heads(block)}
-        texts, at, before = [], None, []
-        for block in blocks:
-            first = block[0].split(" ")[0]
+        at, following = None, ""
+        for block in reversed(blocks):
+            # (an `unfolding` line is of the clause after it, and of the item before it)
+            following = block[0].split(" ")[0] if not block[0].startswith("unfolding ") else following
+            block.insert(0, following)
+        for following, *block in blocks:
             if USE.match(block[0]):
                 for name, path, words in uses_of(" ".join(block)):
                     self.uses.setdefault(name, []).append((path, words))
-            elif re.match(r"(pub )?mod ", block[0]):
-                continue
             elif SECTION.match(block[0]) or heads(block):
                 at = len(texts)
                 texts.append(["\n".join(block)])
                 for name in names_of(block):
                     self.own.setdefault(name, []).append(at)
-                before = [it for name in heads(block) if "◌" in name for it in [at]] + before
+                self.operators += [at] if any("◌" in it for it in heads(block)) else []
+            elif at is None or LOOSE.match(block[0]):
+                self.loose += ["\n".join(block)] * (not re.match(r"(pub )?mod |$", block[0]))
             else:
-                # A clause goes to the item that it names, and else to the one before it, and to all operators.
-                to = self.own[first] if first in given and first in self.own else [at, *before]
-                for it in {it for it in to if it is not None}:
-                    texts[it].append("\n".join(block))
-                if at is None or first in given and first not in self.own:
-                    self.loose.append("\n".join(block))
+                self.give(block, following, given, at, texts)
         self.items = [Item("\n".join(it + self.loose)) for it in texts]
-        self.operators = [name for name in (*self.own, *self.uses) if "◌" in name]
+        self.operators = [name for name in (*self.own, *self.uses) if is_operator(name)]
+
+    def give(self, block, following, given, at, texts):
+        """Gives a clause to the item that it names, and else to the one before it, and to all operators before it."""
+        to = {at, *self.operators}
+        if following in given and following in self.own:
+            to = {*self.own[following]} | ({at} if block[0].startswith("unfolding ") else set())
+        for it in to:
+            texts[it].append("\n".join(block))
 
 
 class Index:
@@ -174,6 +191,8 @@ class Index:
             first, *rest = word.split(".")
             if first in own:
                 found[first] = [(ITEM, around, it) for it in own[first]]
+            elif first == "Rattle":
+                found[word] = list(self.path(tuple(it for it in word.split(".") if it)))
             for path, flags in uses.get(first, ()):
                 known, name = self.path(path, around), first
                 if rest and rest[0] and any(it[0] != ITEM for it in known):
@@ -186,4 +205,6 @@ class Index:
     def deps(self, module, number):
         """Returns what the names in an item stand for."""
         file = self.file(module)
+        if any(re.match(r"(?:pub )?open ", it) for it in file.loose):
+            return {"open": [(UNKNOWN, "open")]}
         return self.names_in(file.items[number].words | set(file.operators), file.uses, file.own, module)

@@ -1,4 +1,4 @@
-"""What grounds.py reads of src/: functions, types, traits, impls and constants, and what the names in them stand for."""
+"""What grounds.py reads of src/: functions, types, traits, impls and constants, and what `use` lines bring in."""
 import os
 import re
 
@@ -6,13 +6,15 @@ import edits
 import ground_antt
 
 # Comments, and texts and characters, in which nothing is a comment.
-TEXTS = r'b?r(?P<mark>#*)".*?"(?P=mark)|b?"(?:\\.|[^"\\])*"|(?<!\w)b?\'(?:\\[^\']*|[^\\\'])\'|b\'(?:\\[^\']*|[^\\\'])\''
+ONE = r"(?:\\.[^']*|[^\\'])'"
+TEXTS = rf"""b?r(?P<mark>#*)".*?"(?P=mark)|b?"(?:\\.|[^"\\])*"|(?<!\w)b?'{ONE}|b'{ONE}"""
 LEXEME = re.compile(rf"(?://[^\n]*|/\*.*?\*/|\s)+|(?P<text>{TEXTS})", re.S)
 NAME = re.compile(r"[^\W\d]\w*")
 KIND = re.compile(
     r"(?:pub(?:\([^)]*\))? )?(?:unsafe |default |const (?=fn|unsafe|extern)|extern \"C\" |extern (?=fn))*"
-    r"(fn|struct|enum|union|trait|impl|const|static|type|mod|use|macro_rules!|ghost use|extern)\b"
+    r"(fn|struct|enum|union|trait|impl|const|static|type|mod|use|macro_rules!|ghost use|extern|\w+!)(?!\w)"
 )
+DECLARED = re.compile(r"\b(?:fn|struct|enum|union|trait|const|static|type|macro_rules!) +(\w+)")
 ATTRIBUTE = re.compile(r"\s*#!?\[")
 CONTRACT = re.compile(r"^ *(?:requires|ensures|ghost)\b", re.M)
 
@@ -20,6 +22,24 @@ CONTRACT = re.compile(r"^ *(?:requires|ensures|ghost)\b", re.M)
 def bare(text):
     """Returns a text of src/ without comments and layout; what stands in quotes stays as it is."""
     return LEXEME.sub(lambda it: it["text"] or " ", text).strip()
+
+
+def without_blocks(text):
+    """Returns a text with blanks in place of comments between `/*` and `*/`, which may hold items and one another."""
+    code, mark = re.compile(rf"/\*|//[^\n]*|{TEXTS}", re.S), re.compile(r"/\*|\*/")
+    at, depth, begins = 0, 0, 0
+    while "/*" in text:
+        it = (mark if depth else code).search(text, at)
+        if not it:
+            break
+        at = it.end()
+        if it[0] == "/*":
+            begins, depth = begins if depth else it.start(), depth + 1
+        elif it[0] == "*/" and depth:
+            depth -= 1
+            if not depth:
+                text = text[:begins] + re.sub(r"[^\n]", " ", text[begins:at]) + text[at:]
+    return text
 
 
 class Part:
@@ -30,12 +50,24 @@ class Part:
         self.kind, self.name, self.file, self.head = kind, name, file, head
         self.text, self.promise = bare(text), bare(text if promise is None else promise)
         self.key, self.owner, self.members, self.consts, self.ghosts = "", "", (), (), {}
+        if kind == "fn" and re.match(r"(?:#\[[^\]]*\] )*(?:pub(?:\([^)]*\))? )?const ", self.promise):
+            self.promise = self.text
+        # What holds other items, or makes them, stands for each name that is declared in it, and else in it.
+        if kind == "extern" or kind == "mod" and "{" in self.text:
+            self.kind, self.consts = "several", DECLARED.findall(self.text)
+        elif kind.endswith("!") and kind != "macro_rules!":
+            self.kind, self.consts = "several", NAME.findall(self.text)
 
 
-def ends_of(lines):
+def starts_of(text):
     """Returns the numbers of the lines at which the items without an indent begin, attributes included."""
-    starts, held = [], None
+    starts, held, lines, quoted = [], None, text.split("\n"), set()
+    for it in LEXEME.finditer(text):
+        if it["text"] and "\n" in it["text"]:
+            quoted |= set(range(text[: it.start()].count("\n") + 1, text[: it.end()].count("\n") + 1))
     for at, line in enumerate(lines):
+        if at in quoted:
+            continue
         if ATTRIBUTE.match(line) and line[:1] == "#" and not line.startswith("#!"):
             held = at if held is None else held
         elif KIND.match(line):
@@ -83,7 +115,7 @@ class File:
         self.crate, self.file, self.module = crate, file, edits.module_of(crate, file)
         self.lines, self.parts, self.uses, self.given = text.split("\n"), [], {}, {}
         self.functions = edits.functions_of(text)
-        starts = ends_of(self.lines)
+        starts = starts_of(text)
         self.attributes = " ".join(bare(it) for it in self.lines if it.startswith("#!["))
         self.imports = []
         for first, end in zip(starts, [*starts[1:], len(self.lines)]):
@@ -113,10 +145,12 @@ class File:
 
     def add_functions(self, kind, name, first, end):
         inner = [it for it in self.functions if first <= it.first < end]
-        promised = [it for at, it in enumerate(self.lines[first:end], first) if not any(f.body <= at < f.end for f in inner)]
+        bodies = {at for it in inner for at in range(it.body, it.end)}
+        inside = {at for it in inner for at in range(it.first, it.end)}
+        promised = [self.lines[at] for at in range(first, end) if at not in bodies]
+        outer = "\n".join(self.lines[at] for at in range(first, end) if at not in inside)
         whole = Part(kind, name, self, "\n".join(self.lines[first:end]), "\n".join(promised))
         opens = next((it for it in range(first, end) if re.search(r"\{\s*$|\{\}$", self.lines[it])), first)
-        outer = "\n".join(it for at, it in enumerate(self.lines[first:end], first) if not self.is_inside(inner, at))
         if kind != "fn":
             whole.members = [it.name.split("::")[-1] for it in inner]
             whole.owner, whole.head = bare("\n".join(self.lines[first : opens + 1])), bare(outer)
@@ -127,17 +161,15 @@ class File:
             self.parts.append(whole)
         for it in inner:
             begins = it.first
-            while kind != "fn" and begins > first + 1 and re.match(r" +(#\[|//|\)\]|[^\n]*\)\]$)", self.lines[begins - 1]):
+            above = re.compile(r" +(#\[|//|\)\]|[^\n]*\)\]$)")
+            while kind != "fn" and begins > first + 1 and above.match(self.lines[begins - 1]):
                 begins -= 1
             begins = first if kind == "fn" else begins
             text, promise = self.lines[begins : it.end], self.lines[begins : it.body]
             part = Part("fn", it.name.split("::")[-1], self, "\n".join(text), "\n".join(promise), whole.head)
             part.key, part.owner = f"{self.module}::{it.name}", whole.owner if kind != "fn" else ""
-            part.ghosts = whole.ghosts if kind != "fn" else {}
+            part.ghosts, part.holder = (whole.ghosts if kind != "fn" else {}), (name if kind == "trait" else "")
             self.parts.append(part)
-
-    def is_inside(self, functions, at):
-        return any(it.first <= at < it.end for it in functions)
 
 
 class Index:
@@ -153,4 +185,4 @@ class Index:
                     file = os.path.relpath(f"{at}/{name}", top)
                     if not re.match(r"src/tests(/|\.rt)", file):
                         with open(f"{at}/{name}", encoding="utf-8") as it:
-                            self.files[crate].append(File(crate, file, it.read()))
+                            self.files[crate].append(File(crate, file, without_blocks(it.read())))

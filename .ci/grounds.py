@@ -16,7 +16,6 @@ import ground_code
 from ground_antt import CODE, ITEM, KIT, MODULE, UNKNOWN
 
 TYPES = ("struct", "enum", "union", "type")
-GENERATED = {"Met": "promise", "Spec": "promise", "Statement": "promise"}
 
 
 def sum_of(texts):
@@ -36,7 +35,8 @@ def rows_of(root):
 class Scope:
     """What a crate sees: itself and the crates below it, with their parts by name."""
 
-    def __init__(self, code, crates):
+    def __init__(self, code, crates, rows):
+        self.inside, self.row = set(crates), [rows[it] for it in crates]
         self.crates, self.names, self.functions, self.given, self.traits = crates, {}, {}, {}, {}
         for file in (it for crate in crates for it in code.files[crate]):
             for alias, paths in file.given.items():
@@ -45,7 +45,7 @@ class Scope:
                 self.add(part)
 
     def add(self, part):
-        for name in part.consts if part.kind == "impl" else ():
+        for name in part.consts:
             self.names.setdefault(name, []).append(part)
         if part.kind == "fn" and not part.owner:
             self.functions.setdefault(part.name, []).append(part)
@@ -76,14 +76,19 @@ class Grounds:
         self.folders = {}
         for module in self.antt.texts:
             folder = tuple(it.lstrip("+") for it in module[2:-1] if it != "fn")
-            for it in {*folder} if module[1] == "proofs" else ():
+            circle = {"+"} if any(it.startswith("+") for it in module) else set()
+            for it in {*folder, *circle} if module[1] == "proofs" else ():
                 self.folders.setdefault((module[0], it), []).append((module, folder))
 
     def attach(self, part):
         """Gives types their methods, and types and traits the impls that name them."""
         head = set(ground_code.NAME.findall(part.owner))
+        names = self.scope(part.file.crate).names
+        # (an impl may name its type by an alias)
+        aliases = [it for name in head for it in names.get(name, ()) if it.kind == "type"]
+        head |= {name for it in aliases for name in ground_code.NAME.findall(it.text)}
         for name in head:
-            for one in self.scope(part.file.crate).names.get(name, ()):
+            for one in names.get(name, ()):
                 if part.kind == "fn":
                     self.methods.setdefault(id(one), {}).setdefault(part.name, []).append(part)
                 elif part.kind == "impl" and " for " in part.owner:
@@ -96,8 +101,7 @@ class Grounds:
                 more = {it for it in self.uses.get(waiting.pop(), ()) if it in self.rows} - found
                 found |= more
                 waiting += more
-            self.scopes[crate] = ground_scope = Scope(self.code, sorted(found))
-            ground_scope.row = [self.rows[it] for it in ground_scope.crates]
+            self.scopes[crate] = Scope(self.code, sorted(found), self.rows)
         return self.scopes[crate]
 
     # What a node is made of: a text, what its names stand for, the nodes that it names, and whether all are known.
@@ -126,7 +130,7 @@ class Grounds:
         for size in range(len(path), 3, -1):
             parts = self.functions_at(crate, path[3:size])
             if parts:
-                how = GENERATED.get(path[size] if size < len(path) else "", "body")
+                how = "promise" if path[size : size + 1] == ("Met",) else "body"
                 return [(how, it) for it in parts]
         # (such as the laws of a type)
         parts = [it for name in path[3:] for it in self.by_name.get((crate, name), ()) if it.kind in (*TYPES, "trait")]
@@ -146,7 +150,7 @@ class Grounds:
         """Returns whether a path of proofs is that of a function: by its type, and else by its module."""
         key = part.key.split("::")[1:]
         if part.owner:
-            pattern = re.escape(key[-2]).replace(r"\*", r"\w*")
+            pattern = part.holder or re.escape(key[-2]).replace(r"\*", r"\w*")
             return len(path) > 1 and path[-1] == key[-1] and bool(re.fullmatch(pattern, path[-2]))
         return tuple(key) == path
 
@@ -154,7 +158,9 @@ class Grounds:
         """Returns the nodes of the code that the names in a text stand for, and what is said of them on the way."""
         scope, names, told = self.scope(file.crate), set(ground_code.NAME.findall(text)) | {"*"}, set()
         # The names that may stand for what another file declares: those after `::`, and those of its `use` lines.
-        opened, waiting = set(re.findall(r"::\s*(\w+)", text)) | file.uses.keys(), list(names)
+        opened = set(re.findall(r"::\s*(\w+)", text)) | file.uses.keys()
+        opened |= {it for inner in re.findall(r"::\s*\{([^}]*)", text) for it in ground_code.NAME.findall(inner)}
+        waiting = list(names)
         while waiting:
             name = waiting.pop()
             paths = file.uses.get(name, []) + (scope.given.get(name, []) if name in opened or "*" in file.uses else [])
@@ -172,15 +178,16 @@ class Grounds:
     def antt_in(self, text, file, ghosts):
         """Returns what the names of clauses and of tactics in a text of the code stand for."""
         uses = dict(file.ghosts)
-        for name, paths in ghosts.items() if ghosts else ():
+        for name, paths in (*ghosts.items(), *ground_code.ghosts_of(text).items()):
             uses[name] = uses.get(name, []) + paths
-        words = set(ground_antt.WORD.findall(text)) | {it for it in uses if "◌" in it}
+        words = set(ground_antt.WORD.findall(text)) | {it for it in uses if ground_antt.is_operator(it)}
         found = self.antt.names_in(words, uses, {}, None)
         for lists in re.findall(r"\b(?:using|unfolding)\(([^)]*)\)", text):
             for name in re.findall(r"\w+(?:::\w+)+", lists):
                 path = name.split("::")
                 path[0] = file.crate if path[0] == "crate" else path[0]
-                found[name] = self.antt.path(("Rattle", *path))
+                is_near = path[0] in ("self", "super")
+                found[name] = [(UNKNOWN, name)] if is_near else self.antt.path(("Rattle", *path))
         return found
 
     def content(self, node):
@@ -198,6 +205,7 @@ class Grounds:
             file = node[1].file
             nodes, told = self.parts_in(text, file)
             found = self.antt_in(text, file, node[1].ghosts)
+            nodes += self.proofs_of(node[1]) if node[0] == "body" else []
         for name, those in found.items():
             for known in those:
                 told.add(f"{name} = {' '.join(map(str, known))}")
@@ -207,7 +215,8 @@ class Grounds:
     def text_of(self, how, part):
         """Returns the text of a part of the code that counts: its promise, or all of a function and what is around."""
         if how == "promise":
-            return f"{part.file.crate} {part.file.file} {part.key or part.name}\n{part.head if part.kind == 'fn' else ''}\n{part.promise}"
+            place = f"{part.file.crate} {part.file.file} {part.key or part.name}"
+            return "\n".join([place, part.head if part.kind == "fn" else "", part.promise])
         crate, names = part.file.crate, part.file.module.split("::")[1:]
         mods = [it.text for name in names for it in self.by_name.get((crate, name), ()) if it.kind == "mod"]
         roots = [it.attributes for it in self.code.files[crate] if it.module == crate]
@@ -273,34 +282,37 @@ class Grounds:
         for it in circle:
             self.solved[it] = (sums, bits)
 
-    def gathered(self, roots, crate):
+    def gathered(self, roots, crate, words, told):
         """Returns the sum of nodes with all that they reach: of the types among it all impls, and the methods whose
-        names stand in a body; of the traits those that have such a method. It is None where a name is not known."""
-        scope, nodes, waiting, bits, words, done = self.scope(crate), {}, list(roots), 0, set(), 0
-        inside = set(scope.crates)
+        names stand in a body or among the words; of the traits those that have such a method. It is None where a name
+        is not known."""
+        scope, nodes, waiting, bits, done, words = self.scope(crate), {}, list(roots), 0, 0, set(words)
+        waiting += [("promise", it) for name in words for it in scope.traits.get(name, ())]
         while waiting:
             for node in waiting:
                 if node not in nodes:
                     nodes[node], more = self.solve(node)
                     bits |= more
-            waiting, fresh = [], bits & ~done
-            done = bits
-            marked = [self.marks[it] for it in range(1, fresh.bit_length()) if fresh >> it & 1]
-            new = set()
-            for how, part in marked:
-                if how == "body" or part.kind in ("const", "static", "macro_rules!"):
-                    new |= set(ground_code.NAME.findall(part.text)) - words
-            words |= new
-            waiting += [("promise", it) for name in new for it in scope.traits.get(name, ())]
-            every = [self.marks[it] for it in range(1, done.bit_length()) if done >> it & 1] if new else marked
-            for how, part in every:
-                methods = self.methods.get(id(part), {}) if how == "promise" else {}
-                for name in methods.keys() & words:
-                    waiting += [("promise", it) for it in methods[name] if it.file.crate in inside]
-            for how, part in marked:
-                waiting += [("promise", it) for it in self.impls.get(id(part), ()) if it.file.crate in inside]
-            waiting = [it for it in dict.fromkeys(waiting) if it not in nodes]
-        return None if bits & 1 else sum_of([*scope.row, *sorted(set(nodes.values()))])
+            fresh, done = self.marked(bits & ~done), bits
+            waiting = [it for it in dict.fromkeys(self.reached(fresh, done, scope, words)) if it not in nodes]
+        return None if bits & 1 else sum_of([*scope.row, *sorted(told), *sorted(set(nodes.values()))])
+
+    def marked(self, bits):
+        return [self.marks[at] for at, bit in enumerate(reversed(f"{bits:b}")) if bit == "1" and at]
+
+    def reached(self, fresh, done, scope, words):
+        """Yields what types, traits and bodies bring that were reached just now, and adds the words of these bodies."""
+        new = set()
+        for how, part in fresh:
+            if how == "body" or part.kind in ("const", "static", "macro_rules!", "several"):
+                new |= set(ground_code.NAME.findall(part.text)) - words
+        words |= new
+        found = [it for name in new for it in scope.traits.get(name, ())]
+        for how, part in self.marked(done) if new else fresh:
+            methods = self.methods.get(id(part), {}) if how == "promise" else {}
+            found += [it for name in methods.keys() & words for it in methods[name]]
+        found += [it for _, part in fresh for it in self.impls.get(id(part), ())]
+        return [("promise", it) for it in found if it.file.crate in scope.inside]
 
     def whole(self, crate):
         """Returns a sum of a crate with all that is promised and defined below it, proofs included."""
@@ -308,11 +320,11 @@ class Grounds:
             texts = list(self.scope(crate).row)
             for file in (it for name in self.scope(crate).crates for it in self.code.files[name]):
                 is_own = file.crate == crate
-                texts += [file.crate, file.file, file.attributes, *file.imports]
+                texts += [file.crate, file.file, file.rest, *file.imports]
                 texts += [it.text if is_own else it.promise for it in file.parts]
             for module, text in sorted(self.antt.texts.items()):
                 if module[0] in self.scope(crate).crates:
-                    texts += [" ".join(module), edits.without_comments(text)]
+                    texts += [" ".join(module), ground_antt.bare(text)]
             self.wholes[crate] = sum_of(texts)
         return self.wholes[crate]
 
@@ -348,19 +360,35 @@ class Grounds:
         return found
 
     def proofs_of(self, part):
-        """Returns the items of a function's proof files, and of those of its closures and of its circle of calls."""
-        crate, circles, found = part.file.crate, re.findall(r"#\[cycle\((\w+)\)", part.text), []
-        for module, folder in {it for name in (part.name, *circles) for it in self.folders.get((crate, name), ())}:
+        """Returns a function's proof files, and those of its closures, and of all circles of calls of its crate."""
+        crate, found = part.file.crate, []
+        for module, folder in {it for name in (part.name, "+") for it in self.folders.get((crate, name), ())}:
             is_own = any(self.has_path(part, folder[:size]) for size in range(1, len(folder) + 1))
-            if is_own or any(f"+{it}" in module for it in circles):
+            if is_own or any(it.startswith("+") for it in module):
                 found.append((MODULE, module))
         return sorted(found)
+
+    def added(self, crate, pairs):
+        """Returns the nodes, the words and the paths that the new texts of an edit name."""
+        nodes, words, told = [], set(), set()
+        files = {it.file: it for it in self.code.files[crate]}
+        for file, _, new in pairs:
+            more, paths = self.parts_in(new, files[file])
+            found = self.antt_in(new, files[file], {})
+            told |= paths | {f"{name} = {' '.join(map(str, it))}" for name, those in found.items() for it in those}
+            nodes += more + [node for those in found.values() for it in those for node in self.node_of(it)]
+            words |= set(ground_code.NAME.findall(new))
+        return nodes, words, told
 
     def ground(self, crate, text):
         """Returns the sum of what a verdict on an edit of a crate rests on."""
         try:
-            parts = self.touched(crate, edits.pairs_of(text))
+            pairs = edits.pairs_of(text)
+            parts = self.touched(crate, pairs)
         except edits.Unusable:
             parts = None
-        roots = [node for part in parts or () for node in (("body", part), *self.proofs_of(part))]
-        return roots and self.gathered(roots, crate) or self.whole(crate)
+        if not parts:
+            return self.whole(crate)
+        nodes, words, told = self.added(crate, pairs)
+        roots = [*(("body", part) for part in parts), *nodes]
+        return self.gathered(roots, crate, words, told) or self.whole(crate)

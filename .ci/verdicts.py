@@ -1,4 +1,4 @@
-"""The verdicts on wrong bodies: the table of them, which of them hold still, and the list of those that the gate holds."""
+"""The verdicts on wrong bodies: their table, which of them are stale, and the list of those that the gate holds."""
 import datetime
 import fcntl
 import os
@@ -159,17 +159,17 @@ def count_fault(count):
     with open(f"{ROOT}/docs/DECISIONS.md", encoding="utf-8") as it:
         numbers = COUNT.findall(it.read())
     if numbers != [str(count)]:
-        yield f"docs/DECISIONS.md: it says {' and '.join(numbers) or 'nowhere how many'}, and .ci/held.txt has {count} lines"
+        said = " and ".join(numbers) or "no number"
+        yield f"docs/DECISIONS.md: it says {said}, and .ci/held.txt has {count} lines"
 
 
 def held_faults(kit):
-    """Returns the edits of the list, those of them that are to be tried, and what is wrong with each."""
-    (found, faults), verdicts, wanted = held(), Verdicts(kit), []
+    """Returns the edits of the list, and what keeps each of them, or the list, from being held."""
+    (found, faults), verdicts = held(), Verdicts(kit)
     for edit in found:
         why = "it is not there" if edit.text is None else fault_of(edit)
         if not why:
             verdict = verdicts.of(edit)
-            wanted += [] if verdict else [edit]
-            why = verdicts.mark(edit) if not verdict else "" if verdict == edits.REFUSED else f"its verdict is: {verdict}"
+            why = "" if verdict == edits.REFUSED else f"its verdict is: {verdict or verdicts.mark(edit)}"
         faults += [f"{edit.path}: {why}"] * bool(why)
-    return found, wanted, faults + list(count_fault(len(found)))
+    return found, faults + list(count_fault(len(found)))
