@@ -27,14 +27,16 @@ def pairs_of(text):
             if os.path.normpath(file) != file or not file.startswith(tuple(f"{it}/" for it in PARTS)):
                 raise Unusable("a 'file:' line names no file below src/, specs/ or proofs/")
         elif line.startswith("old: "):
+            if old is not None:
+                raise Unusable("an 'old:' line has no 'new:' line")
             old = line[len("old: ") :]
         elif line.startswith("new:"):
             if not file or not old:
                 raise Unusable("a 'new:' line stands before any 'file:' or 'old:' line")
             found.append((file, old, re.sub(r"\A ", "", line[len("new:") :])))
             old = None
-    if not found:
-        raise Unusable("it has no 'old:' and 'new:' pair")
+    if not found or old is not None:
+        raise Unusable("it has no 'old:' and 'new:' pair" if not found else "an 'old:' line has no 'new:' line")
     return found
 
 
@@ -283,7 +285,8 @@ def self_test():
     promised = without_bodies(SOURCE, {"law"})
     assert "MOST ≡ 7" in promised and "fault: Fault<W>" in promised and "value: u32" in promised
     assert "ensures { result" not in promised and "fn take" not in promised and "fn last" not in promised
-    split = "impl<T: Read>\n    Iterator for Gate\n{\n    fn next(&mut self) {\n    }\n}\nconst fn seven() -> u32 {\n    7\n}\n"
+    split = "impl<T: Read>\n    Iterator for Gate\n{\n    fn next(&mut self) {\n    }\n}\n"
+    split += "const fn seven() -> u32 {\n    7\n}\n"
     assert "fn next" in without_bodies(split, set()) and "fn seven" in without_bodies(split, set())
     pairs = pairs_of("# text\nfile: src/gate.rt\nold: > 0\nnew: > 1\nold: = 7;\nnew:  8;\n")
     assert pairs == [("src/gate.rt", "> 0", "> 1"), ("src/gate.rt", "= 7;", " 8;")]
@@ -294,12 +297,19 @@ def self_test():
     assert "octets > 1 {" in texts["src/gate.rt"] and "usize  8;" in texts["src/gate.rt"]
     for old, is_alone in (("value: u32", True), ("result", True), ("    9", False), ("value: 4", False)):
         assert apply("c", [("src/gate.rt", old, "x")], {}, lambda file: SOURCE).alone == is_alone, old
-    for text in ("file: src/a.rt\nold: a\n", "old: a\nnew: b\n", "file: a.rt\nold: a\nnew: b\n"):
+    head = "file: src/a.rt\nold: a\n"
+    malformed = ("new: b\nnew: c\n", "old: b\nnew: c\n", "new: b\nold: c\n", "")
+    for text in (*(head + it for it in malformed), "old: a\nnew: b\n", "file: a.rt\nold: a\nnew: b\n"):
         try:
             pairs_of(text)
             raise AssertionError(text)
         except Unusable:
             pass
+    self_test_of_checks()
+
+
+def self_test_of_checks():
+    """Tries what reads the output of a check."""
     one = lambda name: said_of(OUTPUT, [name])
     assert one("c::gate::Gate::take") is True and one("c::law") is False
     # Its own error counts, in its own folder alone; one that names what is gone does not.

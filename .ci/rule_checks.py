@@ -5,6 +5,7 @@ import re
 from collections import defaultdict
 
 import edits
+import verdicts
 from rule_lists import API, BY_NAME, EXEMPT, EXPORTS, FAULT_DEFINITIONS, FAULT_RESULTS
 from rule_tags import BEST, DEFINITION, ROOT, is_test, read
 
@@ -139,14 +140,22 @@ def others(table):
         crate, part, *names = file.split("/")
         if part == "data" and (len(names) != 2 or f'=> "{names[0]}",' not in read(f"crates/{crate}/src/group.rt")):
             yield f"crates/{file}:1: {crate} has no such group: cases are in files GROUP/NAME.txt"
-    for at, row in enumerate(read("docs/wrong-bodies.tsv").split("\n")[1:], 2):
+    for at, row in enumerate(read(".ci/verdicts.tsv").split("\n")[1:], 2):
         if row and row.split("\t")[4] not in ("refused", "limit", "proof file only"):
-            yield f"docs/wrong-bodies.tsv:{at}: {row.split(chr(9))[0]}: {row.split(chr(9))[4]}"
+            yield f".ci/verdicts.tsv:{at}: {row.split(chr(9))[0]}: {row.split(chr(9))[4]}"
+
+
+def unusable(table):
+    """Yields each wrong body that is malformed, or does not apply to its crate as it stands."""
+    for file, lines in table.tags.texts.items():
+        why = verdicts.fault_of(verdicts.Edit(file, "\n".join(lines))) if file.endswith(".edit") else ""
+        if why:
+            yield f"crates/{file}:1: it does not apply: {why}"
 
 
 def unshown(table):
     """Yields each rule none of whose wrong bodies was refused for what it breaks, which is no fault: it may be new."""
-    rows = [it.split("\t") for it in read("docs/wrong-bodies.tsv").split("\n")[1:]]
+    rows = [it.split("\t") for it in read(".ci/verdicts.tsv").split("\n")[1:]]
     refused = {re.sub(r"/[\w-]+/", "/", row[0]) for row in rows if len(row) > 4 and row[4] in ("refused", "limit")}
     for rule, parts in sorted(table.rules.items()):
         files = {re.sub(r"/[\w-]+/", "/", it.file) for it in parts["Wrong body"] if "/wrong-bodies/" in it.file}
@@ -156,5 +165,5 @@ def unshown(table):
 
 def faults(table):
     """Yields all that is wrong but for the pages."""
-    for check in (forms, spellings, untagged, unused, others):
+    for check in (forms, spellings, untagged, unused, others, unusable):
         yield from check(table)
