@@ -153,14 +153,18 @@ fn make(joined: &mut Joined, act: &JointAct, record: &mut Record) {
 
 /// Two new ends, which are made again where memory is refused.
 pub(crate) fn new_joined(record: &mut Record) -> Option<Joined> {
-    for _ in 0..2 {
-        match Joined::new(record.alloc, Config::default(), Config::default()) {
-            Ok(joined) => return Some(joined),
-            Err(AllocError) => record.again(),
-        }
+    let made = made_joined(record.alloc);
+    if made.is_some() {
+        return made;
     }
-    record.check(false);
-    None
+    record.again();
+    let made = made_joined(record.alloc);
+    record.check(made.is_some());
+    made
+}
+
+fn made_joined(alloc: Global) -> Option<Joined> {
+    Joined::new(alloc, Config::default(), Config::default()).ok()
 }
 
 /// Acts of two new ends.

@@ -58,11 +58,22 @@ const GOAWAY: usize = 17;
 
 /// Whether octets end with GOAWAY with INTERNAL_ERROR, which is returned without it.
 pub(crate) fn without_goaway(octets: &[u8]) -> Option<&[u8]> {
-    let (others, last) = octets.split_at_checked(octets.len().saturating_sub(GOAWAY))?;
-    let is_goaway = last.len() == GOAWAY
-        && last.starts_with(b"\0\0\x08\x07\0\0\0\0\0")
-        && last.ends_with(b"\0\0\0\x02");
-    if is_goaway { Some(others) } else { None }
+    if octets.len() < GOAWAY {
+        return None;
+    }
+    let end = octets.len() - GOAWAY;
+    if is_goaway(&octets[end..]) {
+        Some(&octets[..end])
+    } else {
+        None
+    }
+}
+
+/// Whether these are GOAWAY with INTERNAL_ERROR, whatever its last stream.
+fn is_goaway(octets: &[u8]) -> bool {
+    let head: &[u8] = b"\0\0\x08\x07\0\0\0\0\0";
+    let code: &[u8] = b"\0\0\0\x02";
+    octets.starts_with(head) && octets.ends_with(code)
 }
 
 /// An end has failed for refused memory where `waiting` octets were queued: GOAWAY follows them,
