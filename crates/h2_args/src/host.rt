@@ -107,7 +107,7 @@ size, with its type, length, `etag`, `last-modified` and `date`. Conditional
 requests and single ranges are supported (RFC 9110, sections 13 and 14). A path
 that ends with a slash is the `index.html` of that folder. Errors have a short
 text: 404 for what does not exist, for names that begin with a dot, and for
-folders without a trailing slash; 403 for symbolic links and what is below one,
+folders without a trailing slash; 403 for symbolic links and anything below them,
 for files that are not regular, and for files that may not be read; 405 for
 other methods. Symbolic links are not followed: the file and the folders on its
 path are checked before and after it is opened. Someone who can write below the

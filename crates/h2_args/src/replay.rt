@@ -99,8 +99,8 @@ Then, once the input has ended or the connection has failed:
                      connection preface and its replies
 
 The rules of messages (RFC 9113, section 8) are checked only with --messages:
-they are M1 to M12 of docs/PROTOCOL.md. CONNECT is not supported, and breaks one
-of them. Not checked are :scheme, a user in host or :authority, and whether
+they are M1 to M12 of docs/PROTOCOL.md. CONNECT is not supported, and breaks M6
+or M7. Not checked are :scheme, a user in host or :authority, and whether
 those two agree. A part of a message that breaks a rule is not reported; the
 endpoint resets its stream, and this line precedes that of the reset:
   malformed ID RULE  the number and name of the first rule that the part breaks,

@@ -256,8 +256,8 @@ command with `bad hex`, and the hint gives its number.
 
 With --follow and --page FILE, no lines are printed; instead, an HTML page for a
 browser is written to FILE: two lifelines, one row per frame, one color per
-stream, the windows of the connection, and faults in red. Clicking a frame folds
-its stream.
+stream, the windows of the connection and of its streams, and faults in red.
+Clicking a frame folds its stream.
 
 With --follow, frame sizes and header tables are checked against the SETTINGS of
 the other side: a higher value applies from the SETTINGS on, a lower one from

@@ -115,7 +115,7 @@ A connection that ends early has a line on standard error, and the next one is
 served. Exit status, that of the first such connection, with its line:
   0  every connection was served until its client ended it
   1  `N2 Stream CODE`: the connection failed with this code (RFC 9113,
-     section 7), or with 11 if no more of its streams could be reset
+     section 7), or with 11 if a stream had to be reset after 1000 others
      `N4 CutOff`: it ended inside the preface or a frame, or while a stream was
      active
   2  invalid arguments
@@ -139,7 +139,7 @@ const LOOPED_AND_STATUSES: &str =
 251. The server answers as `h2 serve` does. The two take turns: each writes at
 most 4096 octets, which the other then reads.
 
-Exit status, with the line on standard error unless it is 0:
+Exit status; each line but that of 0 goes to standard error:
   0  the response is complete, and `sent N got M status 200` is printed, with
      M = N + 7; with --each-way, a line on standard error follows:
      `0.070000 MB posted, 0.070007 MB got, 0.004321 s` (1 MB is 10^6 octets)
