@@ -13,7 +13,7 @@ ghost use Rattle.h2_messages.specs.Messages.{MessagesOfText, fault_lines, output
 ghost use Rattle.h2_messages.specs.Taking.{MessageEndRepresents, TakesGivenPiece};
 ghost use Rattle.h2_messages.specs.Taking.{TakeErrorReports};
 
-use crate::end::MessageEnd;
+use crate::end::{MessageEnd, drop_end};
 use crate::output::write_output;
 use crate::taking::{TakeError, take_piece};
 use h2_cli::{Failure, PIECE, Status, new_buffer, read_hex, read_next};
@@ -156,8 +156,31 @@ fn replay_octets<R: Read, W: Write + Drop>(
 {
     let mut buffer = new_buffer(alloc)?;
     let mut end = MessageEnd::new(alloc, role)?;
-    let ended = replay_pieces(role, &mut end, input, &mut buffer, lines)?;
-    finish(alloc, &mut end, ended, lines)
+    let replayed = hand_pieces(alloc, role, &mut end, input, &mut buffer, lines);
+    drop_end(end);
+    replayed
+}
+
+// Hands pieces that fit the buffer to a new end, and then finishes.
+fn hand_pieces<R: Read, W: Write + Drop>(
+    alloc: Global,
+    role: Role,
+    end: &mut MessageEnd,
+    input: &mut R,
+    buffer: &mut [u8],
+    lines: &mut BufWriter<W>,
+) -> Result<Replayed, Failure>
+    requires room { 0 < length buffer.old }
+    requires written { writer_buffer lines.old ≡ [] }
+    requires starts { MessageEndRepresents end.old (new_end_log role first_values) }
+    ensures prints { IfOk result (λ one. IfSome (R.remaining input.old) (λ octets.
+        (output : List ℕ) × MessagesOfOctets role octets one.status one.why output
+        × Appends (writer_contents W.contents lines.old) (writer_contents W.contents lines.new)
+        output)) }
+    ensures bad_hex { result ≢ Err Failure.BadHex }
+{
+    let ended = replay_pieces(role, end, input, buffer, lines)?;
+    finish(alloc, end, ended, lines)
 }
 
 // rule: messages (own) The status is 1 only where its connection has failed
@@ -251,7 +274,26 @@ fn replay_all<W: Write>(
     ensures bad_hex { result ≢ Err Failure.BadHex }
 {
     let mut end = MessageEnd::new(alloc, role)?;
-    let ended = match take_piece(&mut end, octets, out) {
+    let replayed = hand_all(alloc, role, &mut end, octets, out);
+    drop_end(end);
+    replayed
+}
+
+// Hands octets to a new end all at once, and then finishes.
+fn hand_all<W: Write>(
+    alloc: Global,
+    role: Role,
+    end: &mut MessageEnd,
+    octets: &[u8],
+    out: &mut W,
+) -> Result<Replayed, Failure>
+    requires { MessageEndRepresents end.old (new_end_log role first_values) }
+    ensures prints { IfOk result (λ one. (output : List ℕ)
+        × MessagesOfOctets role octets.now one.status one.why output
+        × Appends (W.contents out.old) (W.contents out.new) output) }
+    ensures bad_hex { result ≢ Err Failure.BadHex }
+{
+    let ended = match take_piece(end, octets, out) {
         Ok(()) => Ended {
             fault: None,
             hint: None,
@@ -264,7 +306,7 @@ fn replay_all<W: Write>(
         },
         Err(TakeError::Failed(failure)) => return Err(failure),
     };
-    finish(alloc, &mut end, ended, out)
+    finish(alloc, end, ended, out)
 }
 
 // rule: messages (own) The last line is what the end puts out, in hexadecimal

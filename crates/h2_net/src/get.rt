@@ -2,12 +2,13 @@
 
 ghost use Rattle.std.specs.Prelude.{◌≡◌, ◌<◌, ◌-◌, ◌^◌, IfOk, OnOk, option_map, nat_lt};
 ghost use Rattle.std.specs.Prelude.{◌&&◌, ◌⊎◌, None, [], if◌then◌else◌, Err, IfErr, List, Option};
-ghost use Rattle.std.specs.Prelude.{ℕ};
+ghost use Rattle.std.specs.Prelude.{ℕ, ◌++◌, ◌∷◌, codes};
 ghost use Rattle.std.specs.Prelude.{string_bytes};
 ghost use Rattle.std.specs.Io.KnownBytes.{Appends};
 ghost use Rattle.std.specs.declared.io.ErrorKind.{ErrorKind};
 ghost use Rattle.http.specs.StatusCode.{reason_phrase};
 ghost use Rattle.h2_message.specs.Fields.{status_of};
+ghost use Rattle.h2_message.specs.Messages.{plain_field};
 ghost use Rattle.h2_message.specs.Values.{message_value};
 ghost use Rattle.h2_engines.specs.Failures.{failures_at_end};
 ghost use Rattle.h2_engines.specs.Fetches.{FetchesWhy};
@@ -169,12 +170,41 @@ pub fn head_to(alloc: Global, method: &[u8], location: &Location) -> Result<Vec<
 {
     let path = location.path.as_bytes();
     let authority = location.authority.as_bytes();
+    head_with(alloc, method, path, authority)
+}
+
+// rule: engines (own) A URL is asked for with GET
+/// The pseudo-fields of a request of the scheme `http` with these values, without other fields.
+pub(crate) fn head_with(
+    alloc: Global,
+    method: &[u8],
+    path: &[u8],
+    authority: &[u8],
+) -> Result<Vec<Field>, AllocError>
+    ensures { IfOk result (λ head. head.items ≡ plain_field (codes ":method") method.now
+        ∷ plain_field (codes ":scheme") (codes "http") ∷ plain_field (codes ":path") path.now
+        ∷ plain_field (codes ":authority") authority.now ∷ []) }
+{
     let mut head = Vec::new(alloc);
-    head.push(Field::copy_of(alloc, b":method", method, false)?)?;
-    head.push(Field::copy_of(alloc, b":scheme", b"http", false)?)?;
-    head.push(Field::copy_of(alloc, b":path", path, false)?)?;
-    head.push(Field::copy_of(alloc, b":authority", authority, false)?)?;
+    add_field(alloc, &mut head, b":method", method)?;
+    add_field(alloc, &mut head, b":scheme", b"http")?;
+    add_field(alloc, &mut head, b":path", path)?;
+    add_field(alloc, &mut head, b":authority", authority)?;
     Ok(head)
+}
+
+/// Adds a field to a head.
+fn add_field(
+    alloc: Global,
+    head: &mut Vec<Field>,
+    name: &[u8],
+    value: &[u8],
+) -> Result<(), AllocError>
+    ensures { OnOk result
+        (head.new.items ≡ head.old.items ++ plain_field name.now value.now ∷ []) }
+{
+    head.push(Field::copy_of(alloc, name, value, false)?)?;
+    Ok(())
 }
 
 // rule: engines (own) A response is printed as its status, its phrase and its body

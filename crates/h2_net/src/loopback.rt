@@ -7,13 +7,13 @@ ghost use Rattle.h2_engines.specs.Failures.{failures_at_end};
 ghost use Rattle.h2_engines.specs.WithoutLink.{ClientPutsOut, ServerPutsOut};
 ghost use Rattle.h2_message.specs.Values.{message_value};
 ghost use Rattle.h2_net.specs.Loopback.{ExchangesPost, IsPosting, IsSilent, NoneHasFailed};
-ghost use Rattle.h2_net.specs.Loopback.{PostsOn, post_request};
+ghost use Rattle.h2_net.specs.Loopback.{PostsOn, post_request, posted_octets};
 ghost use Rattle.h2_net.specs.Printing.{exchange_line};
 
-use crate::get::status_value;
+use crate::get::{head_with, status_value};
 use crate::parts::WriteParts;
 use crate::stream_link::StreamLink;
-use h2_engines::{Config, Fetched, Fetcher, Field, Link, LinkError, Message, Responder};
+use h2_engines::{Config, Fetched, Fetcher, Link, LinkError, Message, Responder};
 use h2_link::write_all;
 use std::alloc::{AllocError, Global};
 use std::io::{self, Read, Write};
@@ -62,16 +62,68 @@ where
     N::Stream: WriteParts,
     ensures { ExchangesPost count result }
 {
-    let mut ends = new_ends(net, alloc, count)?;
-    let mut carried = Carried {
+    let ends = new_ends(net, alloc, count)?;
+    exchange_between(alloc, ends)
+}
+
+// rule: engines (own) h2 loop posts octets, and its line says how many came
+/// Lets both ends write in turns, and answers the response to the client.
+fn exchange_between<S: Read + WriteParts + OpenStream + Drop>(
+    alloc: Global,
+    mut ends: Ends<S>,
+) -> Result<Fetched, LinkError>
+    requires { NoneHasFailed ends }
+    ensures { (count : ℕ) → IsPosting count ends.client → ExchangesPost count result }
+{
+    let carries = carry_with_room(alloc, &mut ends);
+    fetched_by(ends.client, carries)
+}
+
+// rule: engines (own) h2 loop posts octets, and its line says how many came
+/// Lets both ends write in turns, as [`carry_all`] does, with room for what is carried.
+fn carry_with_room<S: Read + WriteParts + OpenStream>(
+    alloc: Global,
+    ends: &mut Ends<S>,
+) -> Result<bool, LinkError>
+    requires { NoneHasFailed ends.old }
+    ensures { (count : ℕ) → IsPosting count ends.old.client
+        → PostsOn count result ends.new.client }
+{
+    let mut carried = new_carried(alloc)?;
+    carry_all(ends, &mut carried)
+}
+
+/// Nothing that is carried yet, with room for what is read.
+fn new_carried(alloc: Global) -> Result<Carried, LinkError>
+    ensures { IfErr result (λ error. error ≡ LinkError.Memory) }
+{
+    let read = room_for_turn(alloc)?;
+    Ok(Carried {
         from_client: Vec::new(alloc),
         from_server: Vec::new(alloc),
-        read: room_for_turn(alloc)?,
-    };
-    if carry_all(&mut ends, &mut carried)? {
-        ends.client.into_fetched()
-    } else {
-        Err(LinkError::CutOff)
+        read,
+    })
+}
+
+// rule: engines (own) h2 loop posts octets, and its line says how many came
+/// The response of a client that has posted so, where it is whole.
+fn fetched_by(client: Fetcher, carries: Result<bool, LinkError>) -> Result<Fetched, LinkError>
+    ensures { (count : ℕ) → PostsOn count carries client → ExchangesPost count result }
+{
+    whole_or_cut_off(carries)?;
+    client.into_fetched()
+}
+
+// rule: engines (own) h2 loop posts octets, and its line says how many came
+/// That the response is whole, as is said where its ends have carried all.
+fn whole_or_cut_off(carries: Result<bool, LinkError>) -> Result<(), LinkError>
+    ensures { (count : ℕ) (client : Fetcher) → PostsOn count carries client
+        → PostsOn count result client }
+{
+    match carries {
+        Ok(true) => Ok(()),
+        Ok(false) => Err(LinkError::CutOff),
+        Err(error) => Err(error),
     }
 }
 
@@ -85,13 +137,43 @@ where
     ensures err { IfErr result (λ error. error ≢ LinkError.Refused) }
 {
     let message = post_of(alloc, count)?;
-    let (client_link, server_link) = joined(net, alloc)?;
+    let links = joined(net, alloc)?;
+    ends_over(alloc, message, links)
+}
+
+/// Two ends over the links of a connection, of which the client is to make this request.
+fn ends_over<S: Drop>(
+    alloc: Global,
+    message: Message,
+    links: (StreamLink<S>, StreamLink<S>),
+) -> Result<Ends<S>, LinkError>
+    requires { (links.0.failures ≡ 0) × (links.1.failures ≡ 0) }
+    ensures failures { IfOk result NoneHasFailed }
+    ensures posts { (count : ℕ) → message_value message ≡ post_request count
+        → IfOk result (λ ends. IsPosting count ends.client) }
+    ensures err { (count : ℕ) → message_value message ≡ post_request count
+        → IfErr result (λ error. error ≢ LinkError.Refused) }
+{
+    let (client, server) = machines(alloc, message)?;
+    let (client_link, server_link) = links;
     Ok(Ends {
-        client: Fetcher::new(alloc, Config::default(), message)?,
-        server: Responder::new(alloc, Config::default())?,
+        client,
+        server,
         client_link,
         server_link,
     })
+}
+
+/// A client that is to make this request, and a server.
+fn machines(alloc: Global, message: Message) -> Result<(Fetcher, Responder), LinkError>
+    ensures posts { (count : ℕ) → message_value message ≡ post_request count
+        → IfOk result (λ machines. IsPosting count machines.0) }
+    ensures err { (count : ℕ) → message_value message ≡ post_request count
+        → IfErr result (λ error. error ≢ LinkError.Refused) }
+{
+    let client = Fetcher::new(alloc, Config::default(), message)?;
+    let server = Responder::new(alloc, Config::default())?;
+    Ok((client, server))
 }
 
 // rule: engines (own) h2 loop posts octets, and its line says how many came
@@ -148,20 +230,22 @@ fn write_exchange<W: Write>(count: u32, fetched: &Fetched, out: &mut W) -> io::R
 fn post_of(alloc: Global, count: u32) -> Result<Message, AllocError>
     ensures { IfOk result (λ message. message_value message ≡ post_request count) }
 {
-    let mut head = Vec::new(alloc);
-    head.push(Field::copy_of(alloc, b":method", b"POST", false)?)?;
-    head.push(Field::copy_of(alloc, b":scheme", b"http", false)?)?;
-    head.push(Field::copy_of(alloc, b":path", b"/", false)?)?;
-    head.push(Field::copy_of(alloc, b":authority", b"127.0.0.1", false)?)?;
+    Ok(Message {
+        head: head_with(alloc, b"POST", b"/", b"127.0.0.1")?,
+        body: posted_octets(alloc, count)?,
+        trailers: None,
+    })
+}
+
+/// The octets that are posted.
+fn posted_octets(alloc: Global, count: u32) -> Result<Vec<u8>, AllocError>
+    ensures { IfOk result (λ body. body.items ≡ posted_octets count) }
+{
     let mut body = Vec::new(alloc);
     for place in 0..count {
         body.push((place % PERIOD) as u8)?;
     }
-    Ok(Message {
-        head,
-        body,
-        trailers: None,
-    })
+    Ok(body)
 }
 
 /// Room for what is read in a turn.
@@ -182,8 +266,34 @@ where
     ensures err { IfErr result (λ error. error ≢ LinkError.Refused) }
 {
     let listener = TcpListener::bind(net, SocketAddr::from((Ipv4Addr::LOCALHOST, 0)))?;
+    joined_over(net, alloc, &listener)
+}
+
+/// The two sides of a new connection to a listener.
+fn joined_over<N: Net>(
+    net: &N,
+    alloc: Global,
+    listener: &N::Listener,
+) -> Result<(StreamLink<N::Stream>, StreamLink<N::Stream>), LinkError>
+where
+    N::Stream: WriteParts,
+    ensures failures { IfOk result (λ links. (links.0.failures ≡ 0) × (links.1.failures ≡ 0)) }
+    ensures err { IfErr result (λ error. error ≢ LinkError.Refused) }
+{
     let client = TcpStream::connect(net, listener.local_addr()?)?;
     let (server, _) = listener.accept()?;
+    linked(alloc, client, server)
+}
+
+/// Links over both sides of a connection.
+fn linked<S: Read + WriteParts + OpenStream + Drop>(
+    alloc: Global,
+    client: S,
+    server: S,
+) -> Result<(StreamLink<S>, StreamLink<S>), LinkError>
+    ensures failures { IfOk result (λ links. (links.0.failures ≡ 0) × (links.1.failures ≡ 0)) }
+    ensures err { IfErr result (λ error. error ≢ LinkError.Refused) }
+{
     Ok((
         StreamLink::new(alloc, client)?,
         StreamLink::new(alloc, server)?,

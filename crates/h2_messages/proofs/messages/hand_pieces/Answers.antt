@@ -1,6 +1,6 @@
 -- The status and the lines report all octets that the reader had.
 use Rattle.h2_messages.proofs.InputLemmas.{reader_told}
-use Rattle.h2_messages.proofs.messages.replay_octets.Goals as goal
+use Rattle.h2_messages.proofs.messages.hand_pieces.Goals as goal
 
 pub returns-clause-prints : goal.returns-clause-prints
 returns-clause-prints g c =

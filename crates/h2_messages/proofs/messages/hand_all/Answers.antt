@@ -1,7 +1,7 @@
 -- The octets are one piece.
 use Rattle.h2_messages.proofs.InputLemmas.{octets_told, piece_told, piece_fails_told}
-use Rattle.h2_messages.proofs.messages.replay_all.Goals as goal
-use Rattle.h2_messages.proofs.messages.replay_all.Goals.{in-Ok, in-Err-Fault}
+use Rattle.h2_messages.proofs.messages.hand_all.Goals as goal
+use Rattle.h2_messages.proofs.messages.hand_all.Goals.{in-Ok, in-Err-Fault}
 
 pub returns-clause-prints : goal.returns-clause-prints
 returns-clause-prints g c =
@@ -10,13 +10,13 @@ returns-clause-prints g c =
     (elim c.match-take_piece.branch [
       | in-Ok w ↦
           rw w.ended-is (
-          piece_told c.args.role c.in_ok-end.end c.take_piece.new.end c.args.octets.now _ _
-          c.in_ok-end.ensures.ok w.in-Ok.ensures.ok
+          piece_told c.args.role c.args.end.now c.take_piece.new.end c.args.octets.now _ _
+          c.requires w.in-Ok.ensures.ok
           )
       | in-Err-Fault w ↦
           let (fails, theirs) = rw w.in-Err-Fault.field-0-is at w.in-Err-Fault.ensures.err in
           rw w.ended-is (
-          piece_fails_told c.args.role c.in_ok-end.end c.take_piece.new.end c.args.octets.now
-          w.in-Err-Fault.code w.why.result _ _ c.in_ok-end.ensures.ok fails theirs w.why.ensures
+          piece_fails_told c.args.role c.args.end.now c.take_piece.new.end c.args.octets.now
+          w.in-Err-Fault.code w.why.result _ _ c.requires fails theirs w.why.ensures
           )
     ]) c.finish.ensures.status c.finish.ensures.why c.finish.ensures.written

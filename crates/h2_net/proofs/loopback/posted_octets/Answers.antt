@@ -2,7 +2,7 @@
 use Rattle.std.proofs.Common.{◌%◌, ◌++◌, [], ◌∷◌, ap, sym, ◌∙◌}
 use Rattle.h2_net.specs.Loopback.{posted_octets}
 use Rattle.h2_net.proofs.PostedRequest.{one_more_octet}
-use Rattle.h2_net.proofs.loopback.post_of.Goals as goal
+use Rattle.h2_net.proofs.loopback.posted_octets.Goals as goal
 
 pub loop-place-init : goal.loop-place-init
 unfolding posted_octets
@@ -10,6 +10,6 @@ loop-place-init c = c.new-body.ensures.items
 
 pub loop-place-preserved : goal.loop-place-preserved
 loop-place-preserved c =
-    c.in_ok-push-5.ensures.items
+    c.in_ok-push.ensures.items
     ∙ ap (λ l. l ++ c.loop-place.place % 251 ∷ []) c.loop-place.invariant
     ∙ sym (one_more_octet c.loop-place.place)
