@@ -81,18 +81,23 @@ fn encode(coders: &mut Coders, words: &mut Words<'_>, text: &mut Text) {
     add_block(coders, text, block, &fields);
 }
 
+// Adds the field whose name and value are a number.
+fn push_numbered(alloc: Global, fields: &mut Vec<Field>, words: &mut Words<'_>, number: u16) {
+    let octets = number.to_be_bytes();
+    let is_pushed = match Field::copy_of(alloc, &octets, &octets, false) {
+        Ok(field) => fields.push(field).is_ok(),
+        Err(_) => false,
+    };
+    if !is_pushed {
+        words.fail(CaseError::Memory);
+    }
+}
+
 // `count` fields, each with a name and a value of its own.
 fn numbered_fields(alloc: Global, words: &mut Words<'_>, count: u16) -> Vec<Field> {
     let mut fields = Vec::new(alloc);
     for number in 0..count {
-        let octets = number.to_be_bytes();
-        let is_pushed = match Field::copy_of(alloc, &octets, &octets, false) {
-            Ok(field) => fields.push(field).is_ok(),
-            Err(_) => false,
-        };
-        if !is_pushed {
-            words.fail(CaseError::Memory);
-        }
+        push_numbered(alloc, &mut fields, words, number);
     }
     fields
 }

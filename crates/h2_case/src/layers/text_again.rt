@@ -152,6 +152,12 @@ pub(crate) fn add_wrong_octets(alloc: Global, text: &mut Text) {
     }
 }
 
+// Adds the line of a length.
+fn add_wrong_length(text: &mut Text, length: usize) {
+    text.push_labeled("length ", length);
+    text.push_str("\n");
+}
+
 /// Adds the line of each length up to 300 of which a text of this octet isn't written and read
 /// again.
 pub(crate) fn add_wrong_lengths(alloc: Global, text: &mut Text, octet: u8) {
@@ -159,7 +165,7 @@ pub(crate) fn add_wrong_lengths(alloc: Global, text: &mut Text, octet: u8) {
     for length in 0..=300usize {
         match octets.get(..length) {
             Some(begin) if is_again(alloc, begin) => {}
-            _ => write!(text, "length {length}\n"),
+            _ => add_wrong_length(text, length),
         }
     }
 }

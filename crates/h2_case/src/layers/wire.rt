@@ -134,21 +134,31 @@ fn in_two(alloc: Global, stream: Stream<'_>, at: usize) -> Text {
     text
 }
 
+// Cuts a stream in pieces of at most `most` octets.
+fn feed_pieces(
+    cutter: &mut Cutter,
+    text: &mut Text,
+    stream: Stream<'_>,
+    most: usize,
+) -> Option<WireFault> {
+    let len = stream.octets.len();
+    let mut start = 0usize;
+    for _ in 0..len {
+        let end = start.saturating_add(most).min(len);
+        let fault = feed_part(cutter, text, stream, start, end);
+        if fault.is_some() || end == len {
+            return fault;
+        }
+        start = end;
+    }
+    None
+}
+
 // The result of a stream in pieces of at most `most` octets.
 fn in_pieces(alloc: Global, stream: Stream<'_>, most: usize) -> Text {
     let mut text = Text::new(alloc);
     let mut cutter = Cutter::new(alloc, stream.limit, stream.client);
-    let mut fault = None;
-    let mut start = 0usize;
-    let len = stream.octets.len();
-    for _ in 0..len {
-        if start >= len || fault.is_some() {
-            break;
-        }
-        let end = start.saturating_add(most).min(len);
-        fault = feed_part(&mut cutter, &mut text, stream, start, end);
-        start = end;
-    }
+    let fault = feed_pieces(&mut cutter, &mut text, stream, most);
     add_end(&mut cutter, &mut text, fault);
     text
 }
@@ -168,11 +178,13 @@ fn add_differences(alloc: Global, text: &mut Text, stream: Stream<'_>, whole: &s
     let len = stream.octets.len();
     let most = if len <= LONG { 1 } else { 1_000 };
     if in_pieces(alloc, stream, most).as_str() != whole {
-        write!(text, "another answer to pieces of {most}\n");
+        text.push_labeled("another answer to pieces of ", most);
+        text.push_str("\n");
     }
     for at in 0..=len {
         if is_cut_at(at, len) && !is_same_in_two(alloc, stream, at, whole) {
-            write!(text, "another answer in two at {at}\n");
+            text.push_labeled("another answer in two at ", at);
+            text.push_str("\n");
         }
     }
 }
