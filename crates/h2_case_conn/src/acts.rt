@@ -1,6 +1,8 @@
 //! The calls of one end of a connection as commands: see [`crate::conn`].
 
-use crate::answers::{add_answer, add_done, add_name, add_numbers, begin_line, end_with_octets};
+use crate::answers::{
+    add_answer, add_done, add_labeled, add_name, add_numbers, begin_line, end_with_octets,
+};
 use crate::cuts::read_frames;
 use h2_case::fields::{add_fields, read_fields};
 use h2_case::octets::{add_frames, read_octets};
@@ -164,7 +166,10 @@ fn put_out(alloc: Global, conn: &mut Conn, count: usize, text: &mut Text) {
     let mut out = Vec::new(alloc);
     match conn.put_out(count, &mut out) {
         Ok(given) if given == out.len() => add_frames(text, &out),
-        Ok(given) => write!(text, "{given} octets are said to be these:\n"),
+        Ok(given) => {
+            text.push_value(given);
+            text.push_line(" octets are said to be these:");
+        }
         Err(refusal) => add_name(alloc, text, &refusal),
     }
 }
@@ -197,8 +202,8 @@ fn add_small_act(text: &mut Text, act: &Act) {
         Act::Reset { id, code } => add_numbers(text, "reset", *id, *code),
         Act::Refuse { id, code } => add_numbers(text, "refuse", *id, *code),
         Act::Ping(octets) => add_octets_act(text, "ping", octets),
-        Act::Fail(code) => write!(text, "fail {}\n", code.number()),
-        Act::PutOut(count) => write!(text, "out {count}\n"),
+        Act::Fail(code) => add_labeled(text, "fail ", code.number()),
+        Act::PutOut(count) => add_labeled(text, "out ", *count),
         Act::ChangeSettings(config) => add_change(text, *config),
         _ => text.push_line("go_away"),
     }
@@ -212,15 +217,11 @@ fn add_octets_act(text: &mut Text, name: &str, octets: &[u8]) {
 
 // Adds the line of new settings.
 fn add_change(text: &mut Text, config: Config) {
-    write!(text, "change {}", config.table_limit());
-    write!(
-        text,
-        " {} {}",
-        config.initial_window(),
-        config.max_streams()
-    );
+    text.push_labeled("change ", config.table_limit());
+    text.push_labeled(" ", config.initial_window());
+    text.push_labeled(" ", config.max_streams());
     if config.max_frame() != Config::default().max_frame() {
-        write!(text, " frames {}", config.max_frame());
+        text.push_labeled(" frames ", config.max_frame());
     }
     text.push_str("\n");
 }

@@ -121,7 +121,14 @@ fn add_long_field(alloc: Global, text: &mut Text, field: FieldRef<'_>) {
 
 /// Adds the line of a value.
 pub fn add_value<T: Display + Drop>(text: &mut Text, value: T) {
-    write!(text, "{value}\n");
+    text.push_value(value);
+    text.push_str("\n");
+}
+
+/// Adds the line of words and a value after them.
+pub fn add_labeled<T: Display + Drop>(text: &mut Text, label: &str, value: T) {
+    text.push_labeled(label, value);
+    text.push_str("\n");
 }
 
 // A space and the word for END_STREAM, where it is set.
@@ -131,12 +138,16 @@ fn end_word(end: bool) -> &'static str {
 
 /// Begins a line: what it is about, a stream, and whether that ends.
 pub fn begin_line(text: &mut Text, name: &str, id: u32, end: bool) {
-    write!(text, "{name} {id}{}", end_word(end));
+    text.push_str(name);
+    text.push_labeled(" ", id);
+    text.push_str(end_word(end));
 }
 
 /// Adds the line of a name and two numbers.
 pub(crate) fn add_numbers(text: &mut Text, name: &str, first: u32, second: u32) {
-    write!(text, "{name} {first} {second}\n");
+    text.push_str(name);
+    text.push_labeled(" ", first);
+    add_labeled(text, " ", second);
 }
 
 /// Ends a line with a space and octets, if there are any.

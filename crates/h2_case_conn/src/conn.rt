@@ -30,7 +30,7 @@
 //! then is added.
 
 use crate::acts::{made_config, make_call, read_act, read_values};
-use crate::answers::{add_name, add_option, add_rule, add_value};
+use crate::answers::{add_labeled, add_name, add_option, add_rule, add_value};
 use crate::conn_events::{note_event, note_fault};
 use crate::cuts::{Cut, Cutting, answers_in_cuts, read_frames};
 use crate::notes::{Notes, Taker, Used, add_taken, add_taken_once};
@@ -184,11 +184,8 @@ fn read_frames_of_peer(conn: &Conn, name: &str, text: &mut Text) -> bool {
         "block_stream" => add_option(text, conn.block_stream()),
         "peer_settings" => {
             let settings = conn.peer_settings();
-            write!(
-                text,
-                "{} {}\n",
-                settings.initial_window_size, settings.max_frame_size
-            );
+            text.push_value(settings.initial_window_size);
+            add_labeled(text, " ", settings.max_frame_size);
         }
         _ => return false,
     }

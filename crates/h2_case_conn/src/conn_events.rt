@@ -5,7 +5,7 @@
 //! - `reset ID code=N ours` or `theirs`, `goaway last=N code=N`, `unprocessed ID`, `acked`, and
 //!   `pong OCTETS`.
 
-use crate::answers::{add_list, begin_line, end_with_octets};
+use crate::answers::{add_labeled, add_list, begin_line, end_with_octets};
 use crate::notes::Notes;
 use h2_case::fields::add_fields;
 use h2_case::text::Text;
@@ -91,25 +91,28 @@ pub(crate) fn add_kept(alloc: Global, text: &mut Text, event: &Event<Vec<Field>,
 // Adds the line of octets of a body: what they took of the windows, and whether the stream ends.
 fn add_data(text: &mut Text, id: u32, octets: &[u8], of_frame: (u32, bool)) {
     let (flow, end) = of_frame;
-    write!(text, "data {id} flow={flow}");
+    text.push_labeled("data ", id);
+    text.push_labeled(" flow=", flow);
     text.push_str(if end { " end" } else { "" });
     end_with_octets(text, octets);
 }
 
 /// Adds the line of a stream that was reset.
 pub fn add_reset(text: &mut Text, id: u32, code: u32, ours: bool) {
-    write!(text, "reset {id} code={code}");
+    text.push_labeled("reset ", id);
+    text.push_labeled(" code=", code);
     text.push_line(if ours { " ours" } else { " theirs" });
 }
 
 /// Adds the line of GOAWAY.
 pub fn add_goaway(text: &mut Text, last: u32, code: u32) {
-    write!(text, "goaway last={last} code={code}\n");
+    text.push_labeled("goaway last=", last);
+    add_labeled(text, " code=", code);
 }
 
 /// Adds the line of a stream that the peer has not processed.
 pub fn add_unprocessed(text: &mut Text, id: u32) {
-    write!(text, "unprocessed {id}\n");
+    add_labeled(text, "unprocessed ", id);
 }
 
 /// Adds the line of SETTINGS that were acknowledged.

@@ -87,12 +87,27 @@ pub fn answers_in_cuts<D: Cutting + Drop>(alloc: Global, case: &Case) -> Vec<Ans
 
 // Whether a command has many octets, or is done many times: a word with a count of more than 99.
 fn is_long(command: &str) -> bool {
-    command.contains("count:")
-        || command.contains("each ")
-        || command.as_bytes().windows(4).any(|word| matches!(
-            word,
-            [b'x', b'0'..=b'9', b'0'..=b'9', b'0'..=b'9']
-        ))
+    command.contains("count:") || command.contains("each ") || has_long_count(command.as_bytes())
+}
+
+// Whether octets have an `x` and three digits.
+fn has_long_count(octets: &[u8]) -> bool {
+    for word in octets.windows(4) {
+        if word.starts_with(b"x") && is_number(word.get(1..).unwrap_or(&[])) {
+            return true;
+        }
+    }
+    false
+}
+
+// Whether all octets are digits.
+fn is_number(octets: &[u8]) -> bool {
+    for octet in octets {
+        if !octet.is_ascii_digit() {
+            return false;
+        }
+    }
+    true
 }
 
 // The number of cuts with which a case is run besides the octets in one piece: none where it has

@@ -19,6 +19,15 @@ fn breaks(alloc: Global, field: Field, rule: Malformed, text: &mut Text) -> bool
     check_request(&message) == Err(rule)
 }
 
+// Adds the line of the first place and the last, and their octets.
+fn add_range(text: &mut Text, places: (usize, usize), ranges: &Text) {
+    text.push_value(places.0);
+    text.push_labeled("-", places.1);
+    text.push_str(":");
+    text.push_text(ranges);
+    text.push_str("\n");
+}
+
 /// What is tried.
 #[derive(Drop)]
 struct Tried {
@@ -96,9 +105,7 @@ impl Tried {
                 Text::new(self.alloc)
             };
             if next.as_str() != ranges.as_str() {
-                write!(text, "{first}-{}:", place.saturating_sub(1));
-                text.push_text(&ranges);
-                text.push_str("\n");
+                add_range(text, (first, place.saturating_sub(1)), &ranges);
                 ranges = next;
                 first = place;
             }

@@ -38,13 +38,7 @@ impl Notes {
 
     // Counts one of this kind.
     fn count(&mut self, kind: &'static str) {
-        for count in self.counts.iter_mut() {
-            if count.0 == kind {
-                count.1 = count.1.saturating_add(1);
-                return;
-            }
-        }
-        if self.counts.push((kind, 1)).is_err() {
+        if !is_counted(&mut self.counts, kind) && self.counts.push((kind, 1)).is_err() {
             self.is_refused = true;
         }
     }
@@ -59,10 +53,23 @@ impl Notes {
     }
 }
 
+// Counts one of this kind, if there were others; returns whether there were.
+fn is_counted(counts: &mut [(&'static str, u64)], kind: &str) -> bool {
+    for count in counts.iter_mut() {
+        if count.0 == kind {
+            count.1 = count.1.saturating_add(1);
+            return true;
+        }
+    }
+    false
+}
+
 // Adds the number of each kind, and what precedes the last one.
 fn add_counts(counts: &[(&'static str, u64)], text: &mut Text) {
     for (kind, count) in counts {
-        write!(text, "{kind}: {count}\n");
+        text.push_str(*kind);
+        text.push_labeled(": ", *count);
+        text.push_str("\n");
     }
     if !counts.is_empty() {
         text.push_str("last: ");

@@ -81,7 +81,8 @@ fn after<'a>(numbers: &'a [Number], number: &Number) -> Option<&'a [Number]> {
 fn add_number(number: &Number, text: &mut Text) {
     text.push_labeled(number.name, " ");
     if number.id > 0 {
-        write!(text, "{} ", number.id);
+        text.push_value(number.id);
+        text.push_str(" ");
     }
     add_option(text, number.value);
 }

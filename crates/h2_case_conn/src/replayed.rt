@@ -3,7 +3,7 @@
 //! call is refused, or `fault CODE`.
 
 use crate::acts::add_act;
-use crate::answers::{add_name, add_value, end_with_octets};
+use crate::answers::{add_labeled, add_name, add_value, end_with_octets};
 use crate::conn_events::add_kept;
 use h2_case::octets::add_frames;
 use h2_case::text::Text;
@@ -61,7 +61,7 @@ fn add_turn(alloc: Global, text: &mut Text, turn: &Turn) {
 // Adds the answer to an act.
 fn add_act_answer(alloc: Global, text: &mut Text, answer: Answer) {
     match answer {
-        Answer::Id(id) => write!(text, "id {id}\n"),
+        Answer::Id(id) => add_labeled(text, "id ", id),
         Answer::Count(count) => add_value(text, count),
         Answer::Done => text.push_line("done"),
         Answer::Refused(refusal) => add_name(alloc, text, &refusal),

@@ -41,10 +41,8 @@ fn is_served(alloc: Global, side: &mut Side, id: u32, given: Words<'_>, text: &m
     let [a, b, c, d] = id.to_be_bytes();
     let frame = [0, 0, 3, 1, 5, a, b, c, d, 0x82, 0x86, 0x84];
     let mut head = Text::new(alloc);
-    write!(
-        head,
-        "head {id} end\n  :method: GET\n  :scheme: http\n  :path: /\n"
-    );
+    head.push_labeled("head ", id);
+    head.push_str(" end\n  :method: GET\n  :scheme: http\n  :path: /\n");
     let is_heard = hands_out(alloc, side, &frame, &head);
     let is_answered = side.respond(id, read_again(alloc, given, text)).is_ok();
     give_out(alloc, side);
@@ -70,7 +68,8 @@ fn is_answered(alloc: Global, side: &mut Side, id: u32, given: Words<'_>, text: 
     let [a, b, c, d] = id.to_be_bytes();
     let frame = [0, 0, 1, 1, 5, a, b, c, d, 0x88];
     let mut head = Text::new(alloc);
-    write!(head, "head {id} end\n  :status: 200\n");
+    head.push_labeled("head ", id);
+    head.push_str(" end\n  :status: 200\n");
     let is_heard = hands_out(alloc, side, &frame, &head);
     give_out(alloc, side);
     is_asked && is_heard && side.conn().next_live(0).is_none()

@@ -82,11 +82,17 @@ fn part_of_output(alloc: Global, side: &mut Side, count: usize, text: &mut Text)
     out
 }
 
+// A message as it is written.
+fn text_of(alloc: Global, message: &Message) -> Text {
+    let mut text = Text::new(alloc);
+    add_message(alloc, &mut text, message);
+    text
+}
+
 // Says where another message is returned than was given.
 fn add_back(alloc: Global, text: &mut Text, given: Words<'_>, back: &Message) {
-    let (mut handed, mut own) = (Text::new(alloc), Text::new(alloc));
-    add_message(alloc, &mut handed, back);
-    add_message(alloc, &mut own, &read_again(alloc, given, text));
+    let handed = text_of(alloc, back);
+    let own = text_of(alloc, &read_again(alloc, given, text));
     if handed.as_str() != own.as_str() {
         text.push_str("another message is handed back: ");
         text.push_text(&handed);
@@ -155,14 +161,14 @@ fn add_active(side: &Side, is_counted: bool, text: &mut Text) {
             break;
         };
         if !is_counted {
-            write!(text, "{divider}{next}");
+            text.push_labeled(divider, next);
             divider = " ";
         }
         count = count.wrapping_add(1);
         last = next;
     }
     if is_counted || count == 0 {
-        write!(text, "{count}");
+        text.push_value(count);
     }
     text.push_str("\n");
 }
@@ -288,7 +294,8 @@ fn answer_call(alloc: Global, side: &mut Side, name: &str, words: &mut Words<'_>
 fn add_malformed(alloc: Global, side: &Side, text: &mut Text) {
     match side.last_malformed() {
         Some((id, rule)) => {
-            write!(text, "{id} ");
+            text.push_value(id);
+            text.push_str(" ");
             add_name(alloc, text, &rule);
         }
         None => text.push_line("none"),

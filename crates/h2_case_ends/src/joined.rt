@@ -81,7 +81,8 @@ impl Heard {
     // Adds what was kept after the name of the end.
     fn add_to(&mut self, name: &str, text: &mut Text) {
         self.end_body();
-        write!(text, "{name}:\n");
+        text.push_str(name);
+        text.push_line(":");
         for _ in 0..self.acked {
             text.push_line("acked");
         }

@@ -10,7 +10,7 @@ use h2_case::words::Words;
 use h2_case_conn::answers::{add_list, extend, lines_of};
 use h2_case_conn::cuts::WHOLE as UNCUT;
 use h2_case_conn::notes::{Taker, Used, take_part};
-use h2_ends::{EndEvent, FieldList};
+use h2_ends::{EndEvent, FieldList, Message};
 use h2_engines::Config;
 use h2_spec_log::Role;
 use std::alloc::Global;
@@ -106,24 +106,31 @@ impl Taker<Heard> for Side {
 
 // Adds the lines of a response: its stream, its fields, and its body.
 fn add_response(text: &mut Text, place: usize, response: &Response) {
-    let ended = if response.ended { "whole" } else { "cut off" };
-    write!(text, "{place} {ended}\n");
+    text.push_value(place);
+    text.push_line(if response.ended { " whole" } else { " cut off" });
     text.push_text(&response.head);
     text.push_str("  ");
     add_octets(text, &response.body);
     text.push_str("\n");
 }
 
+// The words of a request whose path and body are of its place.
+fn request_of(alloc: Global, place: u32, words: &mut Words<'_>) -> String {
+    let mut text = Text::new(alloc);
+    text.push_labeled(":method: POST | :scheme: http | :path: /", place);
+    text.push_labeled(" ; body count:", place);
+    lines_of(alloc, text, words)
+}
+
+// The message of these words.
+fn message_of(alloc: Global, given: &str) -> Message {
+    let mut words = Words::of(given);
+    read_message(alloc, &mut words)
+}
+
 // Makes a request whose path and body are of its place.
 fn ask(alloc: Global, client: &mut Side, place: u32, words: &mut Words<'_>) {
-    let mut text = Text::new(alloc);
-    write!(
-        text,
-        ":method: POST | :scheme: http | :path: /{place} ; body count:{place}"
-    );
-    let given = lines_of(alloc, text, words);
-    let mut message_words = Words::of(&given);
-    let message = read_message(alloc, &mut message_words);
+    let message = message_of(alloc, &request_of(alloc, place, words));
     if client.request(message).is_err() || client.pump().is_err() {
         words.unread();
     }

@@ -5,7 +5,7 @@ use h2_case::messages::read_message;
 use h2_case::octets::add_octets;
 use h2_case::text::Text;
 use h2_case::words::Words;
-use h2_case_conn::answers::{add_value, copy_of, lines_of};
+use h2_case_conn::answers::{add_labeled, add_value, copy_of, lines_of};
 use h2_engines::{Config, Fetched, Field, Link, MemoryLink, Message, fetch_link, serve_link};
 use std::alloc::Global;
 
@@ -100,7 +100,7 @@ fn serve(alloc: Global, config: Config, link: &mut MemoryLink, text: &mut Text) 
         return text.refuse();
     }
     match serve_link(alloc, link, config) {
-        Ok(count) => write!(text, "answered {count}\n"),
+        Ok(count) => add_labeled(text, "answered ", count),
         Err(error) => add_value(text, error),
     }
 }
@@ -151,7 +151,7 @@ impl Setup {
             Engine::Client => fetch(self.alloc, self.config, self.message(words), link, text),
         }
         if link.failures() > 0 {
-            write!(text, "failures {}\n", link.failures());
+            add_labeled(text, "failures ", link.failures());
         }
     }
 

@@ -16,7 +16,9 @@ fn add_other(
 ) {
     let other = setup.run(engine, calls, words).answer;
     if other.as_str() != answer {
-        write!(text, "in reads of {}:\n{other}", calls.read);
+        text.push_labeled("in reads of ", calls.read);
+        text.push_line(":");
+        text.push_str(&other);
     }
 }
 
@@ -45,22 +47,27 @@ pub(crate) fn add_run(
 
 // Adds what was answered to some numbers of first octets.
 fn add_range(text: &mut Text, first: usize, last: usize, answer: &str) {
-    if first == last {
-        write!(text, "{first} octets:\n{answer}");
-    } else {
-        write!(text, "{first} to {last} octets:\n{answer}");
+    text.push_value(first);
+    if first != last {
+        text.push_labeled(" to ", last);
+    }
+    text.push_line(" octets:");
+    text.push_str(answer);
+}
+
+// Adds the number of octets that a run has written to its answer.
+fn end_answer(run: &mut Run, words: &mut Words<'_>) {
+    if write!(run.answer, "written {}\n", run.output.len()).is_err() {
+        words.fail(CaseError::Memory);
     }
 }
 
 // The engine's answer to the first `count` octets, and the number of octets that it writes.
 fn answer_to(setup: &Setup, engine: Engine, count: usize, words: &mut Words<'_>) -> String {
     let input = setup.input.get(..count).unwrap_or(&setup.input);
-    let run = setup.run_on(engine, input, WHOLE, words);
-    let mut answer = run.answer;
-    if write!(answer, "written {}\n", run.output.len()).is_err() {
-        words.fail(CaseError::Memory);
-    }
-    answer
+    let mut run = setup.run_on(engine, input, WHOLE, words);
+    end_answer(&mut run, words);
+    run.answer
 }
 
 /// Adds what the engine answers to each number of first octets, and the number of octets that it
@@ -89,12 +96,15 @@ fn is_reported(run: &Run, output: &[u8]) -> bool {
 // whether it ends.
 fn ends_trial(complete: &Run, run: &Run, count: u64, text: &mut Text) -> bool {
     if run.answer == complete.answer && run.output == complete.output {
-        write!(text, "{count} calls\n");
+        text.push_value(count);
+        text.push_line(" calls");
         true
     } else if is_reported(run, &complete.output) {
         false
     } else {
-        write!(text, "after {count} calls:\n{}", run.answer);
+        text.push_labeled("after ", count);
+        text.push_line(" calls:");
+        text.push_str(&run.answer);
         true
     }
 }

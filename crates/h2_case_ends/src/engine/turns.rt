@@ -102,7 +102,7 @@ fn respond(setup: &mut Setup, mut responder: Responder, most: usize, text: &mut 
 // Adds what a client answers in turns.
 fn fetch(setup: &mut Setup, mut fetcher: Fetcher, most: usize, text: &mut Text) {
     let taken = run(&mut fetcher, &setup.input, most, &mut setup.output);
-    if taken == Ok(true) {
+    if matches!(taken, Ok(true)) {
         add_fetched(setup, fetcher.into_fetched(), text);
     } else {
         drop(fetcher);

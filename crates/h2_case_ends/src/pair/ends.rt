@@ -8,7 +8,7 @@ use h2_case::case::CaseError;
 use h2_case::octets::add_frames;
 use h2_case::text::Text;
 use h2_case::words::Words;
-use h2_case_conn::answers::{add_option, add_value, extend};
+use h2_case_conn::answers::{add_labeled, add_option, add_value, extend};
 use h2_joined::{Acted, Code, Config, Conn, Joined, JointAct, Side};
 use h2_settle::{Settled, settle};
 use std::alloc::Global;
@@ -64,8 +64,12 @@ struct Half {
 
 // Adds the line of what a case sees of an end.
 fn add_half(name: &str, half: Half, text: &mut Text) {
-    write!(text, "{name} {} {} ", half.accepted, half.handed);
-    write!(text, "{} {} ", half.waiting, half.piped);
+    text.push_str(name);
+    text.push_labeled(" ", half.accepted);
+    text.push_labeled(" ", half.handed);
+    text.push_labeled(" ", half.waiting);
+    text.push_labeled(" ", half.piped);
+    text.push_str(" ");
     add_option(text, half.room);
 }
 
@@ -326,7 +330,8 @@ impl Pair {
     // made, what has stopped it, and whether both are quiet.
     fn drive(&mut self, most: u64, text: &mut Text) {
         let settled = drive(&mut self.joined, most);
-        write!(text, "{}{}", settled.rounds, stopped(settled));
+        text.push_value(settled.rounds);
+        text.push_str(stopped(settled));
         if !self.joined.quiet() {
             return text.push_line("");
         }
@@ -383,7 +388,7 @@ impl Pair {
         if count == pipe.len() {
             add_frames(text, pipe);
         } else {
-            write!(text, "another count: {count}\n");
+            add_labeled(text, "another count: ", count);
         }
     }
 

@@ -19,7 +19,8 @@ impl FieldLines for KeptFields<'_> {
 
 /// Adds the line of a message that was accepted, which ends with ` ; open` where more may follow.
 pub(crate) fn add_accepted(alloc: Global, text: &mut Text, accepted: &Accepted) {
-    write!(text, "{}: ", accepted.id);
+    text.push_value(accepted.id);
+    text.push_str(": ");
     add_message(alloc, text, &accepted.message);
     text.push_line(if accepted.begun { " ; open" } else { "" });
 }
