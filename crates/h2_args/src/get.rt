@@ -2,11 +2,12 @@
 
 ghost use Rattle.std.specs.Prelude.{◌≡◌, ◌≤◌, IfErr, IfOk, IfSome, codes, false, map, pos, Some};
 ghost use Rattle.std.specs.Prelude.{[], string_bytes, unwrap_or};
-ghost use Rattle.clap.specs.Words.{HasKind, all_of, app_of, found_of, rows_of, rule_of};
+ghost use Rattle.clap.specs.Words.{HasKind, IsParsedFrom, all_of, app_of, found_of, rows_of};
+ghost use Rattle.clap.specs.Words.{rule_of};
 ghost use Rattle.h2_args.specs.Commands.{asking_app, flag_rule, get_app, header_rule, include_rule};
 ghost use Rattle.h2_args.specs.Commands.{number_option_rule, streaming_app, text_option_rule};
 ghost use Rattle.h2_args.specs.Commands.{others_rule, url_and_print_app, verbose_rule};
-ghost use Rattle.h2_args.specs.Words.{asked_by, get_faults, get_words_of};
+ghost use Rattle.h2_args.specs.Words.{asked_by, get_faults, get_words_in, get_words_of};
 
 use crate::options::{CommandText, flag_arg, is_set, named_command};
 use crate::sockets::required_arg;
@@ -61,24 +62,39 @@ pub fn get_args<'a>(alloc: Global, words: &'a [String]) -> Result<GetOptions<'a>
 {
     let command = get_command(alloc)?;
     let matches = command.try_get_matches_from(words)?;
+    options_of(alloc, &matches)
+}
+
+// rule: engines (own) serve, get and loop have their words
+// The options that the matches of `get` give.
+fn options_of<'a>(alloc: Global, matches: &ArgMatches<'a>) -> Result<GetOptions<'a>, Error>
+    requires { (command : Command) × (app_of command ≡ get_app) × IsParsedFrom command matches.now }
+    ensures ok { IfOk result (λ options.
+        get_words_in (rows_of (found_of matches.now)) ≡ asked_by options) }
+    ensures port { IfOk result (λ options.
+        IfSome options.port (λ port. (1 ≤ port) × (port ≤ 65535))) }
+    ensures timeout { IfOk result (λ options.
+        IfSome options.timeout (λ seconds. (1 ≤ seconds) × (seconds ≤ 65535))) }
+    ensures err { IfErr result (HasKind []) }
+{
     // It is required.
     let Some(url) = matches.get_str(URL) else {
         unreachable!();
     };
-    let fields = texts_of(alloc, &matches, HEADER)?;
-    let others = texts_of(alloc, &matches, OTHERS)?;
+    let fields = texts_of(alloc, matches, HEADER)?;
+    let others = texts_of(alloc, matches, OTHERS)?;
     Ok(GetOptions {
         url,
-        include: is_set(&matches, INCLUDE),
+        include: is_set(matches, INCLUDE),
         fields,
         method: matches.get_str(REQUEST),
         body: matches.get_str(DATA),
-        fail: is_set(&matches, FAIL),
+        fail: is_set(matches, FAIL),
         port: matches.get_one::<u16>(AT_PORT),
         output: matches.get_str(OUTPUT),
-        stream: is_set(&matches, STREAM),
+        stream: is_set(matches, STREAM),
         timeout: matches.get_one::<u16>(TIMEOUT),
-        verbose: is_set(&matches, VERBOSE),
+        verbose: is_set(matches, VERBOSE),
         others,
     })
 }

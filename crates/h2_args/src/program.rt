@@ -1,7 +1,7 @@
 //! Words that begin with no command's name.
 
-ghost use Rattle.std.specs.Prelude.{◌≡◌, IfErr, IfOk, OnOk, map, string_bytes};
-ghost use Rattle.clap.specs.Words.{app_of};
+ghost use Rattle.std.specs.Prelude.{◌≡◌, IfErr, IfOk, Ok, OnOk, map, string_bytes};
+ghost use Rattle.clap.specs.Words.{AddsSubcommand, app_of};
 ghost use Rattle.h2_args.specs.Commands.{IsProgram, bare_program, named_program};
 ghost use Rattle.h2_args.specs.Words.{ProgramWordsFail, ProgramWordsPass};
 
@@ -33,13 +33,27 @@ pub fn no_command(alloc: Global, words: &[String]) -> Result<(), Error>
 fn program_command<'a>(alloc: Global) -> Result<Command<'a>, AllocError>
     ensures { IfOk result (λ command. IsProgram (app_of command)) }
 {
-    bare_program(alloc)?
-        .subcommand(show_command(alloc)?)?
-        .subcommand(replay_command(alloc)?)?
-        .subcommand(serve_command(alloc)?)?
-        .subcommand(get_command(alloc)?)?
-        .subcommand(loop_command(alloc)?)?
-        .subcommand(host_command(alloc)?)
+    let program = bare_program(alloc)?;
+    let shown = with_command(program, show_command(alloc))?;
+    let replayed = with_command(shown, replay_command(alloc))?;
+    let served = with_command(replayed, serve_command(alloc))?;
+    let fetched = with_command(served, get_command(alloc))?;
+    let looped = with_command(fetched, loop_command(alloc))?;
+    with_command(looped, host_command(alloc))
+}
+
+// A program with one more command.
+fn with_command<'a>(
+    program: Command<'a>,
+    command: Result<Command<'a>, AllocError>,
+) -> Result<Command<'a>, AllocError>
+    ensures { IfOk result (λ one. (added : Command) × (command.entry ≡ Ok added)
+        × AddsSubcommand program.entry added one) }
+{
+    match command {
+        Ok(command) => program.subcommand(command),
+        Err(error) => Err(error),
+    }
 }
 
 // The program with no command yet.

@@ -1,138 +1,34 @@
--- What the getters read is what the words ask for.
-use Rattle.h2_args.proofs.Names.{◌≡◌, ◌∙◌, ◌≤◌, ℕ, [], List, Option, refl, ap, sym, codes, true}
-use Rattle.h2_args.proofs.Names.{is_some, false, Some, None, unwrap_or, arith, Text, first_of}
-use Rattle.h2_args.proofs.Names.{found_of, rows_of}
-use Rattle.h2_args.proofs.Names.{first_value-rows, get_app, required_rule, ExplainsUnsignedError}
-use Rattle.h2_args.proofs.Names.{HasUnsignedDigitsIfOk, ParsesUnsigned, App, HasKind, fault_of}
-use Rattle.h2_args.proofs.Names.{is_simple_and_free, map, string_bytes, subst}
-use Rattle.std.proofs.lemmas.Result.{err_from_is_err_and}
-use Rattle.std.specs.Prelude.{Bool, IfSome}
-use Rattle.h2_args.specs.Words.{GetWords, get_faults, get_words_in}
-use Rattle.h2_args.proofs.CommandLemmas.{get_is_alone, get_names_port, get_names_timeout}
-use Rattle.h2_args.proofs.CommandLemmas.{get_wants_url}
+-- The options of the matches are those that the words ask for.
+use Rattle.h2_args.proofs.Names.{◌≡◌, ◌∙◌, refl, ap, Some, App, HasKind, fault_of, get_app}
+use Rattle.h2_args.proofs.Names.{found_of, is_simple_and_free, map, rows_of, string_bytes, subst}
+use Rattle.std.proofs.lemmas.Result.{IfErr-weaker, IfOk-weaker, err_from_is_err_and}
+use Rattle.std.proofs.Common.{[], inl, inr}
+use Rattle.clap.specs.Words.{Kinds}
+use Rattle.clap.specs.declared.error.Error.{Error}
+use Rattle.h2_args.specs.Words.{asked_by, get_faults, get_words_in, get_words_of}
 use Rattle.h2_args.proofs.GivenLemmas.{given_by-Ok}
-use Rattle.h2_args.proofs.NumberOptionLemmas.{GivesNumberIf, option_number_if}
-use Rattle.h2_args.proofs.RequiredLemmas.{required_value}
-use Rattle.h2_args.proofs.get.get_args.Goals.{After-get_one, After-get_one-2}
 use Rattle.h2_args.proofs.get.get_args.Goals as goal
-
-pub unreachable-requires : goal.unreachable-requires
-unreachable-requires c =
-    let m = c.in_ok-matches.matches in
-    let some : is_some (first_of (codes "URL") (rows_of (found_of m))) ≡ true =
-    required_value get_app c.in_ok-command.command c.in_ok-command.ensures get_is_alone m
-    c.in_ok-matches.ensures.parsed 0 (required_rule (codes "URL")) get_wants_url in
-    let none : first_of (codes "URL") (rows_of (found_of m)) ≡ None =
-    sym (first_value-rows (found_of m) (codes "URL")) ∙ sym c.in_default.ensures in
-    let bad : false ≡ true = ap (λ (o : Option Text). is_some o) (sym none) ∙ some in
-    cc
-
--- words that ask for equal things are equal
-same_words : {url url_now : Text} {include include_now : Bool} {fields fields_now : List Text}
-    {method method_now body body_now : Option Text} {fail fail_now : Bool}
-    {port port_now : Option ℕ} {output output_now : Option Text} {stream stream_now : Bool}
-    {timeout timeout_now : Option ℕ} {verbose verbose_now : Bool}
-    {others others_now : List Text} → url ≡ url_now → include ≡ include_now → fields ≡ fields_now
-    → method ≡ method_now → body ≡ body_now → fail ≡ fail_now → port ≡ port_now
-    → output ≡ output_now → stream ≡ stream_now → timeout ≡ timeout_now
-    → verbose ≡ verbose_now → others ≡ others_now
-    → ◌≡◌ {A = GetWords} (record {
-      url = url;
-      include = include;
-      fields = fields;
-      method = method;
-      body = body;
-      fail = fail;
-      port = port;
-      output = output;
-      stream = stream;
-      timeout = timeout;
-      verbose = verbose;
-      others = others;
-    }) (record {
-      url = url_now;
-      include = include_now;
-      fields = fields_now;
-      method = method_now;
-      body = body_now;
-      fail = fail_now;
-      port = port_now;
-      output = output_now;
-      stream = stream_now;
-      timeout = timeout_now;
-      verbose = verbose_now;
-      others = others_now;
-    })
-same_words a b c d e f g h k l m n = λ i. record {
-  url = a i;
-  include = b i;
-  fields = c i;
-  method = d i;
-  body = e i;
-  fail = f i;
-  port = g i;
-  output = h i;
-  stream = k i;
-  timeout = l i;
-  verbose = m i;
-  others = n i;
-}
-
--- the port is the number that is given, if one is
-port_of : (c : After-get_one)
-    → GivesNumberIf c.get_one.result 1 65535 (codes "port")
-    (rows_of (found_of c.in_ok-matches.matches))
-port_of c = option_number_if get_app c.in_ok-command.command c.in_ok-command.ensures get_is_alone
-    c.in_ok-matches.matches c.in_ok-matches.ensures.parsed 6 (codes "port") 1 65535 get_names_port _
-    (λ bs r. ParsesUnsigned 16 10 bs r × ExplainsUnsignedError 10 bs r × HasUnsignedDigitsIfOk bs r)
-    16 c.get_one.result c.get_one.ensures.none c.get_one.ensures.value (λ u x gives. gives.0)
-    (omega arith) (omega arith)
-
--- and so are the seconds
-timeout_of : (c : After-get_one-2)
-    → GivesNumberIf c.get_one-2.result 1 65535 (codes "timeout")
-    (rows_of (found_of c.in_ok-matches.matches))
-timeout_of c =
-    option_number_if get_app c.in_ok-command.command c.in_ok-command.ensures get_is_alone
-    c.in_ok-matches.matches c.in_ok-matches.ensures.parsed 9 (codes "timeout") 1 65535
-    get_names_timeout _
-    (λ bs r. ParsesUnsigned 16 10 bs r × ExplainsUnsignedError 10 bs r × HasUnsignedDigitsIfOk bs r)
-    16 c.get_one-2.result c.get_one-2.ensures.none c.get_one-2.ensures.value (λ u x gives. gives.0)
-    (omega arith) (omega arith)
-
--- a number that is given lies between these
-within : (r : Option ℕ) → IfSome r (λ number. 1 ≤ number) → IfSome r (λ number. number ≤ 65535)
-    → IfSome r (λ number. (1 ≤ number) × (number ≤ 65535))
-within None low high = tt
-within (Some number) low high = (low, high)
-
-pub returns-clause-port : goal.returns-clause-port
-returns-clause-port c =
-    let given = port_of (goal.at.returns-clause-port c).After-get_one in
-    within c.get_one.result given.low given.high
-
-pub returns-clause-timeout : goal.returns-clause-timeout
-returns-clause-timeout c =
-    let given = timeout_of (goal.at.returns-clause-timeout c).After-get_one-2 in
-    within c.get_one-2.result given.low given.high
 
 pub returns-clause-ok : goal.returns-clause-ok
 returns-clause-ok c =
-    let found = found_of c.in_ok-matches.matches in
-    let given = port_of (goal.at.returns-clause-ok c).After-get_one in
-    let time = timeout_of (goal.at.returns-clause-ok c).After-get_one-2 in
-    let url : unwrap_or (first_of (codes "URL") (rows_of found)) [] ≡ c.in-Some.url.now =
-    ap (λ (o : Option Text). unwrap_or o [])
-    (sym (first_value-rows found (codes "URL")) ∙ sym c.in-Some.ensures) in
-    let method = sym (first_value-rows found (codes "request")) ∙ sym c.get_str-2.ensures in
-    let body = sym (first_value-rows found (codes "data")) ∙ sym c.get_str-3.ensures in
-    let output = sym (first_value-rows found (codes "output")) ∙ sym c.get_str-4.ensures in
-    given_by-Ok get_app get_words_in _ c.in_ok-command.command c.in_ok-matches.matches
-    c.in_ok-command.ensures refl refl c.in_ok-matches.ensures.matches
-    c.in_ok-matches.ensures.kinds ∙ ap Some (same_words url (sym c.is_set.ensures)
-    (sym c.in_ok-fields.ensures) method body (sym c.is_set-2.ensures) (sym given.read) output
-    (sym c.is_set-3.ensures) (sym time.read) (sym c.is_set-4.ensures)
-    (sym c.in_ok-others.ensures))
+    let words = map string_bytes c.args.words.now in
+    let read = get_words_in (rows_of (found_of c.in_ok-matches.matches)) in
+    let given : get_words_of words ≡ Some read = given_by-Ok get_app get_words_in words
+    c.in_ok-command.command c.in_ok-matches.matches c.in_ok-command.ensures refl refl
+    c.in_ok-matches.ensures.matches c.in_ok-matches.ensures.kinds in
+    IfOk-weaker c.options_of.result (λ options. read ≡ asked_by options)
+    (λ options. get_words_of words ≡ Some (asked_by options)) (λ options is. given ∙ ap Some is)
+    c.options_of.ensures.ok
+
+-- that memory ran out is among all kinds
+among : (kinds : Kinds) (error : Error) → HasKind [] error → HasKind kinds error
+among kinds error (inl memory) = inl memory
+among kinds error (inr none) = absurd none
+
+pub returns-clause-err : goal.returns-clause-err
+returns-clause-err c =
+    IfErr-weaker c.options_of.result _ _ (among (get_faults (map string_bytes c.args.words.now)))
+    c.options_of.ensures.err
 
 pub returns-in_err-matches-clause-err : goal.returns-in_err-matches-clause-err
 returns-in_err-matches-clause-err c =

@@ -1,6 +1,7 @@
 use Rattle.h2_args.proofs.Names.{◌≡◌, ◌∙◌, ap, App, app_of, Command, get_app, loop_app, replay_app}
 use Rattle.h2_args.proofs.Names.{host_app, serve_app, show_app}
-use Rattle.std.proofs.Common.{ap₂}
+use Rattle.std.proofs.Common.{ap₂, Ok, Result, subst}
+use Rattle.std.specs.Prelude.{IfOk}
 use Rattle.std.proofs.lemmas.Result.{IfOk-weaker}
 use Rattle.clap.specs.Words.{AddsSubcommand, with_subcommand}
 use Rattle.h2_args.specs.Commands.{bare_program}
@@ -15,24 +16,35 @@ added : (old sub new : Command) (before a : App) → AddsSubcommand old sub new 
 added old sub new before a adds alone is sub_is = adds.shape (simple a sub sub_is alone).globals
     ∙ ap₂ with_subcommand is (ap (λ (x : App). x.top) sub_is)
 
+-- a command that there is is what it is said to be
+there : (P : Command → Type 0) {E : Type 0} (made : Result Command E) (command : Command)
+    → IfOk made P → made ≡ Ok command → P command
+there P {E} made command has is = subst (λ (r : Result Command E). IfOk r P) is has
+
 pub returns : goal.returns
 returns c =
-    let shown = c.in_ok-show_command.ensures in
-    let replayed = c.in_ok-replay_command.ensures in
-    let one = added _ _ _ bare_program (show_app shown.0) c.in_ok-subcommand.ensures
-    (show_is_alone shown.0) c.in_ok-bare_program.ensures shown.2 in
-    let two = added _ _ _ _ (replay_app replayed.0) c.in_ok-subcommand-2.ensures
-    (replay_is_alone replayed.0) one replayed.2 in
-    let three = added _ _ _ _ serve_app c.in_ok-subcommand-3.ensures serve_is_alone two
-    c.in_ok-serve_command.ensures in
-    let four = added _ _ _ _ get_app c.in_ok-subcommand-4.ensures get_is_alone three
-    c.in_ok-get_command.ensures in
-    let five = added _ _ _ _ loop_app c.in_ok-subcommand-5.ensures loop_is_alone four
-    c.in_ok-loop_command.ensures in
-    IfOk-weaker c.subcommand-6.result _ _ (λ r adds. (
+    let show = c.in_ok-shown.ensures in
+    let replay = c.in_ok-replayed.ensures in
+    let serve = c.in_ok-served.ensures in
+    let get = c.in_ok-fetched.ensures in
+    let loops = c.in_ok-looped.ensures in
+    let shown = there _ _ show.0 c.show_command.ensures show.1 in
+    let replayed = there _ _ replay.0 c.replay_command.ensures replay.1 in
+    let one = added _ _ _ bare_program (show_app shown.0) show.2 (show_is_alone shown.0)
+    c.in_ok-program.ensures shown.2 in
+    let two = added _ _ _ _ (replay_app replayed.0) replay.2 (replay_is_alone replayed.0) one
+    replayed.2 in
+    let three = added _ _ _ _ serve_app serve.2 serve_is_alone two
+    (there _ _ serve.0 c.serve_command.ensures serve.1) in
+    let four = added _ _ _ _ get_app get.2 get_is_alone three
+    (there _ _ get.0 c.get_command.ensures get.1) in
+    let five = added _ _ _ _ loop_app loops.2 loop_is_alone four
+    (there _ _ loops.0 c.loop_command.ensures loops.1) in
+    IfOk-weaker c.with_command-6.result _ _ (λ r host. (
       shown.0,
       replayed.0,
       shown.1,
       replayed.1,
-      added _ _ r _ host_app adds host_is_alone five c.in_ok-host_command.ensures,
-    )) c.subcommand-6.ensures
+      added _ _ r _ host_app host.2 host_is_alone five
+          (there _ _ host.0 c.host_command.ensures host.1),
+    )) c.with_command-6.ensures
