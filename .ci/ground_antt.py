@@ -179,9 +179,13 @@ class Index:
     def inner(self, path, around, depth):
         """Follows a path whose first name is brought in by a `use` line of the file around it, or is the kit's."""
         file, found = self.file(around) if around in self.texts else None, []
-        for given, _ in file.uses.get(path[0], ()) if file else ():
+        for given, words in file.uses.get(path[0], ()) if file else ():
             if given != path and given[0] != path[0]:
-                found += self.path(given + path[1:], around, depth + 1)
+                known = self.path(given + path[1:], around, depth + 1)
+                found += [(*it, words) for it in known] if words else known
+        # (a module below the file that it stands in)
+        if not found and file and (*around, path[0]) in self.texts:
+            return self.path(("Rattle", *around, *path), around, depth + 1)
         return found or [(KIT, path)]
 
     def names_in(self, words, uses, own, around):
@@ -191,6 +195,8 @@ class Index:
             first, *rest = word.split(".")
             if first in own:
                 found[first] = [(ITEM, around, it) for it in own[first]]
+            elif around and rest and first not in uses and (*around, first) in self.texts:
+                found[word] = list(self.path(("Rattle", *around, *(it for it in word.split(".") if it)), around))
             elif first == "Rattle":
                 found[word] = list(self.path(tuple(it for it in word.split(".") if it)))
             for path, flags in uses.get(first, ()):

@@ -50,7 +50,9 @@ class Part:
         self.kind, self.name, self.file, self.head = kind, name, file, head
         self.text, self.promise = bare(text), bare(text if promise is None else promise)
         self.key, self.owner, self.members, self.consts, self.ghosts = "", "", (), (), {}
-        if kind == "fn" and re.match(r"(?:#\[[^\]]*\] )*(?:pub(?:\([^)]*\))? )?const ", self.promise):
+        signature = self.promise.split("fn ")[0].rpartition("]")[2]
+        self.is_const = kind == "fn" and bool(re.search(r"\bconst\b", signature))
+        if self.is_const:
             self.promise = self.text
         # What holds other items, or makes them, stands for each name that is declared in it, and else in it.
         if kind == "extern" or kind == "mod" and "{" in self.text:
@@ -136,7 +138,8 @@ class File:
                 given = re.match(r"(?s)(?:#\[.*?\] )*(pub(?:\([^)]*\))? )?use (.*?);", bare(text))
                 for alias, path in uses_in("", given[2]) if given else ():
                     self.uses.setdefault(alias, []).append(path)
-                    if given[1]:
+                    # (the modules below a file see its own aliases too)
+                    if given[1] or path.split("::")[-1] not in (alias, "self", "*"):
                         self.given.setdefault(alias, []).append(path)
         elif kind in ("fn", "impl", "trait"):
             self.add_functions(kind, name, first, end)

@@ -83,6 +83,7 @@ class Grounds:
     def attach(self, part):
         """Gives types their methods, and types and traits the impls that name them."""
         head = set(ground_code.NAME.findall(part.owner))
+        head |= {it for name in head for path in part.file.uses.get(name, ()) for it in ground_code.NAME.findall(path)}
         names = self.scope(part.file.crate).names
         # (an impl may name its type by an alias)
         aliases = [it for name in head for it in names.get(name, ()) if it.kind == "type"]
@@ -220,7 +221,11 @@ class Grounds:
         crate, names = part.file.crate, part.file.module.split("::")[1:]
         mods = [it.text for name in names for it in self.by_name.get((crate, name), ()) if it.kind == "mod"]
         roots = [it.attributes for it in self.code.files[crate] if it.module == crate]
-        lines = [part.file.attributes, *part.file.imports, *roots, *mods]
+        # (what stands atop the file of a module holds in the files of its inner modules too)
+        inner, outer = f"{part.file.module}::", {crate, part.file.module}
+        above = [it for it in self.code.files[crate] if it.attributes and it.module not in outer]
+        above = [it.attributes for it in above if inner.startswith(f"{it.module}::")]
+        lines = [part.file.attributes, *part.file.imports, *roots, *mods, *above]
         return "\n".join([part.key, part.head, part.text, *lines])
 
     # Sums of nodes with all that they reach, and which types, traits and bodies that is, as bits of a number.
@@ -229,7 +234,8 @@ class Grounds:
         if node[0] == UNKNOWN:
             return 1
         part = node[1] if node[0] in ("promise", "body") else None
-        if part is None or node[0] == "promise" and part.kind in ("fn", "impl", "mod"):
+        is_const = part is not None and part.kind == "fn" and part.is_const
+        if part is None or node[0] == "promise" and part.kind in ("fn", "impl", "mod") and not is_const:
             return 0
         if node not in self.bits:
             self.bits[node] = len(self.marks)
@@ -304,7 +310,8 @@ class Grounds:
         """Yields what types, traits and bodies bring that were reached just now, and adds the words of these bodies."""
         new = set()
         for how, part in fresh:
-            if how == "body" or part.kind in ("const", "static", "macro_rules!", "several"):
+            # (of a function that is no constant only the body has a bit)
+            if how == "body" or part.kind in ("fn", "const", "static", "macro_rules!", "several"):
                 new |= set(ground_code.NAME.findall(part.text)) - words
         words |= new
         found = [it for name in new for it in scope.traits.get(name, ())]
@@ -345,10 +352,12 @@ class Grounds:
         found = [it for name in reach.functions | reach.users for it in self.by_key.get(name, ())]
         if {it.key for it in found} != reach.functions | reach.users:
             return None
-        names, parts = set(), [it for file in self.code.files[crate] for it in file.parts]
-        for file, old, _ in pairs if reach.users else ():
-            text = self.read(crate, file)
-            before = text[: text.index(old)].split("\n") if old in text else [""]
+        names, texts, parts = set(), {}, [it for file in self.code.files[crate] for it in file.parts]
+        for file, old, new in pairs if reach.users else ():
+            text = texts[file] if file in texts else self.read(crate, file)
+            texts[file] = text.replace(old, new)
+            # (the edit may begin with the constant's line)
+            before = text.split("\n")[: text[: text.index(old)].count("\n") + 1]
             item = next((it for it in reversed(before) if re.match(r"\w", it)), "")
             names |= set(re.findall(r"^(?:const|static) (\w+)", item))
         while names:
