@@ -40,11 +40,13 @@ fn serve(
     counts: &mut Counts,
 ) -> Result<()> {
     let config = Config::new(4_096, 65_535, 1_000)?;
+    let head = Message::response(alloc, 200)?.head;
+    let body = vec![in alloc; 0x61u8; body]?;
     let mut answers = Answers {
         alloc,
         server: Server::new(alloc, config)?,
-        head: Message::response(alloc, 200)?.head,
-        body: vec![in alloc; 0x61u8; body]?,
+        head,
+        body,
         in_parts,
     };
     answers.take_all(octets, counts)

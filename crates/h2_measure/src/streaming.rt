@@ -93,14 +93,21 @@ impl Write for Pipe<'_> {
 
 /// A client that asks for the file.
 fn asking(alloc: Global) -> Result<Reader> {
-    let mut client = Client::new(alloc, Config::default())?;
     let request = Message::get(alloc, b"localhost", b"/")?;
-    client.request(request).map_err(|(_, refusal)| refusal)?;
-    Ok(Reader {
-        client,
+    let mut reader = Reader {
+        client: Client::new(alloc, Config::default())?,
         octets: 0,
         bodies: 0,
-    })
+    };
+    ask(&mut reader.client, request)?;
+    Ok(reader)
+}
+
+fn ask(client: &mut Client, request: Message) -> Result<()> {
+    match client.request(request) {
+        Ok(_) => Ok(()),
+        Err((_, refusal)) => Err(refusal.into()),
+    }
 }
 
 /// Serves a file of so many octets. The driver looks before there is an end, and at last.

@@ -10,10 +10,19 @@ use std::alloc::{AllocError, Global};
 /// All that a client sends that makes these requests at once; none when out of memory.
 pub(crate) fn asked(alloc: Global, messages: Vec<Message>) -> Option<Vec<u8>> {
     let mut client = Client::new(alloc, Config::default()).ok()?;
+    ask_all(alloc, &mut client, messages)
+}
+
+fn ask_all(alloc: Global, client: &mut Client, messages: Vec<Message>) -> Option<Vec<u8>> {
     for message in messages {
         client.request(message).ok()?;
     }
     client.pump().ok()?;
+    output_of(alloc, client)
+}
+
+/// All output of a client; none when out of memory.
+pub(crate) fn output_of(alloc: Global, client: &mut Client) -> Option<Vec<u8>> {
     let mut octets = Vec::new(alloc);
     client.put_out(usize::MAX, &mut octets).ok()?;
     Some(octets)

@@ -2,7 +2,7 @@
 
 ghost use Rattle.std.specs.Prelude.{◌≡◌};
 
-use crate::serve::asked::{link_of, place_of};
+use crate::serve::asked::{link_of, output_of, place_of};
 use h2_ends::{Client, Config, Message};
 use h2_engines::{Link, MemoryLink};
 use h2_handlers::{Echo, Gather};
@@ -18,14 +18,20 @@ const RESET: &[u8] = b"\x00\x00\x04\x03\x00\x00\x00\x00\x01\x00\x00\x00\x08";
 /// What a client sends that begins a request, resets it, and makes another.
 fn asked_twice(alloc: Global) -> Option<Vec<u8>> {
     let mut client = Client::new(alloc, Config::default()).ok()?;
-    let first = Message::request(alloc, b"POST", b"h", b"/a").ok()?;
-    let id = client.begin(&first.head).ok()?;
-    client.reset(id, 8).ok()?;
+    ask_twice(alloc, &mut client)
+}
+
+fn ask_twice(alloc: Global, client: &mut Client) -> Option<Vec<u8>> {
+    begin_and_reset(alloc, client)?;
     let second = Message::get(alloc, b"h", b"/b").ok()?;
     client.request(second).ok()?;
-    let mut octets = Vec::new(alloc);
-    client.put_out(usize::MAX, &mut octets).ok()?;
-    Some(octets)
+    output_of(alloc, client)
+}
+
+fn begin_and_reset(alloc: Global, client: &mut Client) -> Option<()> {
+    let first = Message::request(alloc, b"POST", b"h", b"/a").ok()?;
+    let id = client.begin(&first.head).ok()?;
+    client.reset(id, 8).ok()
 }
 
 /// Whether the second request alone is answered, whole, and both are counted.

@@ -105,13 +105,20 @@ fn drops_empty(alloc: Global, waits_first: bool) -> bool {
     let Some(mut fetch) = fetch_of_two(alloc) else {
         return false;
     };
-    let Ok(mut link) = link_of(alloc, &[EMPTY], 100) else {
-        return false;
-    };
-    if waits_first {
-        return says_all_later(&mut fetch, &mut link);
+    match link_of(alloc, &[EMPTY], 100) {
+        Ok(mut link) => drops_empty_over(&mut fetch, &mut link, waits_first),
+        Err(_) => false,
     }
-    says_all(&mut fetch, &mut link)
+}
+
+fn drops_empty_over(fetch: &mut SeveralFetch, link: &mut MemoryLink, waits_first: bool) -> bool
+    requires { link.old.failures ≡ 0 }
+{
+    if waits_first {
+        says_all_later(fetch, link)
+    } else {
+        says_all(fetch, link)
+    }
 }
 
 // rule: engines (own) Responses of several requests are what is handed out, each in order
