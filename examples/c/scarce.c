@@ -2,14 +2,16 @@
  * are joined in memory: gcc .. -Wl,--wrap=malloc,--wrap=realloc.
  *
  * A call that was refused memory answers BJ_MEMORY, and does its work when it is made again; or a
- * connection fails with INTERNAL_ERROR. After each run the heap is where it was, as it can be seen
+ * connection fails with INTERNAL_ERROR. A whole body of 4,096 octets and more is shared with the
+ * output: where memory for that is refused it is copied later, and no call answers BJ_MEMORY. After
+ * each run the heap is where it was, as it can be seen
  * where GLIBC_TUNABLES is glibc.malloc.tcache_count=0:glibc.malloc.mxfast=0. */
 #include "belkjoef.h"
 #include <malloc.h>
 #include <stdio.h>
 #include <stdlib.h>
 
-enum { PIECE = 4096, BODY = 30000, INTERNAL_ERROR = 2 };
+enum { PIECE = 4096, BODY = 30000, INTERNAL_ERROR = 2, WHOLE_BODIES = 2 };
 
 static long left, calls, refused;
 static int wrong;
@@ -104,7 +106,7 @@ static void speak(bj_end *client, bj_end *server) {
 int main(void) {
   bj_config config;
   bj_end client = {0}, server = {0};
-  long k = 0;
+  long k = 0, unnoticed = 0;
   bj_config_default(&config);
   left = -1;
   want("the first end", bj_client_new(&config, &client), BJ_OK);
@@ -119,13 +121,17 @@ int main(void) {
     bj_free(&client);
     bj_free(&server);
     left = -1;
-    want("refusals", refused, calls >= k);
+    if (calls >= k && refused == 0)
+      unnoticed++;
+    else
+      want("refusals", refused, calls >= k);
     want("octets of the heap", (long)mallinfo2().uordblks, (long)before);
     if (wrong) {
       printf("scarce: so with allocation %ld refused\n", k);
       return 1;
     }
   } while (calls >= k);
+  want("refusals that no call has answered", unnoticed, WHOLE_BODIES);
   printf("%ld allocations, each of them refused once\n", k - 1);
-  return 0;
+  return wrong != 0;
 }
