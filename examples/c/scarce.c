@@ -4,8 +4,8 @@
  * A call that was refused memory answers BJ_MEMORY, and does its work when it is made again; or a
  * connection fails with INTERNAL_ERROR. A whole body of 4,096 octets and more is shared with the
  * output: where memory for that is refused it is copied later, and no call answers BJ_MEMORY. After
- * each run the heap is where it was, as it can be seen
- * where GLIBC_TUNABLES is glibc.malloc.tcache_count=0:glibc.malloc.mxfast=0. */
+ * each run the heap is where it was, as it can be seen where GLIBC_TUNABLES is
+ * glibc.malloc.tcache_count=0:glibc.malloc.mxfast=0. */
 #include "belkjoef.h"
 #include <malloc.h>
 #include <stdio.h>
