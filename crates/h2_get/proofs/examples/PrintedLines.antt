@@ -1,5 +1,6 @@
 -- What is printed of responses.
 use Rattle.std.proofs.Common.{◌≡◌, [], ◌∷◌, ◌++◌, codes, refl, true, false, Some, None}
+use Rattle.hex.specs.Hex.{encode_with}
 use Rattle.h2_message.specs.Messages.{plain_field}
 use Rattle.h2_get.specs.Responses.{failure_line, is_failure, response_lines, trailer_lines}
 
@@ -11,6 +12,7 @@ fields_but_the_status = refl
 
 no_control_characters : response_lines (plain_field (codes "a") (27 ∷ 91 ∷ 255 ∷ 92 ∷ []) ∷ [])
     ≡ codes "a: \\x1b[\\xff\\x5c\n"
+unfolding encode_with
 no_control_characters = refl
 
 trailers : trailer_lines (Some (plain_field (codes "a") (codes "b") ∷ [])) ≡ codes "\na: b\n"
