@@ -11,7 +11,10 @@
 #include <stdio.h>
 #include <stdlib.h>
 
-enum { PIECE = 4096, BODY = 30000, INTERNAL_ERROR = 2, WHOLE_BODIES = 2 };
+enum { PIECE = 4096, BODY = 30000, INTERNAL_ERROR = 2 };
+
+/* What sharing the two whole bodies allocates: two allocations each. */
+enum { SHARING = 2 * 2 };
 
 static long left, calls, refused;
 static int wrong;
@@ -131,7 +134,7 @@ int main(void) {
       return 1;
     }
   } while (calls >= k);
-  want("refusals that no call has answered", unnoticed, WHOLE_BODIES);
+  want("refusals that no call has answered", unnoticed, SHARING);
   printf("%ld allocations, each of them refused once\n", k - 1);
   return wrong != 0;
 }
