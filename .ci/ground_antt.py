@@ -193,12 +193,14 @@ class Index:
         found = {}
         for word in words:
             first, *rest = word.split(".")
+            # (added to what another word may have brought, so that the order of words is of no meaning)
             if first in own:
-                found[first] = [(ITEM, around, it) for it in own[first]]
+                found.setdefault(first, []).extend((ITEM, around, it) for it in own[first])
             elif around and rest and first not in uses and (*around, first) in self.texts:
-                found[word] = list(self.path(("Rattle", *around, *(it for it in word.split(".") if it)), around))
+                inner = self.path(("Rattle", *around, *(it for it in word.split(".") if it)), around)
+                found.setdefault(word, []).extend(inner)
             elif first == "Rattle":
-                found[word] = list(self.path(tuple(it for it in word.split(".") if it)))
+                found.setdefault(word, []).extend(self.path(tuple(it for it in word.split(".") if it)))
             for path, flags in uses.get(first, ()):
                 known, name = self.path(path, around), first
                 if rest and rest[0] and any(it[0] != ITEM for it in known):

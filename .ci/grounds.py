@@ -167,8 +167,9 @@ class Grounds:
             paths = file.uses.get(name, []) + (scope.given.get(name, []) if name in opened or "*" in file.uses else [])
             told |= {f"{name} = {it}" for it in paths}
             more = {it for path in paths for it in ground_code.NAME.findall(path.split(" ")[-1])}
+            # (a name that is opened only now is looked at again)
+            waiting += more - (names & opened)
             opened |= more
-            waiting += more - names
             names |= more
         found = [("promise", it) for name in names for it in scope.names.get(name, ()) if it.kind != "mod"]
         for name in names & scope.functions.keys():
