@@ -1,7 +1,7 @@
-//! A server of one thread a connection, which sends back what comes: `hello PORT`.
+//! A server with one thread for each connection, which sends back bodies: `hello PORT`.
 //!
-//! A request without a body is answered with a text. Bodies go out in parts, and of one that is
-//! sent back no more is taken than was sent.
+//! A request without a body gets a text. A body is sent back in parts, and credit is returned only
+//! for what was sent back.
 
 use belkjoef::{Config, Event, Field, Server};
 use std::collections::BTreeMap;
@@ -11,12 +11,12 @@ use std::net::{TcpListener, TcpStream};
 use std::thread;
 use std::time::Duration;
 
-/// An answer that is under way.
+/// A response under way.
 #[derive(Default)]
 struct Answer {
-    /// What has come of the request's body and wasn't sent.
+    /// The octets of the request's body that were received and not yet sent.
     kept: Vec<u8>,
-    /// Whether the request is whole.
+    /// Whether the request is complete.
     whole: bool,
 }
 
@@ -98,7 +98,7 @@ fn take(
     }
 }
 
-/// Sends what waits of answers, as far as their windows go, and writes.
+/// Sends what waits of responses, as far as windows allow, and writes it.
 fn send(server: &mut Server, answers: &mut Answers, stream: &mut TcpStream) -> io::Result<()> {
     let mut over = Vec::new();
     for (&id, answer) in answers.iter_mut() {

@@ -81,7 +81,7 @@ impl Client {
     /// `OutputFull`. `ListTooLarge`.
     pub fn request(&mut self, head: &[Field<'_>], body: &[u8]) -> Result<u32, Error> {
         let mut stream = 0;
-        // SAFETY: the pointers are of the place, of so many fields, of so many octets and of a
+        // SAFETY: the pointers point to the place, that many fields, that many octets and a
         // number.
         check(unsafe {
             let (fields, octets) = (head.as_ptr(), body.as_ptr());
@@ -99,7 +99,7 @@ impl Client {
     /// As for [`request`](Client::request).
     pub fn begin(&mut self, head: &[Field<'_>]) -> Result<u32, Error> {
         let mut stream = 0;
-        // SAFETY: the pointers are of the place, of so many fields and of a number.
+        // SAFETY: the pointers point to the place, that many fields and a number.
         check(unsafe {
             ffi::bj_begin_request(self.place(), head.as_ptr(), head.len(), &mut stream)
         })?;

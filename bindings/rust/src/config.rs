@@ -52,7 +52,7 @@ impl Default for Config {
     fn default() -> Self {
         let mut raw =
             ffi::Config { table_limit: 0, initial_window: 0, max_streams: 0, max_frame: 0 };
-        // SAFETY: the pointer is of a `bj_config`.
+        // SAFETY: the pointer points to a `bj_config`.
         unsafe { ffi::bj_config_default(&mut raw) };
         Config {
             table_limit: raw.table_limit,

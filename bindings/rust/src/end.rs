@@ -15,16 +15,16 @@ use std::ptr;
 ///
 /// It can be sent to another thread, but is used by one thread at a time.
 pub struct End<Role> {
-    /// The place of the library. Readers write it too, and put back what was there. It holds no
-    /// address of itself, so a move of the end moves it.
+    /// The object of the library. Readers write it too, and put back what was there. It doesn't
+    /// hold its own address, so it can be moved.
     place: UnsafeCell<ffi::End>,
-    /// Room for the fields that are lent; they are used only while an event lends them.
+    /// Memory for the fields that are lent; used only while an event lends them.
     fields: Vec<Field<'static>>,
     role: PhantomData<Role>,
 }
 
-// SAFETY: what the place holds is owned, and used by one thread at a time: `UnsafeCell` keeps the
-// end from being shared. The fields are used by a borrower of the end alone.
+// SAFETY: the end owns what the place holds, and one thread at a time uses it, since `UnsafeCell`
+// keeps the end from being shared. Only a borrower of the end uses the fields.
 unsafe impl<Role> Send for End<Role> {}
 
 impl<Role> Drop for End<Role> {
@@ -40,19 +40,19 @@ impl<Role> fmt::Debug for End<Role> {
     }
 }
 
-/// Makes an end of a configuration, or refuses.
+/// Creates an end with a configuration, or refuses.
 type Make = unsafe extern "C" fn(*const ffi::Config, *mut ffi::End) -> c_int;
 
 impl<Role> End<Role> {
     pub(crate) fn make(config: &Config, make: Make) -> Result<Self, Error> {
         let place = UnsafeCell::new(ffi::End { at: ptr::null_mut(), state: 0 });
-        // SAFETY: the pointers are of a `bj_config` and of a place that is all zero.
+        // SAFETY: the pointers point to a `bj_config` and a place that is all zero.
         check(unsafe { make(&config.raw(), place.get()) })?;
         Ok(End { place, fields: Vec::new(), role: PhantomData })
     }
 
-    /// The place, for one call. What an end lends is borrowed from it, so nothing is lent while a
-    /// call is made.
+    /// The object, for one call. What an end lends borrows the end, so nothing is lent during a
+    /// call.
     pub(crate) fn place(&self) -> *mut ffi::End {
         self.place.get()
     }
@@ -112,7 +112,7 @@ impl<Role> End<Role> {
             length: 0,
             user: 0,
         };
-        // SAFETY: the pointers are of the place, of so many octets and of a `bj_event`.
+        // SAFETY: the pointers point to the place, that many octets and a `bj_event`.
         let answer =
             unsafe { ffi::bj_take(self.place(), octets.as_ptr(), octets.len(), &mut event) };
         if answer == ffi::FAILED {
@@ -120,8 +120,8 @@ impl<Role> End<Role> {
         }
         check(answer)?;
         let (used, user) = (event.used, event.user);
-        // SAFETY: the end and the octets are borrowed for as long as the event is used, and no
-        // call of the end is made meanwhile; the octets lie in one of the two.
+        // SAFETY: the event borrows the end and the octets, so no call of the end is made while
+        // it is in use; the octets lie in one of the two.
         let body: &'a [u8] = unsafe { ffi::lent(event.octets, event.length) };
         Ok(Taken { used, event: self.event(&event, body), user })
     }
@@ -142,12 +142,12 @@ impl<Role> End<Role> {
         })
     }
 
-    /// The fields that were handed out last, all in one call: what another call had lent would be
-    /// lent no more.
+    /// Lends the fields that were handed out last, all in one call, since each call ends the loans
+    /// of the one before.
     fn lend_fields(&mut self, count: usize) -> Fields<'_> {
         let mut said = 0;
         self.fields.resize(count, Field::new("", ""));
-        // SAFETY: the pointers are of the place, of so many fields and of a number.
+        // SAFETY: the pointers point to the place, that many fields and a number.
         unsafe { ffi::bj_fields(self.place(), 0, self.fields.as_mut_ptr(), count, &mut said) };
         self.fields.truncate(said);
         Fields::new(&self.fields)
@@ -162,7 +162,7 @@ impl<Role> End<Role> {
     /// `Closed`. `Memory`: what was queued stays queued.
     pub fn pump(&mut self) -> Result<usize, Error> {
         let mut sent = 0;
-        // SAFETY: the pointers are of the place and of a number.
+        // SAFETY: the pointers point to the place and a number.
         check(unsafe { ffi::bj_pump(self.place(), &mut sent) })?;
         Ok(sent)
     }
@@ -175,7 +175,7 @@ impl<Role> End<Role> {
     /// `Closed`. `Memory`: what was queued stays queued.
     pub fn pump_some(&mut self, most: usize) -> Result<usize, Error> {
         let mut sent = 0;
-        // SAFETY: the pointers are of the place and of a number.
+        // SAFETY: the pointers point to the place and a number.
         check(unsafe { ffi::bj_pump_some(self.place(), most, &mut sent) })?;
         Ok(sent)
     }
@@ -191,7 +191,7 @@ impl<Role> End<Role> {
     /// before it. `Closed`. `OutputFull`. `Memory`.
     pub fn send_body(&mut self, stream: u32, octets: &[u8], ends: bool) -> Result<usize, Error> {
         let mut sent = 0;
-        // SAFETY: the pointers are of the place, of so many octets and of a number.
+        // SAFETY: the pointers point to the place, that many octets and a number.
         check(unsafe {
             let (at, length) = (octets.as_ptr(), octets.len());
             ffi::bj_send_body(self.place(), stream, at, length, ends, &mut sent)
@@ -205,7 +205,7 @@ impl<Role> End<Role> {
     ///
     /// `Memory`. `NotAsked`. `BadMessage`. `Closed`. `OutputFull`. `ListTooLarge`.
     pub fn send_trailers(&mut self, stream: u32, trailers: &[Field<'_>]) -> Result<(), Error> {
-        // SAFETY: the pointers are of the place and of so many fields.
+        // SAFETY: the pointers point to the place and that many fields.
         check(unsafe {
             ffi::bj_send_trailers(self.place(), stream, trailers.as_ptr(), trailers.len())
         })
@@ -248,7 +248,7 @@ impl<Role> End<Role> {
     ///
     /// `Closed`. `OutputFull`. `PingWaits`. `Memory`.
     pub fn ping(&mut self, octets: [u8; 8]) -> Result<(), Error> {
-        // SAFETY: the pointers are of the place and of eight octets.
+        // SAFETY: the pointers point to the place and eight octets.
         check(unsafe { ffi::bj_ping(self.place(), octets.as_ptr()) })
     }
 
@@ -279,7 +279,7 @@ impl<Role> End<Role> {
     ///
     /// `BadConfig`. `Closed`. `OutputFull`. `SettingsWait`. `Memory`.
     pub fn change_settings(&mut self, config: &Config) -> Result<(), Error> {
-        // SAFETY: the pointers are of the place and of a `bj_config`.
+        // SAFETY: the pointers point to the place and a `bj_config`.
         check(unsafe { ffi::bj_change_settings(self.place(), &config.raw()) })
     }
 
@@ -292,7 +292,7 @@ impl<Role> End<Role> {
     pub fn waiting(&mut self) -> Result<(&[u8], &[u8]), Error> {
         let mut first = ffi::Span { octets: ptr::null(), length: 0 };
         let mut second = ffi::Span { octets: ptr::null(), length: 0 };
-        // SAFETY: the pointers are of the place and of two spans. What they lend is good until the
+        // SAFETY: the pointers point to the place and two spans. What they lend is valid until the
         // next call of the end, which is borrowed until then.
         unsafe {
             check(ffi::bj_ready(self.place()))?;
@@ -309,7 +309,7 @@ impl<Role> End<Role> {
     /// `Memory`, but not after [`waiting`](End::waiting) with no other call in between.
     pub fn consume(&mut self, count: usize) -> Result<usize, Error> {
         let mut taken = 0;
-        // SAFETY: the pointers are of the place and of a number.
+        // SAFETY: the pointers point to the place and a number.
         check(unsafe { ffi::bj_consume(self.place(), count, &mut taken) })?;
         Ok(taken)
     }
@@ -321,7 +321,7 @@ impl<Role> End<Role> {
     /// `Memory`.
     pub fn put_out(&mut self, buffer: &mut [u8]) -> Result<usize, Error> {
         let mut count = 0;
-        // SAFETY: the pointers are of the place, of so many octets and of a number.
+        // SAFETY: the pointers point to the place, that many octets and a number.
         check(unsafe {
             let (at, room) = (buffer.as_mut_ptr(), buffer.len());
             ffi::bj_put_out(self.place(), at, room, &mut count)
@@ -379,7 +379,7 @@ impl<Role> End<Role> {
     /// The error code with which the connection has failed, if it has.
     pub fn failed(&self) -> Option<Code> {
         let mut code = 0;
-        // SAFETY: the pointers are of the place and of a number.
+        // SAFETY: the pointers point to the place and a number.
         let answer = unsafe { ffi::bj_failed(self.place(), &mut code) };
         (answer == ffi::OK).then_some(Code(code))
     }
@@ -387,7 +387,7 @@ impl<Role> End<Role> {
     /// Why the connection has failed, if it has.
     pub fn why(&self) -> Option<Why> {
         let mut why = 0;
-        // SAFETY: the pointers are of the place and of a number.
+        // SAFETY: the pointers point to the place and a number.
         let answer = unsafe { ffi::bj_why(self.place(), &mut why) };
         (answer == ffi::OK).then(|| Why::from_number(why))
     }
@@ -395,7 +395,7 @@ impl<Role> End<Role> {
     /// The stream of the last malformed message that was received, and the rule that it breaks.
     pub fn last_malformed(&self) -> Option<(u32, Rule)> {
         let (mut stream, mut error) = (0, ffi::OK);
-        // SAFETY: the pointers are of the place and of two numbers.
+        // SAFETY: the pointers point to the place and two numbers.
         let answer = unsafe { ffi::bj_last_malformed(self.place(), &mut stream, &mut error) };
         match Error::from_number(error) {
             Error::BadMessage(rule) if answer == ffi::OK => Some((stream, rule)),
@@ -408,7 +408,7 @@ impl<Role> End<Role> {
     /// stream is still active.
     pub fn last_flow(&self) -> u32 {
         let mut flow = 0;
-        // SAFETY: the pointers are of the place and of a number.
+        // SAFETY: the pointers point to the place and a number.
         unsafe { ffi::bj_last_flow(self.place(), &mut flow) };
         flow
     }
@@ -418,7 +418,7 @@ impl<Role> End<Role> {
     /// them at once.
     pub fn resets_received(&self) -> u32 {
         let mut count = 0;
-        // SAFETY: the pointers are of the place and of a number.
+        // SAFETY: the pointers point to the place and a number.
         unsafe { ffi::bj_resets_received(self.place(), &mut count) };
         count
     }
@@ -428,7 +428,7 @@ impl<Role> End<Role> {
     /// padding.
     pub fn empty_frames_received(&self) -> u32 {
         let mut count = 0;
-        // SAFETY: the pointers are of the place and of a number.
+        // SAFETY: the pointers point to the place and a number.
         unsafe { ffi::bj_empty_frames_received(self.place(), &mut count) };
         count
     }
@@ -436,7 +436,7 @@ impl<Role> End<Role> {
     /// The number of PING frames without ACK received from the peer, at most [`u32::MAX`].
     pub fn pings_received(&self) -> u32 {
         let mut count = 0;
-        // SAFETY: the pointers are of the place and of a number.
+        // SAFETY: the pointers point to the place and a number.
         unsafe { ffi::bj_pings_received(self.place(), &mut count) };
         count
     }
@@ -444,7 +444,7 @@ impl<Role> End<Role> {
     /// The number of SETTINGS frames without ACK received from the peer, at most [`u32::MAX`].
     pub fn settings_received(&self) -> u32 {
         let mut count = 0;
-        // SAFETY: the pointers are of the place and of a number.
+        // SAFETY: the pointers point to the place and a number.
         unsafe { ffi::bj_settings_received(self.place(), &mut count) };
         count
     }
@@ -453,7 +453,7 @@ impl<Role> End<Role> {
     /// failed.
     pub fn block_stream(&self) -> Option<u32> {
         let mut stream = 0;
-        // SAFETY: the pointers are of the place and of a number.
+        // SAFETY: the pointers point to the place and a number.
         let answer = unsafe { ffi::bj_block_stream(self.place(), &mut stream) };
         (answer == ffi::OK).then_some(stream)
     }
@@ -462,7 +462,7 @@ impl<Role> End<Role> {
     /// They are meaningless once the connection has failed.
     pub fn peer_settings(&self) -> PeerSettings {
         let mut settings = ffi::Settings { initial_window: 0, max_frame: 0 };
-        // SAFETY: the pointers are of the place and of a `bj_settings`.
+        // SAFETY: the pointers point to the place and a `bj_settings`.
         unsafe { ffi::bj_peer_settings(self.place(), &mut settings) };
         let ffi::Settings { initial_window, max_frame } = settings;
         PeerSettings { initial_window, max_frame }
@@ -473,7 +473,7 @@ impl<Role> End<Role> {
     /// failed.
     pub fn room(&self, stream: u32) -> Option<i64> {
         let mut room = 0;
-        // SAFETY: the pointers are of the place and of a number.
+        // SAFETY: the pointers point to the place and a number.
         let answer = unsafe { ffi::bj_room(self.place(), stream, &mut room) };
         (answer == ffi::OK).then_some(room)
     }
@@ -482,7 +482,7 @@ impl<Role> End<Role> {
     /// has failed.
     pub fn owed(&self, stream: u32) -> u32 {
         let mut owed = 0;
-        // SAFETY: the pointers are of the place and of a number.
+        // SAFETY: the pointers point to the place and a number.
         unsafe { ffi::bj_owed(self.place(), stream, &mut owed) };
         owed
     }
@@ -490,7 +490,7 @@ impl<Role> End<Role> {
     /// How many octets of the body given for a stream are kept for [`pump`](End::pump).
     pub fn unsent(&self, stream: u32) -> usize {
         let mut unsent = 0;
-        // SAFETY: the pointers are of the place and of a number.
+        // SAFETY: the pointers point to the place and a number.
         unsafe { ffi::bj_unsent(self.place(), stream, &mut unsent) };
         unsent
     }
@@ -500,7 +500,7 @@ impl<Role> End<Role> {
         let mut above = 0;
         std::iter::from_fn(move || {
             let mut stream = 0;
-            // SAFETY: the pointers are of the place and of a number.
+            // SAFETY: the pointers point to the place and a number.
             let answer = unsafe { ffi::bj_next_live(self.place(), above, &mut stream) };
             (answer == ffi::OK).then(|| {
                 above = stream;
@@ -523,7 +523,7 @@ impl<Role> End<Role> {
     /// The value attached to a stream, or 0.
     pub fn user(&self, stream: u32) -> usize {
         let mut user = 0;
-        // SAFETY: the pointers are of the place and of a number.
+        // SAFETY: the pointers point to the place and a number.
         unsafe { ffi::bj_user(self.place(), stream, &mut user) };
         user
     }

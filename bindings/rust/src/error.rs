@@ -1,4 +1,4 @@
-//! Errors, and codes of errors.
+//! Errors and error codes.
 
 use crate::ffi;
 use std::ffi::CStr;
@@ -189,7 +189,7 @@ pub enum Error {
     Other(i32),
 }
 
-/// The errors that have one number, with it; `Failed` has that of `bj_take`.
+/// The errors that have one number, with that number; `Failed` has that of `bj_take`.
 const NUMBERS: [(c_int, Error); 34] = [
     (-7, Error::BadCode),
     (-11, Error::BadConfig(BadConfig::TableLimit)),
@@ -243,8 +243,8 @@ impl Error {
 
     fn text(self) -> &'static str {
         let mut text = c"".as_ptr();
-        // SAFETY: the pointer is of a pointer, at which the address of a text that ends in 0 and
-        // is never freed is written.
+        // SAFETY: the function writes one pointer: the address of a text that ends with a zero
+        // octet and is never freed.
         let text = unsafe {
             ffi::bj_error_text(self.number(), &mut text);
             CStr::from_ptr(text)

@@ -5,7 +5,7 @@ use crate::{Code, Fields};
 /// The result of [`take`](crate::End::take).
 #[derive(Clone, Copy, Debug, PartialEq, Eq)]
 pub struct Taken<'a> {
-    /// How many octets were used. Pass the others again.
+    /// How many octets were used. Pass the unused ones again.
     pub used: usize,
     /// The event, if there is one.
     pub event: Option<Event<'a>>,
@@ -53,9 +53,10 @@ pub enum Event<'a> {
     Reset {
         /// The stream.
         stream: u32,
-        /// Why.
+        /// The error code.
         code: Code,
-        /// Whether this endpoint reset it: the message of the peer was malformed.
+        /// Whether this endpoint reset it: for a fault of the peer, such as a malformed message, or
+        /// because it takes no more streams.
         ours: bool,
     },
     /// The server did not process this request, and will not: it may be retried on another
@@ -68,7 +69,7 @@ pub enum Event<'a> {
     GoAway {
         /// The highest stream that it processes.
         last: u32,
-        /// Why.
+        /// The error code.
         code: Code,
     },
     /// The peer acknowledged the settings of this endpoint.

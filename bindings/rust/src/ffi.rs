@@ -1,4 +1,4 @@
-//! The functions of `belkjoef.h`, as they stand there.
+//! The functions of `belkjoef.h`, as declared there.
 
 use crate::Field;
 use std::ffi::c_char;
@@ -22,7 +22,7 @@ pub(crate) struct Settings {
     pub(crate) max_frame: u32,
 }
 
-/// `bj_end`, and `bj_encoder` and `bj_decoder`, which are alike.
+/// `bj_end`; `bj_encoder` and `bj_decoder` have the same layout.
 #[repr(C)]
 pub(crate) struct End {
     pub(crate) at: *mut u8,
@@ -66,21 +66,21 @@ pub(crate) const GOAWAY: u32 = 7;
 pub(crate) const ACKED: u32 = 8;
 pub(crate) const PONG: u32 = 9;
 
-/// Octets that the library lends: where none are, their address says nothing.
+/// Octets that the library lends. If there are none, their address is not used.
 ///
 /// # Safety
 ///
-/// So many octets lie there, and nothing writes them while they are lent.
+/// `length` octets lie at the address, and nothing writes them while they are lent.
 pub(crate) unsafe fn lent<'a>(octets: *const u8, length: usize) -> &'a [u8] {
     if length == 0 {
         return &[];
     }
-    // SAFETY: as of the caller.
+    // SAFETY: the caller guarantees it.
     unsafe { slice::from_raw_parts(octets, length) }
 }
 
-// What each asks of its caller stands in belkjoef.h: pointers that aren't null, lengths that are
-// those of what they point to, and a place that one thread uses at a time.
+// The obligations of the caller are in belkjoef.h: pointers are not null, lengths are those of what
+// they point to, and one thread at a time uses a place.
 extern "C" {
     pub(crate) fn bj_version() -> u32;
     pub(crate) fn bj_error_text(error: c_int, text: *mut *const c_char);

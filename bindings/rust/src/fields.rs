@@ -27,7 +27,7 @@ use std::slice;
 /// };
 /// assert_eq!(field.value(), b"12");
 /// ```
-// It is `bj_field`, so that a slice of fields is passed as it lies.
+// It has the layout of `bj_field`, so a slice of fields is passed without a copy.
 #[repr(C)]
 #[derive(Clone, Copy)]
 pub struct Field<'a> {
@@ -39,7 +39,7 @@ pub struct Field<'a> {
     lent: PhantomData<&'a [u8]>,
 }
 
-// SAFETY: it is two shared slices.
+// SAFETY: it consists of two shared slices.
 unsafe impl Send for Field<'_> {}
 // SAFETY: as above.
 unsafe impl Sync for Field<'_> {}
@@ -69,13 +69,13 @@ impl<'a> Field<'a> {
 
     /// Its name.
     pub fn name(&self) -> &'a [u8] {
-        // SAFETY: it was made of such a slice, or lent so by an end.
+        // SAFETY: it was made of such a slice, or an end lends it.
         unsafe { ffi::lent(self.name, self.name_length) }
     }
 
     /// Its value.
     pub fn value(&self) -> &'a [u8] {
-        // SAFETY: as of the name.
+        // SAFETY: as for the name.
         unsafe { ffi::lent(self.value, self.value_length) }
     }
 

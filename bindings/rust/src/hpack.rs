@@ -22,7 +22,7 @@ pub struct Encoder {
     place: ffi::End,
 }
 
-// SAFETY: what the place holds is owned, and used through `&mut` alone.
+// SAFETY: the encoder owns what the place holds, and uses it only through `&mut`.
 unsafe impl Send for Encoder {}
 
 impl Drop for Encoder {
@@ -75,8 +75,8 @@ impl Encoder {
     /// `ListTooLarge`: the fields have 2^35 octets or more. `Memory`. The encoder is unchanged.
     pub fn encode(&mut self, fields: &[Field<'_>]) -> Result<&[u8], Error> {
         let mut block = ffi::Span { octets: ptr::null(), length: 0 };
-        // SAFETY: the pointers are of the place, of so many fields and of a span. What it lends is
-        // good until the next call of the encoder, which is borrowed until then.
+        // SAFETY: the pointers point to the place, that many fields and a span. What it lends is
+        // valid until the next call of the encoder, which is borrowed until then.
         unsafe {
             let (at, count) = (fields.as_ptr(), fields.len());
             check(ffi::bj_encode(&mut self.place, at, count, &mut block))?;
@@ -88,11 +88,11 @@ impl Encoder {
 /// Decodes the field blocks of one direction of a connection, in order: see [`Encoder`].
 pub struct Decoder {
     place: ffi::End,
-    /// Room for the fields that are lent; they are used only while it lends them.
+    /// Memory for the fields that are lent; used only while they are lent.
     fields: Vec<Field<'static>>,
 }
 
-// SAFETY: as of an encoder; the fields are used by a borrower of the decoder alone.
+// SAFETY: as for an encoder; only a borrower of the decoder uses the fields.
 unsafe impl Send for Decoder {}
 
 impl Drop for Decoder {
@@ -138,15 +138,15 @@ impl Decoder {
     /// than `list_limit` octets, counting 32 extra for each; the next block can be decoded.
     pub fn decode(&mut self, block: &[u8], list_limit: u32) -> Result<Fields<'_>, Error> {
         let (mut count, mut said) = (0, 0);
-        // SAFETY: the pointers are of the place, of so many octets and of a number.
+        // SAFETY: the pointers point to the place, that many octets and a number.
         check(unsafe {
             let (at, length) = (block.as_ptr(), block.len());
             ffi::bj_decode(&mut self.place, at, length, list_limit, &mut count)
         })?;
         self.fields.resize(count, Field::new("", ""));
         let at = self.fields.as_mut_ptr();
-        // SAFETY: the pointers are of the place, of so many fields and of a number. What they lend
-        // is good until the next call of the decoder, which is borrowed until then.
+        // SAFETY: the pointers point to the place, that many fields and a number. What they lend
+        // is valid until the next call of the decoder, which is borrowed until then.
         unsafe { ffi::bj_decoded(&mut self.place, 0, at, count, &mut said) };
         self.fields.truncate(said);
         Ok(Fields::new(&self.fields))

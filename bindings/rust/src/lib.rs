@@ -87,7 +87,7 @@ pub use why::Why;
 /// assert_eq!(belkjoef::version().0, 0);
 /// ```
 pub fn version() -> (u8, u8, u8) {
-    // SAFETY: it takes nothing.
+    // SAFETY: it has no arguments.
     let [_, major, minor, patch] = unsafe { ffi::bj_version() }.to_be_bytes();
     (major, minor, patch)
 }

@@ -78,7 +78,7 @@ impl Server {
     ///
     /// `Memory`. `NotAsked`. `Answered`. `BadMessage`. `Closed`. `OutputFull`. `ListTooLarge`.
     pub fn respond(&mut self, stream: u32, head: &[Field<'_>], body: &[u8]) -> Result<(), Error> {
-        // SAFETY: the pointers are of the place, of so many fields and of so many octets.
+        // SAFETY: the pointers point to the place, that many fields and that many octets.
         check(unsafe {
             let (fields, octets) = (head.as_ptr(), body.as_ptr());
             ffi::bj_respond(self.place(), stream, fields, head.len(), octets, body.len())
@@ -93,7 +93,7 @@ impl Server {
     ///
     /// As for [`respond`](Server::respond).
     pub fn begin(&mut self, stream: u32, head: &[Field<'_>]) -> Result<(), Error> {
-        // SAFETY: the pointers are of the place and of so many fields.
+        // SAFETY: the pointers point to the place and that many fields.
         check(unsafe { ffi::bj_begin_response(self.place(), stream, head.as_ptr(), head.len()) })
     }
 }

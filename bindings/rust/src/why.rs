@@ -76,7 +76,7 @@ pub enum Why {
     Other(u32),
 }
 
-/// The reasons, the first of which has the number 1.
+/// The reasons, in the order of their numbers from 1.
 const ALL: [Why; 27] = [
     Why::BadPreface,
     Why::FrameTooLong,
@@ -124,8 +124,8 @@ impl Why {
 impl fmt::Display for Why {
     fn fmt(&self, f: &mut fmt::Formatter<'_>) -> fmt::Result {
         let mut text = c"".as_ptr();
-        // SAFETY: the pointer is of a pointer, at which the address of a text that ends in 0 and
-        // is never freed is written.
+        // SAFETY: the function writes one pointer: the address of a text that ends with a zero
+        // octet and is never freed.
         let text = unsafe {
             ffi::bj_why_text(self.number(), &mut text);
             CStr::from_ptr(text)

@@ -1,4 +1,4 @@
-//! A client and a server that are joined in memory.
+//! A client and a server joined in memory.
 
 use belkjoef::{
     BadConfig, Client, Code, Config, Decoder, Encoder, End, Error, Event, Field, PeerSettings,
@@ -41,7 +41,7 @@ fn note(event: Event<'_>) -> Note {
     }
 }
 
-/// Gives octets to an end, and says what it hands out.
+/// Gives octets to an end, and returns what it hands out.
 fn give<R>(end: &mut End<R>, mut rest: &[u8]) -> Result<Vec<Note>, Error> {
     let mut notes = Vec::new();
     loop {
@@ -55,14 +55,14 @@ fn give<R>(end: &mut End<R>, mut rest: &[u8]) -> Result<Vec<Note>, Error> {
     }
 }
 
-/// All that waits at an end.
+/// Returns all output that waits at an end.
 fn output<R>(end: &mut End<R>) -> Vec<u8> {
     let mut octets = Vec::new();
     end.write_out(&mut octets).expect("memory");
     octets
 }
 
-/// Carries what waits from one end to another, and says what that hands out.
+/// Carries the output of one end to the other, and returns what that hands out.
 fn carry<R, S>(from: &mut End<R>, to: &mut End<S>) -> Vec<Note> {
     let octets = output(from);
     give(to, &octets).expect("no fault")
@@ -82,17 +82,17 @@ impl Pair {
         pair
     }
 
-    /// Carries what waits at the client to the server.
+    /// Carries the output of the client to the server.
     fn up(&mut self) -> Vec<Note> {
         carry(&mut self.client, &mut self.server)
     }
 
-    /// Carries what waits at the server to the client.
+    /// Carries the output of the server to the client.
     fn down(&mut self) -> Vec<Note> {
         carry(&mut self.server, &mut self.client)
     }
 
-    /// Carries what waits until nothing does.
+    /// Carries output both ways until none waits.
     fn settle(&mut self) {
         while !self.client.is_quiet() || !self.server.is_quiet() {
             self.up();
@@ -589,7 +589,7 @@ fn blocks_are_encoded_and_decoded() {
     let second = encoder.encode(&list[..1]).unwrap().to_vec();
     assert_eq!(second, [0xbe]);
     assert!(decoder.decode(&second, 1000).unwrap().iter().eq(list[..1].iter().copied()));
-    // Of ":status", "302" and 32 the size is 42.
+    // The size of ":status", "302" and 32 is 42.
     assert_eq!(decoder.decode(&second, 41).map(|list| list.len()), Err(Error::ListTooLarge));
     assert_eq!(decoder.decode(&second, 42).map(|list| list.len()), Ok(1));
     assert_eq!(encoder.encode(&[]).unwrap(), b"");
@@ -605,7 +605,7 @@ fn a_limit_is_announced_and_kept() {
     assert_eq!(block[0], 0x20); // the maximum is 0
     decoder.set_limit(0);
     assert_eq!(decoder.decode(&block, 1000).map(|list| list.len()), Ok(1));
-    // A size update above the limit is no block, and then nothing is.
+    // A size update above the limit fails, and so does each later block.
     assert_eq!(decoder.decode(&[0x3f, 0x01], 1000).map(|list| list.len()), Err(Error::Compression));
     assert_eq!(decoder.decode(b"", 1000).map(|list| list.len()), Err(Error::DecoderFailed));
     assert_eq!(Error::Compression.to_string(), "P1 Compression: the field block cannot be decoded");

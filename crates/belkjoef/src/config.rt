@@ -1,4 +1,4 @@
-//! An end's own settings.
+//! The settings of an end.
 
 ghost use Rattle.std.specs.Prelude.{◌≡◌, None, Some, OnOk, IfOk, IfErr};
 ghost use Rattle.h2_flow.specs.ConfigValues.{values_of};
@@ -7,23 +7,23 @@ ghost use Rattle.belkjoef.specs.Configs.{values_given, first_config};
 
 use h2_ends::{BadConfig, Config};
 
-/// `bj_config`: the values of an end's own settings (RFC 9113, section 6.5.2).
+/// `bj_config`: the settings of an end (RFC 9113, section 6.5.2).
 #[repr(C)]
 #[derive(Drop)]
 pub struct BjConfig {
-    /// The most octets of the peer's header table.
+    /// HEADER_TABLE_SIZE of this end: the most octets of the peer's header table.
     pub table_limit: u32,
-    /// The octets of a new stream's window.
+    /// INITIAL_WINDOW_SIZE: the window of a new stream, in octets.
     pub initial_window: u32,
-    /// The most active streams at a server.
+    /// MAX_CONCURRENT_STREAMS: the most active streams at a server.
     pub max_streams: u32,
-    /// The most octets of a payload that is read.
+    /// MAX_FRAME_SIZE: the most octets of a payload that is read.
     pub max_frame: u32,
 }
 
 impl BjConfig {
     // rule: c (own) A new end is made in an empty place, of values within bounds
-    /// The configuration, if each value is within its bounds.
+    /// Returns the configuration, if each value is within its bounds.
     pub(crate) fn config(&self) -> Result<Config, BadConfig>
         ensures values { IfOk result (λ config. values_of config ≡ values_given self.now) }
         ensures good { OnOk result (first_bad (values_given self.now) ≡ None) }
@@ -35,7 +35,7 @@ impl BjConfig {
     }
 }
 
-/// Writes the values with which a connection begins.
+/// Stores the settings with which a connection begins.
 #[unsafe(no_mangle)]
 pub extern "C" fn bj_config_default(config: &mut BjConfig)
     ensures { config.new ≡ first_config }

@@ -22,7 +22,7 @@ use h2_conn::Conn;
 use std::alloc::Global;
 use std::marker::Model;
 
-/// What a place with a connection holds.
+/// The contents of a place that holds a connection.
 #[derive(Drop)]
 pub struct HeldConn {
     /// The connection.
@@ -31,7 +31,8 @@ pub struct HeldConn {
     pub(crate) fields: KeptFields,
 }
 
-/// `bj_conn`: a place of C's that holds a connection or nothing, as [`crate::BjEnd`] does an end.
+/// `bj_conn`: a place that C owns and that holds a connection or nothing, as [`crate::BjEnd`]
+/// holds an end.
 #[repr(C)]
 pub struct BjConn {
     at: *mut u8,
@@ -44,7 +45,7 @@ impl Model for BjConn {
 }
 
 impl BjConn {
-    /// Whether it holds a connection.
+    /// Returns whether it holds a connection.
     pub(crate) fn is_held(&mut self) -> bool
         ensures value { result ≡ is_some self.old.held }
         ensures same { self.new ≡ self.old }
@@ -81,7 +82,7 @@ impl BjConn {
         self.put(Loose::of(held));
     }
 
-    /// The connection that is here, if there is one; then the place holds nothing until it is put
+    /// Takes out the connection that is here, if any. The place holds nothing until it is put
     /// back.
     pub(crate) fn open(&mut self, alloc: Global) -> Option<Box<HeldConn>>
         ensures empty { self.new.held ≡ None }
@@ -150,7 +151,7 @@ fn make(alloc: Global, conn: Conn, place: &mut BjConn) -> i32
 }
 
 // contract: c (own) A place holds an end or nothing, and each call says which
-/// Frees the connection in a place, which holds none then.
+/// Frees the connection in a place, which then holds none.
 #[unsafe(no_mangle)]
 pub extern "C" fn bj_conn_free(alloc: Global, conn: &mut BjConn) -> i32
     ensures empty { conn.new.held ≡ None }

@@ -22,7 +22,7 @@ use h2_ends::Field;
 use std::alloc::Global;
 
 // contract: c (own) A call of C's is that of the end in its place
-/// Lets the peer send so many octets more on a stream.
+/// Releases `count` octets on a stream, so that the peer may send as many more.
 #[unsafe(no_mangle)]
 pub extern "C" fn bj_conn_release(alloc: Global, conn: &mut BjConn, stream: u32, count: u32) -> i32
     ensures { OnPlace result (DoesConn answer_number (ActsOnConn (Release stream count)) result)
@@ -97,7 +97,7 @@ pub extern "C" fn bj_conn_go_away(alloc: Global, conn: &mut BjConn) -> i32
 }
 
 // contract: c (own) A call of C's is that of the end in its place
-/// Sends octets of a body, as many as windows let through, and says how many.
+/// Sends octets of a body, as many as windows allow, and stores how many.
 #[unsafe(no_mangle)]
 pub extern "C" fn bj_conn_send_data(
     alloc: Global,
@@ -141,7 +141,7 @@ pub extern "C" fn bj_conn_change_settings(
 }
 
 // contract: c (own) A call of C's is that of the end in its place
-/// Ends the connection with an error code.
+/// Fails the connection with an error code.
 #[unsafe(no_mangle)]
 pub extern "C" fn bj_conn_fail(alloc: Global, conn: &mut BjConn, code: u32) -> i32
     ensures { OnPlace result
@@ -157,7 +157,7 @@ pub extern "C" fn bj_conn_fail(alloc: Global, conn: &mut BjConn, code: u32) -> i
 }
 
 // contract: c (own) What C gives is copied; without memory nothing has changed
-/// Opens a stream with a field section, and says the stream.
+/// Opens a stream with a field section, and stores its number.
 #[unsafe(no_mangle)]
 pub extern "C" fn bj_conn_open(
     alloc: Global,
@@ -180,7 +180,8 @@ pub extern "C" fn bj_conn_open(
 }
 
 // contract: c (own) What C gives is copied; without memory nothing has changed
-/// Says why a stream would not be opened with a field section, if it would not.
+/// Returns the error that `bj_conn_open` would return for a field section, except for its last
+/// BJ_MEMORY.
 #[unsafe(no_mangle)]
 pub extern "C" fn bj_conn_refusal_to_open(
     alloc: Global,
@@ -221,7 +222,7 @@ pub extern "C" fn bj_conn_send_fields(
 }
 
 impl HeldConn {
-    /// Changes the settings to these, if each is within its bounds.
+    /// Changes the settings, if each value is within its bounds.
     fn change(&mut self, config: &BjConfig) -> i32
         ensures { WithinBounds (first_bad (values_given config.now)) result
             (DoesConn answer_number (ActsOnConn (ChangeSettings (values_given config.now)))
@@ -233,7 +234,7 @@ impl HeldConn {
         }
     }
 
-    /// Ends the connection with the code of a number, if it is one.
+    /// Fails the connection with the error code of this number, if there is one.
     fn fail_with(&mut self, code: u32) -> i32
         ensures { WithCode code result
             (λ code. DoesConn answer_number (ActsOnConn (Fail code)) result) self.old self.new }
@@ -262,7 +263,7 @@ impl HeldConn {
         answer
     }
 
-    /// Opens a stream with copies.
+    /// Opens a stream with copies of fields.
     fn open_copied(
         &mut self,
         alloc: Global,
@@ -296,7 +297,8 @@ impl HeldConn {
         }
     }
 
-    /// Why a stream would not be opened with fields that C gives.
+    /// Returns the error with which a stream would not be opened with fields that C gives, or
+    /// 0.
     fn refusal_with(&mut self, alloc: Global, fields: &[BjField<'_>]) -> i32
         ensures { Copies result (AnswersOfConn refusal_answer
             (RefusesToOpen (fields_given fields.now)) result) self.old self.new }
@@ -307,7 +309,7 @@ impl HeldConn {
         answer
     }
 
-    /// Why a stream would not be opened with copies.
+    /// Returns the error with which a stream would not be opened with copies of fields, or 0.
     fn refusal_copied(&self, alloc: Global, fields: &[BjField<'_>], copies: &mut Vec<Field>) -> i32
         ensures { Copies result (AnswersOfConn refusal_answer
             (RefusesToOpen (fields_given fields.now)) result) self.now self.now }
@@ -318,7 +320,7 @@ impl HeldConn {
         }
     }
 
-    /// Why a stream would not be opened.
+    /// Returns the error with which a stream would not be opened, or 0.
     fn refusal(&self, fields: &[Field]) -> i32
         ensures { AnswersOfConn refusal_answer (RefusesToOpen fields.now) result self.now
             self.now }

@@ -1,4 +1,4 @@
-//! What a call of `bj_conn_take` reports.
+//! The event of a call of `bj_conn_take`.
 
 ghost use Rattle.std.specs.Prelude.{◌≡◌, length};
 ghost use Rattle.belkjoef.specs.Events.{address_of};
@@ -8,31 +8,31 @@ use crate::event::{NOTHING, flag};
 use crate::place::address;
 use h2_conn::{Event, FieldList};
 
-/// `bj_report`: what was used of the piece, and what is reported.
+/// `bj_report`: how much of the piece was used, and the event.
 #[repr(C)]
 #[derive(Drop)]
 pub struct BjReport {
-    /// The octets of the piece that were used.
+    /// How many octets of the piece were used.
     pub used: usize,
-    /// Which event it is; 0 where nothing is reported.
+    /// The kind of event; 0 if there is none.
     pub kind: u32,
-    /// The stream; of GOAWAY the greatest one that is processed.
+    /// The stream; of GOAWAY the highest one that the peer may process.
     pub stream: u32,
-    /// The error code, of a reset, of GOAWAY and of a failure.
+    /// The error code of a reset, of GOAWAY or of a failure.
     pub code: u32,
-    /// 1 where the message is whole.
+    /// 1 if the peer ended the stream (END_STREAM).
     pub end: u32,
-    /// 1 where this end has reset the stream.
+    /// 1 if this end has reset the stream.
     pub ours: u32,
     /// The octets of a PING.
     pub ping: [u8; 8],
     /// How many fields there are.
     pub fields: usize,
-    /// Where the octets of a body are.
+    /// The address of the octets of a body.
     pub octets: *const u8,
-    /// How many there are.
+    /// Their number.
     pub length: usize,
-    /// Of DATA, what is to be released, padding included.
+    /// Of DATA: how many octets to release, padding included.
     pub flow: u32,
 }
 
@@ -51,7 +51,7 @@ const ACKED: u32 = 8;
 const PONG: u32 = 9;
 
 impl BjReport {
-    /// Nothing yet, of this piece.
+    /// Clears the event, before a piece is taken.
     pub(crate) fn clear(&mut self, piece: &[u8])
         ensures { self.new ≡ blank_report (address_of piece.entry) }
     {
@@ -69,7 +69,7 @@ impl BjReport {
     }
 
     // rule: c (own) An event has what was handed out, as numbers and addresses
-    /// Says an event.
+    /// Stores an event.
     pub(crate) fn say(&mut self, event: Event<&FieldList, &[u8]>)
         ensures { self.new ≡ report_with self.old event.entry }
     {

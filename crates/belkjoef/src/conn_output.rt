@@ -14,7 +14,7 @@ use h2_ends::Refusal;
 use std::alloc::Global;
 
 // contract: c (own) A call of C's is that of the end in its place
-/// Makes the output ready to be written from where it lies.
+/// Prepares the output to be written from where it lies.
 #[unsafe(no_mangle)]
 pub extern "C" fn bj_conn_ready(alloc: Global, conn: &mut BjConn) -> i32
     ensures call { OnPlace result (DoesConn answer_number ReadiesConn result)
@@ -30,8 +30,8 @@ pub extern "C" fn bj_conn_ready(alloc: Global, conn: &mut BjConn) -> i32
 }
 
 // contract: c (own) The output that waits is lent, or copied and taken away
-/// Lends the first two parts of the output that waits, the first of which comes first: both are
-/// empty only where none waits.
+/// Lends the first two parts of the output that waits, in order. Both are empty only if none
+/// waits.
 #[unsafe(no_mangle)]
 pub extern "C" fn bj_conn_waiting(
     alloc: Global,
@@ -55,7 +55,7 @@ pub extern "C" fn bj_conn_waiting(
 }
 
 // contract: c (own) A call of C's is that of the end in its place
-/// Takes octets of the output away, which were written, and says how many.
+/// Removes octets of the output, which were written, and stores how many.
 #[unsafe(no_mangle)]
 pub extern "C" fn bj_conn_consume(
     alloc: Global,
@@ -79,7 +79,7 @@ pub extern "C" fn bj_conn_consume(
 
 // contract: c (own) The output that waits is lent, or copied and taken away
 // rule: c (own) The output that waits is lent, or copied and taken away
-/// Copies octets of the output into a buffer of C's, and takes them away; says how many.
+/// Moves octets of the output into a buffer of C, and stores how many.
 #[unsafe(no_mangle)]
 pub extern "C" fn bj_conn_put_out(
     alloc: Global,
@@ -101,7 +101,7 @@ pub extern "C" fn bj_conn_put_out(
 }
 
 impl HeldConn {
-    /// Makes the output ready, copies what there is room for, and takes that away.
+    /// Prepares the output, copies as much as there is room for, and removes that.
     fn put_out(&mut self, buffer: &mut [u8]) -> Result<usize, Refusal>
         ensures { ConnCopiesOut buffer.old buffer.new self.old.conn result self.new.conn }
     {

@@ -1,4 +1,4 @@
-//! What a connection answers of itself, and the fields that it has reported last.
+//! The readers of a connection, and the fields that it has reported last.
 
 ghost use Rattle.std.specs.Prelude.{◌≡◌, None, drop, slice_get};
 ghost use Rattle.h2_conn.specs.Conn.{reader_next_number};
@@ -18,7 +18,7 @@ use crate::readers::{BjSettings, yes};
 use std::alloc::Global;
 
 // contract: c (own) A reader says what the end in its place answers
-/// Says how many octets of a stream were reported and are not released.
+/// Stores how many octets of a stream were reported and not yet released.
 #[unsafe(no_mangle)]
 pub extern "C" fn bj_conn_owed(alloc: Global, conn: &mut BjConn, stream: u32, owed: &mut u32) -> i32
     ensures call { OnPlace result (SaysOfConn (SaysConnLog (owed_at stream)) result owed.new)
@@ -34,7 +34,7 @@ pub extern "C" fn bj_conn_owed(alloc: Global, conn: &mut BjConn, stream: u32, ow
 }
 
 // contract: c (own) A reader says what the end in its place answers
-/// Says how many octets of the connection's window are still to be returned.
+/// Stores how many octets of the connection's window are still to be returned.
 #[unsafe(no_mangle)]
 pub extern "C" fn bj_conn_due(alloc: Global, conn: &mut BjConn, due: &mut u32) -> i32
     ensures call { OnPlace result (SaysOfConn (SaysConnLog due_of) result due.new)
@@ -50,7 +50,7 @@ pub extern "C" fn bj_conn_due(alloc: Global, conn: &mut BjConn, due: &mut u32) -
 }
 
 // contract: c (own) A reader says what the end in its place answers
-/// Says how many octets of a preface or a frame that is not complete are kept.
+/// Stores how many octets of an incomplete preface or frame are held.
 #[unsafe(no_mangle)]
 pub extern "C" fn bj_conn_held(alloc: Global, conn: &mut BjConn, count: &mut usize) -> i32
     ensures call { OnPlace result (SaysOfConn (SaysConnLog reader_held) result count.new)
@@ -66,7 +66,7 @@ pub extern "C" fn bj_conn_held(alloc: Global, conn: &mut BjConn, count: &mut usi
 }
 
 // contract: c (own) A reader says what the end in its place answers
-/// Says how many octets of output wait.
+/// Stores how many octets of output wait.
 #[unsafe(no_mangle)]
 pub extern "C" fn bj_conn_waiting_count(alloc: Global, conn: &mut BjConn, count: &mut usize) -> i32
     ensures call { OnPlace result (SaysOfConn (SaysConnLog waiting) result count.new)
@@ -82,7 +82,7 @@ pub extern "C" fn bj_conn_waiting_count(alloc: Global, conn: &mut BjConn, count:
 }
 
 // contract: c (own) A reader says what the end in its place answers
-/// Says how many octets of input were used.
+/// Stores how many octets of input were used.
 #[unsafe(no_mangle)]
 pub extern "C" fn bj_conn_place(alloc: Global, conn: &mut BjConn, place: &mut u64) -> i32
     ensures call { OnPlace result (SaysOfConn (SaysConnLog conn_place) result place.new)
@@ -98,7 +98,7 @@ pub extern "C" fn bj_conn_place(alloc: Global, conn: &mut BjConn, place: &mut u6
 }
 
 // contract: c (own) A reader says what the end in its place answers
-/// Says how many octets the payload of the last DATA had, padding included.
+/// Stores the payload length of the last DATA frame, padding included.
 #[unsafe(no_mangle)]
 pub extern "C" fn bj_conn_last_flow(alloc: Global, conn: &mut BjConn, flow: &mut u32) -> i32
     ensures call { OnPlace result (SaysOfConn (SaysConnLog flow_of_data) result flow.new)
@@ -114,7 +114,8 @@ pub extern "C" fn bj_conn_last_flow(alloc: Global, conn: &mut BjConn, flow: &mut
 }
 
 // contract: c (own) A reader says what the end in its place answers
-/// Says how many octets may be sent on a stream, or on the connection, which is 0.
+/// Stores how many octets of DATA the window of a stream allows, or with 0 that of the
+/// connection.
 #[unsafe(no_mangle)]
 pub extern "C" fn bj_conn_room(alloc: Global, conn: &mut BjConn, stream: u32, room: &mut i64) -> i32
     ensures call { OnPlace result (FindsInConn (SaysConnLog (room_on stream)) result room.old
@@ -137,7 +138,7 @@ pub extern "C" fn bj_conn_room(alloc: Global, conn: &mut BjConn, stream: u32, ro
 }
 
 // contract: c (own) A reader says what the end in its place answers
-/// Says the least active stream above a number.
+/// Stores the least active stream above a number.
 #[unsafe(no_mangle)]
 pub extern "C" fn bj_conn_next_live(
     alloc: Global,
@@ -165,7 +166,7 @@ pub extern "C" fn bj_conn_next_live(
 }
 
 // contract: c (own) A reader says what the end in its place answers
-/// Says the number of the stream that a client opens next.
+/// Stores the number of the stream that a client opens next.
 #[unsafe(no_mangle)]
 pub extern "C" fn bj_conn_next_number(alloc: Global, conn: &mut BjConn, stream: &mut u32) -> i32
     ensures call { OnPlace result (FindsInConn (SaysConnLog reader_next_number) result stream.old
@@ -188,7 +189,7 @@ pub extern "C" fn bj_conn_next_number(alloc: Global, conn: &mut BjConn, stream: 
 }
 
 // contract: c (own) A reader says what the end in its place answers
-/// Says the code with which the connection has failed, if it has.
+/// Stores the code with which the connection has failed, if it has.
 #[unsafe(no_mangle)]
 pub extern "C" fn bj_conn_failed(alloc: Global, conn: &mut BjConn, code: &mut u32) -> i32
     ensures call { OnPlace result (FindsInConn (SaysConnLog failed_with) result code.old code.new)
@@ -210,7 +211,7 @@ pub extern "C" fn bj_conn_failed(alloc: Global, conn: &mut BjConn, code: &mut u3
 }
 
 // contract: c (own) A reader says what the end in its place answers
-/// Says the number of why the connection has failed, if it has.
+/// Stores the number of the reason for which the connection has failed, if it has.
 #[unsafe(no_mangle)]
 pub extern "C" fn bj_conn_why(alloc: Global, conn: &mut BjConn, why: &mut u32) -> i32
     ensures call { OnPlace result (FindsInConn (SaysWhyOfConn) result why.old why.new)
@@ -232,7 +233,7 @@ pub extern "C" fn bj_conn_why(alloc: Global, conn: &mut BjConn, why: &mut u32) -
 }
 
 // contract: c (own) A reader says what the end in its place answers
-/// Whether a stream is active.
+/// Returns whether a stream is active.
 #[unsafe(no_mangle)]
 pub extern "C" fn bj_conn_is_active(alloc: Global, conn: &mut BjConn, stream: u32) -> i32
     ensures { OnPlace result (AnswersOfConn truth (SaysConnLog (active_on stream)) result)
@@ -247,7 +248,7 @@ pub extern "C" fn bj_conn_is_active(alloc: Global, conn: &mut BjConn, stream: u3
 }
 
 // contract: c (own) A reader says what the end in its place answers
-/// Says the values of the peer's settings that are in force.
+/// Stores the values of the peer's settings that are in force.
 #[unsafe(no_mangle)]
 pub extern "C" fn bj_conn_peer_settings(
     alloc: Global,
@@ -269,7 +270,7 @@ pub extern "C" fn bj_conn_peer_settings(
 }
 
 // contract: c (own) Fields of the list that was handed out last are lent
-/// Lends a field of the list that was reported last, by its place.
+/// Lends the field at a place of the list that was reported last.
 #[unsafe(no_mangle)]
 pub extern "C" fn bj_conn_field_at(
     alloc: Global,
@@ -315,7 +316,7 @@ pub extern "C" fn bj_conn_fields(
 }
 
 impl HeldConn {
-    /// The number of the code with which the connection has failed, if it has.
+    /// Returns the code with which the connection has failed, if it has.
     fn failed_code(&self) -> Option<u32>
         ensures { SaysConnLog failed_with self.now.conn result }
     {
@@ -325,7 +326,7 @@ impl HeldConn {
         }
     }
 
-    /// The number of why the connection has failed, if it has.
+    /// Returns the number of the reason for which the connection has failed, if it has.
     fn why_number(&self) -> Option<u32>
         ensures { SaysWhyOfConn self.now.conn result }
     {

@@ -12,8 +12,8 @@ use h2_conn::Conn;
 use std::alloc::Global;
 
 // contract: c (own) An event has what was handed out, as numbers and addresses
-/// Takes octets of a piece, up to the end of one frame or else all of them, and says what is
-/// reported.
+/// Takes octets of a piece, up to the end of one frame or else all of them, and stores the
+/// event.
 #[unsafe(no_mangle)]
 pub extern "C" fn bj_conn_take(
     alloc: Global,
@@ -34,7 +34,7 @@ pub extern "C" fn bj_conn_take(
     answer
 }
 
-/// Takes octets, and says what is reported.
+/// Takes octets, and stores the event.
 fn conn_takes(conn: &mut Conn, octets: &[u8], report: &mut BjReport) -> i32
     ensures { TakesReport conn.old octets.now report.old report.new result conn.new }
 {

@@ -1,4 +1,4 @@
-//! The calls that are the connection's.
+//! The calls of an end that are its connection's.
 
 ghost use Rattle.std.specs.Prelude.{◌≡◌};
 ghost use Rattle.h2_flow.specs.Configs.{first_bad};
@@ -109,7 +109,7 @@ pub extern "C" fn bj_change_settings(alloc: Global, end: &mut BjEnd, config: &Bj
 }
 
 impl Held {
-    /// Changes the settings to these, if each is within its bounds.
+    /// Changes the settings, if each value is within its bounds.
     fn change(&mut self, config: &BjConfig) -> i32
         ensures { WithinBounds (first_bad (values_given config.now)) result
             (Answers answer_number (ActsOnEnd (ChangeSettings (values_given config.now))) result)
@@ -121,7 +121,7 @@ impl Held {
         }
     }
 
-    /// Ends the connection with the code of a number, if it is one.
+    /// Fails the connection with the error code of this number, if there is one.
     fn fail_with(&mut self, code: u32) -> i32
         ensures { WithCode code result
             (λ code. Answers answer_number (ActsOnEnd (Fail code)) result) self.old self.new }
@@ -134,7 +134,7 @@ impl Held {
 }
 
 // contract: c (own) A call of C's is that of the end in its place
-/// Ends the connection with an error code.
+/// Fails the connection with an error code.
 #[unsafe(no_mangle)]
 pub extern "C" fn bj_fail(alloc: Global, end: &mut BjEnd, code: u32) -> i32
     ensures { OnPlace result

@@ -1,5 +1,5 @@
-//! What an end and a connection answer of the frames that have come: those that cost a peer little,
-//! and the field block that has begun.
+//! Readers of an end and of a connection: how many frames have come that cost a peer little,
+//! and the field block that is incomplete.
 
 ghost use Rattle.std.specs.Prelude.{◌≡◌, None};
 ghost use Rattle.h2_spec_log.specs.Log.{reader_block_stream};
@@ -15,7 +15,7 @@ use std::alloc::Global;
 
 // contract: c (own) A reader says what the end in its place answers
 // rule: c (own) A reader says what the end in its place answers
-/// Says how many RST_STREAM frames of the peer's were read.
+/// Stores how many RST_STREAM frames were received.
 #[unsafe(no_mangle)]
 pub extern "C" fn bj_resets_received(alloc: Global, end: &mut BjEnd, count: &mut u32) -> i32
     ensures call { OnPlace result (SaysOfEnd (SaysLog resets_read) result count.new)
@@ -32,7 +32,8 @@ pub extern "C" fn bj_resets_received(alloc: Global, end: &mut BjEnd, count: &mut
 
 // contract: c (own) A reader says what the end in its place answers
 // rule: c (own) A reader says what the end in its place answers
-/// Says how many frames without octets of the peer's were read that say nothing.
+/// Stores how many empty frames were received: DATA without END_STREAM, HEADERS and
+/// CONTINUATION without END_HEADERS, with no octets besides padding.
 #[unsafe(no_mangle)]
 pub extern "C" fn bj_empty_frames_received(alloc: Global, end: &mut BjEnd, count: &mut u32) -> i32
     ensures call { OnPlace result (SaysOfEnd (SaysLog empty_frames_read) result count.new)
@@ -49,7 +50,7 @@ pub extern "C" fn bj_empty_frames_received(alloc: Global, end: &mut BjEnd, count
 
 // contract: c (own) A reader says what the end in its place answers
 // rule: c (own) A reader says what the end in its place answers
-/// Says how many PING frames of the peer's were read that are to be answered.
+/// Stores how many PING frames without ACK were received.
 #[unsafe(no_mangle)]
 pub extern "C" fn bj_pings_received(alloc: Global, end: &mut BjEnd, count: &mut u32) -> i32
     ensures call { OnPlace result (SaysOfEnd (SaysLog pings_read) result count.new)
@@ -66,7 +67,7 @@ pub extern "C" fn bj_pings_received(alloc: Global, end: &mut BjEnd, count: &mut 
 
 // contract: c (own) A reader says what the end in its place answers
 // rule: c (own) A reader says what the end in its place answers
-/// Says how many SETTINGS frames of the peer's were read that are to be acknowledged.
+/// Stores how many SETTINGS frames without ACK were received.
 #[unsafe(no_mangle)]
 pub extern "C" fn bj_settings_received(alloc: Global, end: &mut BjEnd, count: &mut u32) -> i32
     ensures call { OnPlace result (SaysOfEnd (SaysLog settings_read) result count.new)
@@ -82,7 +83,7 @@ pub extern "C" fn bj_settings_received(alloc: Global, end: &mut BjEnd, count: &m
 }
 
 // contract: c (own) A reader says what the end in its place answers
-/// Says the stream of the field block that has begun and is not whole.
+/// Stores the stream of the field block that is incomplete.
 #[unsafe(no_mangle)]
 pub extern "C" fn bj_block_stream(alloc: Global, end: &mut BjEnd, stream: &mut u32) -> i32
     ensures call { OnPlace result
@@ -105,7 +106,7 @@ pub extern "C" fn bj_block_stream(alloc: Global, end: &mut BjEnd, stream: &mut u
 }
 
 // contract: c (own) A reader says what the end in its place answers
-/// Says how many RST_STREAM frames of the peer's were read.
+/// Stores how many RST_STREAM frames were received.
 #[unsafe(no_mangle)]
 pub extern "C" fn bj_conn_resets_received(alloc: Global, conn: &mut BjConn, count: &mut u32) -> i32
     ensures call { OnPlace result (SaysOfConn (SaysConnLog resets_read) result count.new)
@@ -121,7 +122,8 @@ pub extern "C" fn bj_conn_resets_received(alloc: Global, conn: &mut BjConn, coun
 }
 
 // contract: c (own) A reader says what the end in its place answers
-/// Says how many frames without octets of the peer's were read that say nothing.
+/// Stores how many empty frames were received: DATA without END_STREAM, HEADERS and
+/// CONTINUATION without END_HEADERS, with no octets besides padding.
 #[unsafe(no_mangle)]
 pub extern "C" fn bj_conn_empty_frames_received(
     alloc: Global,
@@ -141,7 +143,7 @@ pub extern "C" fn bj_conn_empty_frames_received(
 }
 
 // contract: c (own) A reader says what the end in its place answers
-/// Says how many PING frames of the peer's were read that are to be answered.
+/// Stores how many PING frames without ACK were received.
 #[unsafe(no_mangle)]
 pub extern "C" fn bj_conn_pings_received(alloc: Global, conn: &mut BjConn, count: &mut u32) -> i32
     ensures call { OnPlace result (SaysOfConn (SaysConnLog pings_read) result count.new)
@@ -157,7 +159,7 @@ pub extern "C" fn bj_conn_pings_received(alloc: Global, conn: &mut BjConn, count
 }
 
 // contract: c (own) A reader says what the end in its place answers
-/// Says how many SETTINGS frames of the peer's were read that are to be acknowledged.
+/// Stores how many SETTINGS frames without ACK were received.
 #[unsafe(no_mangle)]
 pub extern "C" fn bj_conn_settings_received(
     alloc: Global,
@@ -177,7 +179,7 @@ pub extern "C" fn bj_conn_settings_received(
 }
 
 // contract: c (own) A reader says what the end in its place answers
-/// Says the stream of the field block that has begun and is not whole.
+/// Stores the stream of the field block that is incomplete.
 #[unsafe(no_mangle)]
 pub extern "C" fn bj_conn_block_stream(alloc: Global, conn: &mut BjConn, stream: &mut u32) -> i32
     ensures call { OnPlace result

@@ -21,7 +21,7 @@ use hpack::{Decoder, FieldList};
 use std::alloc::Global;
 use std::marker::Model;
 
-/// What a place with a decoder holds.
+/// The contents of a place that holds a decoder.
 #[derive(Drop)]
 pub struct HeldDecoder {
     /// The decoder.
@@ -30,7 +30,8 @@ pub struct HeldDecoder {
     pub(crate) list: FieldList,
 }
 
-/// `bj_decoder`: a place of C's that holds a decoder or nothing, as [`crate::BjEnd`] does an end.
+/// `bj_decoder`: a place that C owns and that holds a decoder or nothing, as [`crate::BjEnd`]
+/// holds an end.
 #[repr(C)]
 pub struct BjDecoder {
     at: *mut u8,
@@ -43,7 +44,7 @@ impl Model for BjDecoder {
 }
 
 impl BjDecoder {
-    /// Whether it holds a decoder.
+    /// Returns whether it holds a decoder.
     pub(crate) fn is_held(&mut self) -> bool
         ensures value { result ≡ is_some self.old.held }
         ensures same { self.new ≡ self.old }
@@ -80,7 +81,7 @@ impl BjDecoder {
         self.put(Loose::of(held));
     }
 
-    /// The decoder that is here, if there is one; then the place holds nothing until it is put
+    /// Takes out the decoder that is here, if any. The place holds nothing until it is put
     /// back.
     pub(crate) fn open(&mut self, alloc: Global) -> Option<Box<HeldDecoder>>
         ensures empty { self.new.held ≡ None }
@@ -130,7 +131,7 @@ fn make(alloc: Global, decoder: Decoder, place: &mut BjDecoder) -> i32
 }
 
 // contract: c (own) A place holds an end or nothing, and each call says which
-/// Frees the decoder in a place, which holds none then.
+/// Frees the decoder in a place, which then holds none.
 #[unsafe(no_mangle)]
 pub extern "C" fn bj_decoder_free(alloc: Global, decoder: &mut BjDecoder) -> i32
     ensures empty { decoder.new.held ≡ None }
@@ -146,7 +147,7 @@ pub extern "C" fn bj_decoder_free(alloc: Global, decoder: &mut BjDecoder) -> i32
 }
 
 // contract: c (own) An encoder makes blocks of its list, and a decoder lists of its block
-/// Sets the limit of the table, for the updates of later blocks.
+/// Sets the limit of the header table, which size updates of later blocks must keep.
 #[unsafe(no_mangle)]
 pub extern "C" fn bj_decoder_set_limit(alloc: Global, decoder: &mut BjDecoder, limit: u32) -> i32
     ensures { OnPlace result (LimitsDecoder limit result) decoder.old.held decoder.new.held }
@@ -160,7 +161,7 @@ pub extern "C" fn bj_decoder_set_limit(alloc: Global, decoder: &mut BjDecoder, l
 }
 
 // contract: c (own) An encoder makes blocks of its list, and a decoder lists of its block
-/// Decodes a block into the decoder's list, and says how many fields it has.
+/// Decodes a block into the list of the decoder, and stores how many fields it has.
 #[unsafe(no_mangle)]
 pub extern "C" fn bj_decode(
     alloc: Global,
@@ -194,7 +195,7 @@ impl HeldDecoder {
 }
 
 // contract: c (own) Fields of the list that was handed out last are lent
-/// Lends a field of the list that was decoded last, by its place.
+/// Lends the field at a place of the list that was decoded last.
 #[unsafe(no_mangle)]
 pub extern "C" fn bj_decoded_at(
     alloc: Global,

@@ -22,7 +22,7 @@ use hpack::{Encoder, list_size};
 use std::alloc::Global;
 use std::marker::Model;
 
-/// What a place with an encoder holds.
+/// The contents of a place that holds an encoder.
 #[derive(Drop)]
 pub struct HeldEncoder {
     /// The encoder.
@@ -33,7 +33,8 @@ pub struct HeldEncoder {
     pub(crate) block: Vec<u8>,
 }
 
-/// `bj_encoder`: a place of C's that holds an encoder or nothing, as [`crate::BjEnd`] does an end.
+/// `bj_encoder`: a place that C owns and that holds an encoder or nothing, as [`crate::BjEnd`]
+/// holds an end.
 #[repr(C)]
 pub struct BjEncoder {
     at: *mut u8,
@@ -46,7 +47,7 @@ impl Model for BjEncoder {
 }
 
 impl BjEncoder {
-    /// Whether it holds an encoder.
+    /// Returns whether it holds an encoder.
     pub(crate) fn is_held(&mut self) -> bool
         ensures value { result ≡ is_some self.old.held }
         ensures same { self.new ≡ self.old }
@@ -83,7 +84,7 @@ impl BjEncoder {
         self.put(Loose::of(held));
     }
 
-    /// The encoder that is here, if there is one; then the place holds nothing until it is put
+    /// Takes out the encoder that is here, if any. The place holds nothing until it is put
     /// back.
     pub(crate) fn open(&mut self, alloc: Global) -> Option<Box<HeldEncoder>>
         ensures empty { self.new.held ≡ None }
@@ -133,7 +134,7 @@ fn make(alloc: Global, encoder: Encoder, place: &mut BjEncoder) -> i32
 }
 
 // contract: c (own) A place holds an end or nothing, and each call says which
-/// Frees the encoder in a place, which holds none then.
+/// Frees the encoder in a place, which then holds none.
 #[unsafe(no_mangle)]
 pub extern "C" fn bj_encoder_free(alloc: Global, encoder: &mut BjEncoder) -> i32
     ensures empty { encoder.new.held ≡ None }
@@ -149,7 +150,7 @@ pub extern "C" fn bj_encoder_free(alloc: Global, encoder: &mut BjEncoder) -> i32
 }
 
 // contract: c (own) An encoder makes blocks of its list, and a decoder lists of its block
-/// Sets the limit of the peer's table, which the next block announces.
+/// Sets the limit of the peer's header table, which the next block announces.
 #[unsafe(no_mangle)]
 pub extern "C" fn bj_encoder_set_limit(alloc: Global, encoder: &mut BjEncoder, limit: u32) -> i32
     ensures { OnPlace result (LimitsEncoder limit result) encoder.old.held encoder.new.held }
@@ -163,7 +164,7 @@ pub extern "C" fn bj_encoder_set_limit(alloc: Global, encoder: &mut BjEncoder, l
 }
 
 // contract: c (own) An encoder makes blocks of its list, and a decoder lists of its block
-/// Makes the block of fields, and lends it.
+/// Encodes fields as a block, and lends it.
 #[unsafe(no_mangle)]
 pub extern "C" fn bj_encode(
     alloc: Global,
@@ -184,11 +185,11 @@ pub extern "C" fn bj_encode(
     answer
 }
 
-/// Lists from this size on are not encoded: 2<sup>35</sup>.
+/// The least size of a list that is not encoded: 2<sup>35</sup>.
 const TOO_LARGE: usize = 0x8_0000_0000;
 
 impl HeldEncoder {
-    /// Makes the block of fields that C gives, and lends it.
+    /// Encodes fields that C gives, and lends the block.
     fn encode(&mut self, alloc: Global, fields: &[BjField<'_>], block: &mut BjSpan) -> i32
         ensures { EncodesFields (fields_given fields.now) result block.old block.new
             self.old self.new }
@@ -199,7 +200,7 @@ impl HeldEncoder {
         answer
     }
 
-    /// Makes the block of copies, and lends it.
+    /// Encodes copies of fields, and lends the block.
     fn encode_copied(
         &mut self,
         alloc: Global,
@@ -217,7 +218,7 @@ impl HeldEncoder {
     }
 
     // rule: c (own) An encoder makes blocks of its list, and a decoder lists of its block
-    /// Makes the block of a list, and lends it.
+    /// Encodes a list, and lends the block.
     fn encode_list(&mut self, fields: &[Field], block: &mut BjSpan) -> i32
         ensures { EncodesFields fields.now result block.old block.new self.old self.new }
     {

@@ -1,4 +1,4 @@
-//! What a call of `bj_take` hands out.
+//! The event of a call of `bj_take`.
 
 ghost use Rattle.std.specs.Prelude.{◌≡◌, length};
 ghost use Rattle.belkjoef.specs.Events.{address_of, flag_of, blank, with_list, event_with};
@@ -6,35 +6,35 @@ ghost use Rattle.belkjoef.specs.Events.{address_of, flag_of, blank, with_list, e
 use crate::place::address;
 use h2_ends::{EndEvent, FieldList};
 
-/// `bj_event`: what was used of the piece, and what is handed out.
+/// `bj_event`: how much of the piece was used, and the event.
 #[repr(C)]
 #[derive(Drop)]
 pub struct BjEvent {
-    /// The octets of the piece that were used.
+    /// How many octets of the piece were used.
     pub used: usize,
-    /// Which event it is; 0 where nothing is handed out.
+    /// The kind of event; 0 if there is none.
     pub kind: u32,
-    /// The stream; of GOAWAY the greatest one that is processed.
+    /// The stream; of GOAWAY the highest one that the peer may process.
     pub stream: u32,
-    /// The error code, of a reset, of GOAWAY and of a failure.
+    /// The error code of a reset, of GOAWAY or of a failure.
     pub code: u32,
-    /// 1 where the message is whole.
+    /// 1 if END_STREAM came: the message is complete.
     pub end: u32,
-    /// 1 where this end has reset the stream.
+    /// 1 if this end has reset the stream.
     pub ours: u32,
     /// The octets of a PING.
     pub ping: [u8; 8],
     /// How many fields there are.
     pub fields: usize,
-    /// Where the octets of a body are.
+    /// The address of the octets of a body.
     pub octets: *const u8,
-    /// How many there are.
+    /// Their number.
     pub length: usize,
-    /// The number of C's for the stream.
+    /// The number that C keeps for the stream.
     pub user: usize,
 }
 
-/// Nothing is handed out.
+/// No event.
 pub(crate) const NOTHING: u32 = 0;
 
 const INTERIM: u32 = 1;
@@ -56,7 +56,7 @@ const ACKED: u32 = 8;
 const PONG: u32 = 9;
 
 impl BjEvent {
-    /// Nothing yet, of this piece.
+    /// Clears the event, before a piece is taken.
     pub(crate) fn clear(&mut self, piece: &[u8])
         ensures { self.new ≡ blank (address_of piece.entry) }
     {
@@ -74,7 +74,7 @@ impl BjEvent {
     }
 
     // rule: c (own) An event has what was handed out, as numbers and addresses
-    /// Says an event.
+    /// Stores an event.
     pub(crate) fn say(&mut self, event: EndEvent<&FieldList, &[u8]>)
         ensures { self.new ≡ event_with self.old event.entry }
     {
@@ -112,7 +112,7 @@ impl BjEvent {
         }
     }
 
-    /// Says fields.
+    /// Stores the event of a part of a message that has fields.
     fn say_fields(&mut self, kind: u32, id: u32, list: &FieldList, end: bool)
         ensures { self.new ≡ with_list self.old kind id (length list.now) end }
     {
@@ -123,7 +123,7 @@ impl BjEvent {
     }
 }
 
-/// 1 or 0.
+/// Returns 1 if it is set, else 0.
 pub(crate) fn flag(set: bool) -> u32
     ensures { result ≡ flag_of set }
 {

@@ -13,7 +13,7 @@ use crate::place::{BjEnd, address};
 use h2_ends::{Field, FieldList, FieldRef};
 use std::alloc::{AllocError, Global};
 
-/// `bj_field`, as C gives it.
+/// `bj_field`: a field that C gives.
 #[repr(C)]
 #[derive(Drop)]
 pub struct BjField<'a> {
@@ -21,28 +21,28 @@ pub struct BjField<'a> {
     pub name: &'a [u8],
     /// The value.
     pub value: &'a [u8],
-    /// Not 0 where it may never be put into a table.
+    /// Not 0 for a field that is never indexed (RFC 7541, section 7.1.3).
     pub sensitive: u32,
 }
 
-/// `bj_field`, as an end lends it.
+/// `bj_field`: a field that an end lends.
 #[repr(C)]
 #[derive(Drop)]
 pub struct BjLent {
-    /// Where the name is.
+    /// The address of the name.
     pub name: *const u8,
     /// Its length.
     pub name_length: usize,
-    /// Where the value is.
+    /// The address of the value.
     pub value: *const u8,
     /// Its length.
     pub value_length: usize,
-    /// 1 where it may never be put into a table.
+    /// 1 for a field that is never indexed (RFC 7541, section 7.1.3).
     pub sensitive: u32,
 }
 
 impl BjLent {
-    /// Says a field.
+    /// Stores where a field lies.
     fn say(&mut self, field: FieldRef<'_>)
         ensures { self.new ≡ lent_as field.entry }
     {
@@ -55,7 +55,7 @@ impl BjLent {
 }
 
 // rule: c (own) What C gives is copied; without memory nothing has changed
-/// Copies of fields.
+/// Copies fields.
 pub(crate) fn copies(alloc: Global, fields: &[BjField<'_>]) -> Result<Vec<Field>, AllocError>
     ensures { IfOk result (λ copies. copies.items ≡ fields_given fields.now) }
 {
@@ -69,7 +69,7 @@ pub(crate) fn copies(alloc: Global, fields: &[BjField<'_>]) -> Result<Vec<Field>
 
 // contract: c (own) Fields of the list that was handed out last are lent
 // rule: c (own) Fields of the list that was handed out last are lent
-/// Lends a field of the list that was handed out last, by its place.
+/// Lends the field at a place of the list that was handed out last.
 #[unsafe(no_mangle)]
 pub extern "C" fn bj_field_at(
     alloc: Global,
@@ -90,7 +90,7 @@ pub extern "C" fn bj_field_at(
     answer
 }
 
-/// Lends a field of a list by its place.
+/// Lends the field at a place of a list.
 pub(crate) fn lend_at(list: &FieldList, place: usize, field: &mut BjLent) -> i32
     ensures { LendsField (slice_get list.now place) result field.old field.new }
 {
@@ -129,7 +129,7 @@ pub extern "C" fn bj_fields(
     OK
 }
 
-/// Lends fields from a place on, and answers how many.
+/// Lends fields from a place on, and returns how many.
 pub(crate) fn lend(list: &FieldList, from: usize, fields: &mut [BjLent]) -> usize
     ensures { AreLent (drop from list.now) fields.old fields.new result }
 {
@@ -145,7 +145,7 @@ pub(crate) fn lend(list: &FieldList, from: usize, fields: &mut [BjLent]) -> usiz
 
 // contract: c (own) Fields of the list that was handed out last are lent
 // rule: c (own) Fields of the list that was handed out last are lent
-/// Lends the value of the first field with a name of the list that was handed out last.
+/// Lends the value of the first field with a name, in the list that was handed out last.
 #[unsafe(no_mangle)]
 pub extern "C" fn bj_field_value(
     alloc: Global,
@@ -169,7 +169,7 @@ pub extern "C" fn bj_field_value(
     answer
 }
 
-/// Lends the value of the first field of a list with a name.
+/// Lends the value of the first field with a name in a list.
 fn lend_value(list: &FieldList, name: &[u8], value: &mut *const u8, count: &mut usize) -> i32
     ensures { LendsValue (value_of name.now list.now) result
         (record { octets = value.old; length = count.old })

@@ -1,4 +1,4 @@
-//! What a place of C's holds: a client or a server, and the numbers that C keeps beside its
+//! The contents of a place of C: a client or a server, and the numbers that C keeps for its
 //! streams.
 
 ghost use Rattle.std.specs.Prelude.{◌≡◌, ◌++◌, OnOk};
@@ -30,12 +30,12 @@ pub(crate) enum Side {
     Server(Server),
 }
 
-/// An end, and what C keeps beside its streams.
+/// An end, and the numbers that C keeps for its streams.
 #[derive(Drop)]
 pub struct Held {
     /// The end.
     pub(crate) side: Side,
-    /// The numbers of C's, by stream.
+    /// The numbers that C keeps, by stream.
     pub(crate) users: Users,
     /// Copies of the head that was sent last in parts.
     pub(crate) heads: KeptFields,
@@ -44,7 +44,7 @@ pub struct Held {
 }
 
 impl Side {
-    /// The connection.
+    /// Returns the connection.
     pub(crate) fn conn(&self) -> &Conn
         ensures { result.now ≡ (end_in self.now).conn }
     {
@@ -150,7 +150,7 @@ impl Held {
     }
 
     // rule: c (own) A call of C's is that of the end in its place
-    /// Ends the connection with a code.
+    /// Fails the connection with a code.
     pub(crate) fn fail(&mut self, code: Code) -> Result<(), Refusal>
         ensures does { ActsOnEnd (Fail code) (held_end self.old) result (held_end self.new) }
         ensures keeps { KeepsAllElse self.old self.new }
@@ -178,7 +178,7 @@ impl Held {
         }
     }
 
-    /// Makes the output ready.
+    /// Prepares the output to be written from where it lies.
     pub(crate) fn ready(&mut self) -> Result<(), Refusal>
         ensures does { ReadiesEnd (held_end self.old) result (held_end self.new) }
         ensures keeps { KeepsAllElse self.old self.new }
@@ -190,7 +190,7 @@ impl Held {
         }
     }
 
-    /// Takes octets of the output away.
+    /// Removes octets of the output, which were written.
     pub(crate) fn consume(&mut self, count: usize) -> Result<usize, Refusal>
         ensures does { ConsumesEnd count (held_end self.old) result (held_end self.new) }
         ensures keeps { KeepsAllElse self.old self.new }
@@ -202,7 +202,7 @@ impl Held {
         }
     }
 
-    /// Whether the output is full.
+    /// Returns whether the output is full.
     pub(crate) fn is_full(&self) -> bool
         ensures { AnswersLog IsFull (held_end self.now) result }
     {
@@ -212,7 +212,7 @@ impl Held {
         }
     }
 
-    /// Whether nothing waits and no stream is active.
+    /// Returns whether nothing waits and no stream is active.
     pub(crate) fn is_drained(&self) -> bool
         ensures { AnswersLog IsDrained (held_end self.now) result }
     {
@@ -222,7 +222,7 @@ impl Held {
         }
     }
 
-    /// Whether nothing waits, is owed, or could be sent.
+    /// Returns whether nothing waits, is owed, or could be sent.
     pub(crate) fn is_quiet(&self) -> bool
         ensures { AnswersQuiet (held_end self.now) result }
     {
@@ -232,14 +232,14 @@ impl Held {
         }
     }
 
-    /// The number of C's beside a stream; 0 where there is none.
+    /// Returns the number that C keeps for a stream; 0 if none.
     pub(crate) fn user_of(&self, id: u32) -> usize
         ensures { result ≡ user_at self.now.users.entries id }
     {
         self.users.of(id)
     }
 
-    /// How many octets of the body that was given for a stream wait.
+    /// Returns how many octets of the body given for a stream wait.
     pub(crate) fn unsent(&self, id: u32) -> usize
         ensures { SaysUnsent id (held_end self.now) result }
     {
@@ -249,7 +249,7 @@ impl Held {
         }
     }
 
-    /// The number of the code with which the connection has failed, if it has.
+    /// Returns the code with which the connection has failed, if it has.
     pub(crate) fn failed_code(&self) -> Option<u32>
         ensures { SaysLog failed_with (held_end self.now) result }
     {
@@ -259,7 +259,7 @@ impl Held {
         }
     }
 
-    /// The number of why the connection has failed, if it has.
+    /// Returns the number of the reason for which the connection has failed, if it has.
     pub(crate) fn why_number(&self) -> Option<u32>
         ensures { SaysWhy (held_end self.now) result }
     {
@@ -269,14 +269,15 @@ impl Held {
         }
     }
 
-    /// How many octets the payload of the last DATA had.
+    /// Returns the payload length of the last DATA frame, padding included.
     pub(crate) fn last_flow(&self) -> u32
         ensures { SaysLog flow_of_data (held_end self.now) result }
     {
         self.side.conn().last_flow()
     }
 
-    /// Which part was refused last, and the number of the rule that it breaks.
+    /// Returns the stream of the part of a message that was refused last, and the number of the
+    /// rule that it breaks.
     pub(crate) fn last_malformed(&self) -> Option<(u32, i32)>
         ensures { SaysMalformed (held_end self.now) result }
     {

@@ -16,9 +16,9 @@ const MOST_FIELDS: usize = 64;
 /// The greatest size of a list that is kept (RFC 9113, section 6.5.2).
 const MOST_OCTETS: usize = 8192;
 
-/// The copies that a call has made, kept for the next one, which copies only what differs. No call
-/// can tell what is kept, so contracts see nothing of it but its bounds: at most 64 fields, of at
-/// most 8,192 octets, where each counts 32 more.
+/// The copies that a call has made, kept for the next one, which copies only what differs. No
+/// result depends on them, so contracts say only their bounds: at most 64 fields of at most
+/// 8,192 octets together, where each field counts 32 more.
 #[derive(Drop)]
 pub(crate) struct KeptFields {
     fields: Vec<Field>,
@@ -37,19 +37,19 @@ impl Model for KeptFields {
 }
 
 impl KeptFields {
-    /// None. It takes no memory.
+    /// Returns an empty store. It takes no memory.
     pub(crate) fn new(alloc: Global) -> KeptFields {
         KeptFields {
             fields: Vec::new(alloc),
         }
     }
 
-    /// Takes the copies out.
+    /// Takes out the copies.
     pub(crate) fn take(&mut self, alloc: Global) -> Vec<Field> {
         mem::replace(&mut self.fields, Vec::new(alloc))
     }
 
-    /// Keeps copies, or frees them where they are too many.
+    /// Keeps copies, or frees them if they exceed the bounds.
     pub(crate) fn keep(&mut self, copies: Vec<Field>) {
         if copies.len() <= MOST_FIELDS && list_size(&copies) <= MOST_OCTETS {
             self.fields = copies;
@@ -58,7 +58,7 @@ impl KeptFields {
 }
 
 // rule: c (own) What C gives is copied; without memory nothing has changed
-/// Makes copies of fields of these, which are used where they are the same.
+/// Copies fields into these copies, and reuses those that are the same.
 pub(crate) fn recopy(
     alloc: Global,
     fields: &[BjField<'_>],
@@ -72,7 +72,7 @@ pub(crate) fn recopy(
     copy_rest(alloc, &fields[kept..], copies)
 }
 
-/// Makes copies of the first fields of these.
+/// Copies the first fields into these copies.
 fn recopy_first(
     alloc: Global,
     fields: &[BjField<'_>],
@@ -88,7 +88,7 @@ fn recopy_first(
     Ok(())
 }
 
-/// Adds copies of fields.
+/// Appends copies of fields.
 fn copy_rest(
     alloc: Global,
     fields: &[BjField<'_>],
@@ -104,7 +104,7 @@ fn copy_rest(
     Ok(())
 }
 
-/// Makes a copy of a field of this.
+/// Copies a field into this copy.
 fn recopy_field(alloc: Global, field: &BjField<'_>, copy: &mut Field) -> Result<(), AllocError>
     ensures { OnOk result (copy.new ≡ field_given field.now) }
 {
@@ -114,7 +114,7 @@ fn recopy_field(alloc: Global, field: &BjField<'_>, copy: &mut Field) -> Result<
     Ok(())
 }
 
-/// Makes a copy of octets of this, unless it is one.
+/// Copies octets into this copy, unless it has them.
 fn recopy_octets(alloc: Global, octets: &[u8], copy: &mut Octets) -> Result<(), AllocError>
     ensures { OnOk result (copy.new ≡ octets.now) }
 {

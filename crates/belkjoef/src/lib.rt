@@ -1,12 +1,12 @@
 //! A client and a server of HTTP/2 for programs in C: the functions of `belkjoef.h`.
 //!
-//! A place of C's, [`BjEnd`], holds an end or nothing, and every function first looks which of the
-//! two. So nothing of C's is read through a raw pointer: what C passes are numbers, slices and
-//! places of its own, for as long as a call lasts. What an end lends goes out as an address and a
-//! length, good until the next call with the same place.
+//! A place that C owns, [`BjEnd`], holds an end or nothing, and every function first checks
+//! which. C passes numbers, slices and places for as long as a call lasts, so nothing of C is
+//! read through a raw pointer. What an end lends goes out as an address and a length, valid
+//! until the next call with the same place.
 //!
-//! Each function answers 0 or a negative number (see [`numbers`]), and what it says beside that
-//! through the pointers that stand last.
+//! Each function returns 0 or a negative number (see [`numbers`]), and stores its other results
+//! through its last pointers.
 #![tactic(auto)]
 
 mod config;

@@ -6,11 +6,11 @@ ghost use Rattle.std_alloc.specs.Box.Ownership.{box_owns};
 use std::alloc::Allocator;
 use std::marker::Model;
 
-/// A box, taken apart.
+/// A box as its pointer and its allocator.
 pub(crate) struct Loose<T, A: Allocator> {
-    /// Where its value is.
+    /// The address of its value.
     pub(crate) at: *mut T,
-    /// What frees it.
+    /// The allocator that frees it.
     pub(crate) alloc: A,
     /// The value.
     pub(crate) ghost value: { T },
@@ -29,7 +29,7 @@ impl<T: Drop, A: Allocator> Loose<T, A> {
         Loose { at, alloc }
     }
 
-    /// The box again.
+    /// Makes the box again.
     pub(crate) fn into_box(self) -> Box<T, A>
         ensures { result.value ≡ self.value }
     {

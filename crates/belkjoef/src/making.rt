@@ -56,7 +56,7 @@ pub extern "C" fn bj_client_new(alloc: Global, config: &BjConfig, end: &mut BjEn
 
 // contract: c (own) A place holds an end or nothing, and each call says which
 // rule: c (own) A place holds an end or nothing, and each call says which
-/// Frees the end in a place, which holds none then.
+/// Frees the end in a place, which then holds none.
 #[unsafe(no_mangle)]
 pub extern "C" fn bj_free(alloc: Global, end: &mut BjEnd) -> i32
     ensures empty { end.new.held ≡ None }
@@ -71,7 +71,7 @@ pub extern "C" fn bj_free(alloc: Global, end: &mut BjEnd) -> i32
     }
 }
 
-/// A new server, unless memory is refused.
+/// Returns a new server, or `None` if memory is refused.
 fn server(alloc: Global, config: Config) -> Option<Side>
     ensures { IfSome result (λ side. IsNewSide roles.Server (values_of config) side) }
 {
@@ -81,7 +81,7 @@ fn server(alloc: Global, config: Config) -> Option<Side>
     }
 }
 
-/// A new client, unless memory is refused.
+/// Returns a new client, or `None` if memory is refused.
 fn client(alloc: Global, config: Config) -> Option<Side>
     ensures { IfSome result (λ side. IsNewSide roles.Client (values_of config) side) }
 {

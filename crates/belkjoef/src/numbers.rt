@@ -1,4 +1,4 @@
-//! The numbers of errors: negative, and each of one condition.
+//! The numbers of errors: negative, one for each condition.
 
 ghost use Rattle.std.specs.Prelude.{◌≡◌};
 ghost use Rattle.belkjoef.specs.Numbers.{config_number, refusal_number, rule_number, end_number};
@@ -10,29 +10,29 @@ ghost use Rattle.belkjoef.specs.Coders.{decoded_number};
 use h2_ends::{BadConfig, EndRefusal, Malformed, Message, Refusal, Why};
 use hpack::{Decoded, Fault};
 
-/// All went well.
+/// No error.
 pub(crate) const OK: i32 = 0;
 /// The place holds nothing.
 pub(crate) const EMPTY: i32 = -1;
-/// The place is in use already.
+/// The place already holds something.
 pub(crate) const HELD: i32 = -2;
-/// It is a call of the other role: of a server at a client, or of a client at a server.
+/// The call is one of the other role: of a server on a client, or of a client on a server.
 pub(crate) const ROLE: i32 = -3;
 /// The connection has failed.
 pub(crate) const FAILED: i32 = -4;
 /// There is no such field.
 pub(crate) const NO_FIELD: i32 = -5;
-/// There is nothing to answer.
+/// There is no such value.
 pub(crate) const NONE: i32 = -6;
-/// No error code has the number.
+/// The number is no error code.
 pub(crate) const BAD_CODE: i32 = -7;
-/// The field list is too large: C10.
+/// C10: the field list is larger than 65,536 octets.
 pub(crate) const LIST_TOO_LARGE: i32 = -30;
-/// Memory was refused: C12.
+/// C12: out of memory.
 pub(crate) const MEMORY: i32 = -32;
 
 // rule: c (own) Each error has its number
-/// The number of a bad configuration.
+/// Returns the number of a bad configuration.
 pub(crate) fn of_config(bad: BadConfig) -> i32
     ensures { result ≡ config_number bad }
 {
@@ -45,7 +45,7 @@ pub(crate) fn of_config(bad: BadConfig) -> i32
 }
 
 // rule: c (own) Each error has its number
-/// The number of a refusal of the connection: C1 is -21.
+/// Returns the number of a refusal of the connection: C1 is -21.
 pub(crate) fn of_refusal(refusal: Refusal) -> i32
     ensures { result ≡ refusal_number refusal }
 {
@@ -67,7 +67,7 @@ pub(crate) fn of_refusal(refusal: Refusal) -> i32
 }
 
 // rule: c (own) Each error has its number
-/// The number of a rule that a message breaks: M1 is -41.
+/// Returns the number of a rule that a message breaks: M1 is -41.
 pub(crate) fn of_rule(rule: Malformed) -> i32
     ensures { result ≡ rule_number rule }
 {
@@ -88,7 +88,7 @@ pub(crate) fn of_rule(rule: Malformed) -> i32
 }
 
 // rule: c (own) Each error has its number
-/// The number of a refusal of an end.
+/// Returns the number of a refusal of an end.
 pub(crate) fn of_end_refusal(refusal: EndRefusal) -> i32
     ensures { result ≡ end_number refusal }
 {
@@ -101,7 +101,7 @@ pub(crate) fn of_end_refusal(refusal: EndRefusal) -> i32
 }
 
 // rule: c (own) Each error has its number
-/// 0, or the number of why there is no list.
+/// Returns 0, or the number of the fault for which there is no list.
 pub(crate) fn of_decoded(answer: Result<Decoded, Fault>) -> i32
     ensures { result ≡ decoded_number answer }
 {
@@ -114,7 +114,7 @@ pub(crate) fn of_decoded(answer: Result<Decoded, Fault>) -> i32
     }
 }
 
-/// 0, or the number of the refusal.
+/// Returns 0, or the number of the refusal.
 pub(crate) fn of_answer(answer: Result<(), Refusal>) -> i32
     ensures { result ≡ answer_number answer }
 {
@@ -124,7 +124,7 @@ pub(crate) fn of_answer(answer: Result<(), Refusal>) -> i32
     }
 }
 
-/// 0, or the number of the refusal with which the message was handed back.
+/// Returns 0, or the number of the refusal with which the message was handed back.
 pub(crate) fn of_reply(answer: Result<(), (Message, EndRefusal)>) -> i32
     ensures { result ≡ reply_number answer }
 {
@@ -134,7 +134,7 @@ pub(crate) fn of_reply(answer: Result<(), (Message, EndRefusal)>) -> i32
     }
 }
 
-/// 0, or the number of the refusal.
+/// Returns 0, or the number of the refusal.
 pub(crate) fn of_end_answer(answer: Result<(), EndRefusal>) -> i32
     ensures { result ≡ end_answer_number answer }
 {
@@ -144,7 +144,7 @@ pub(crate) fn of_end_answer(answer: Result<(), EndRefusal>) -> i32
     }
 }
 
-/// 0, or the number of the refusal, and how many it was.
+/// Returns 0 and stores the count, or returns the number of the refusal and stores 0.
 pub(crate) fn of_count(answer: Result<usize, Refusal>, count: &mut usize) -> i32
     ensures number { result ≡ answer_number answer }
     ensures count { count.new ≡ count_in answer }
@@ -161,7 +161,7 @@ pub(crate) fn of_count(answer: Result<usize, Refusal>, count: &mut usize) -> i32
     }
 }
 
-/// 0, or the number of the refusal, and how many it was.
+/// Returns 0 and stores the count, or returns the number of the refusal and stores 0.
 pub(crate) fn of_end_count(answer: Result<usize, EndRefusal>, count: &mut usize) -> i32
     ensures number { result ≡ end_answer_number answer }
     ensures count { count.new ≡ count_in answer }
@@ -178,7 +178,7 @@ pub(crate) fn of_end_count(answer: Result<usize, EndRefusal>, count: &mut usize)
     }
 }
 
-/// The number of why the connection has failed: its place in [`Why`], from 1 to 27.
+/// Returns the number of a reason: its place in [`Why`], from 1 to 27.
 pub(crate) fn of_why(why: Why) -> u32
     ensures { result ≡ why_number why }
 {

@@ -19,14 +19,14 @@ use std::alloc::Global;
 #[repr(C)]
 #[derive(Drop)]
 pub struct BjSpan {
-    /// Where they are.
+    /// Their address.
     pub octets: *const u8,
-    /// How many there are.
+    /// Their number.
     pub length: usize,
 }
 
 impl BjSpan {
-    /// Says octets.
+    /// Stores where octets lie.
     pub(crate) fn say(&mut self, octets: &[u8])
         ensures { self.new ≡ span_of octets.entry }
     {
@@ -36,7 +36,7 @@ impl BjSpan {
 }
 
 // contract: c (own) A call of C's is that of the end in its place
-/// Makes the output ready to be written from where it lies.
+/// Prepares the output to be written from where it lies.
 #[unsafe(no_mangle)]
 pub extern "C" fn bj_ready(alloc: Global, end: &mut BjEnd) -> i32
     ensures call { OnPlace result (Answers answer_number ReadiesEnd result)
@@ -53,8 +53,8 @@ pub extern "C" fn bj_ready(alloc: Global, end: &mut BjEnd) -> i32
 
 // contract: c (own) The output that waits is lent, or copied and taken away
 // rule: c (own) The output that waits is lent, or copied and taken away
-/// Lends the first two parts of the output that waits, the first of which comes first: both are
-/// empty only where none waits.
+/// Lends the first two parts of the output that waits, in order. Both are empty only if none
+/// waits.
 #[unsafe(no_mangle)]
 pub extern "C" fn bj_waiting(
     alloc: Global,
@@ -78,7 +78,7 @@ pub extern "C" fn bj_waiting(
 }
 
 // contract: c (own) A call of C's is that of the end in its place
-/// Takes octets of the output away, which were written, and says how many.
+/// Removes octets of the output, which were written, and stores how many.
 #[unsafe(no_mangle)]
 pub extern "C" fn bj_consume(alloc: Global, end: &mut BjEnd, count: usize, taken: &mut usize) -> i32
     ensures call { OnPlace result (AnswersWith answer_number count_in (ConsumesEnd count) result
@@ -97,7 +97,7 @@ pub extern "C" fn bj_consume(alloc: Global, end: &mut BjEnd, count: usize, taken
 
 // contract: c (own) The output that waits is lent, or copied and taken away
 // rule: c (own) The output that waits is lent, or copied and taken away
-/// Copies octets of the output into a buffer of C's, and takes them away; says how many.
+/// Moves octets of the output into a buffer of C, and stores how many.
 #[unsafe(no_mangle)]
 pub extern "C" fn bj_put_out(
     alloc: Global,
@@ -119,7 +119,7 @@ pub extern "C" fn bj_put_out(
 }
 
 impl Held {
-    /// Makes the output ready, copies what there is room for, and takes that away.
+    /// Prepares the output, copies as much as there is room for, and removes that.
     fn put_out(&mut self, buffer: &mut [u8]) -> Result<usize, Refusal>
         ensures does { EndCopiesOut buffer.old buffer.new (held_end self.old) result
             (held_end self.new) }
@@ -133,7 +133,7 @@ impl Held {
     }
 }
 
-/// Copies as many octets of the output that waits as there is room for, and answers how many.
+/// Copies as many octets of the output that waits as there is room for, and returns how many.
 pub(crate) fn copy_waiting(conn: &Conn, buffer: &mut [u8]) -> usize
     ensures count { result ≡ min (length buffer.old) (length (octets_queued conn.now)) }
     ensures copied { buffer.new ≡ take result (octets_queued conn.now) ++ drop result buffer.old }
@@ -146,7 +146,7 @@ pub(crate) fn copy_waiting(conn: &Conn, buffer: &mut [u8]) -> usize
     count
 }
 
-/// Copies as many octets as there is room for, and answers how many.
+/// Copies as many octets as there is room for, and returns how many.
 fn copy(octets: &[u8], buffer: &mut [u8]) -> usize
     ensures count { result ≡ min (length buffer.old) (length octets.now) }
     ensures copied { buffer.new ≡ take result octets.now ++ drop result buffer.old }

@@ -37,7 +37,7 @@ pub extern "C" fn bj_begin_response(
 }
 
 // contract: c (own) A call of the other role is refused, and nothing has changed
-/// Begins a request, and says its stream: sends its head.
+/// Begins a request: sends its head, and stores its stream.
 #[unsafe(no_mangle)]
 pub extern "C" fn bj_begin_request(
     alloc: Global,
@@ -59,8 +59,8 @@ pub extern "C" fn bj_begin_request(
 }
 
 // contract: c (own) A call of C's is that of the end in its place
-/// Sends octets of the body of the message that was begun on a stream, as many as windows let
-/// through, and says how many.
+/// Sends octets of the body of the message that was begun on a stream, as many as windows
+/// allow, and stores how many.
 #[unsafe(no_mangle)]
 pub extern "C" fn bj_send_body(
     alloc: Global,
@@ -147,7 +147,7 @@ impl Held {
         }
     }
 
-    /// Begins a request, at a client, and says the stream.
+    /// Begins a request, at a client, and stores the stream.
     fn begin_request_with(&mut self, alloc: Global, head: &[BjField<'_>], stream: &mut u32) -> i32
         ensures call { AtClient result (Copies result (AnswersWith end_answer_number
             (stream_or stream.old) (BeginsWith (fields_given head.now)) result stream.new))
@@ -163,7 +163,7 @@ impl Held {
         answer
     }
 
-    /// Begins a request with copies, and says the stream.
+    /// Begins a request with copies, and stores the stream.
     fn begin_request_copied(
         &mut self,
         alloc: Global,
@@ -182,7 +182,7 @@ impl Held {
         }
     }
 
-    /// Begins a request, and says the stream.
+    /// Begins a request, and stores the stream.
     fn begin_request(&mut self, head: &[Field], stream: &mut u32) -> i32
         ensures call { AtClient result (AnswersWith end_answer_number (stream_or stream.old)
             (BeginsWith head.now) result stream.new) self.old self.new }

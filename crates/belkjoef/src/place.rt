@@ -13,12 +13,12 @@ use crate::loose::Loose;
 use std::alloc::Global;
 use std::marker::Model;
 
-/// The state of a place that holds an end: "belkjoef" in ASCII. Memory that was never set has it by
-/// chance alone.
+/// The state of a place that holds an end: "belkjoef" in ASCII, which memory that was never set
+/// has only by chance.
 pub(crate) const HOLDS_ONE: u64 = 0x6265_6c6b_6a6f_6566;
 
-/// `bj_end`: a place of C's that holds an end, or nothing where its state is another number, as the
-/// 0 of a new one. It owns the end, which lies on the heap.
+/// `bj_end`: a place that C owns and that holds an end on the heap, or nothing if its state is
+/// any other number, such as the 0 of a new one. The place owns the end.
 #[repr(C)]
 pub struct BjEnd {
     at: *mut u8,
@@ -31,7 +31,7 @@ impl Model for BjEnd {
 }
 
 impl BjEnd {
-    /// Whether it holds an end.
+    /// Returns whether it holds an end.
     pub(crate) fn is_held(&mut self) -> bool
         ensures value { result ≡ is_some self.old.held }
         ensures same { self.new ≡ self.old }
@@ -69,7 +69,7 @@ impl BjEnd {
     }
 
     // rule: c (own) A place holds an end or nothing, and each call says which
-    /// The end that is here, if there is one; then the place holds nothing until it is put back.
+    /// Takes out the end that is here, if any. The place holds nothing until it is put back.
     pub(crate) fn open(&mut self, alloc: Global) -> Option<Box<Held>>
         ensures empty { self.new.held ≡ None }
         ensures value { MatchOption result (self.old.held ≡ None)
@@ -82,7 +82,7 @@ impl BjEnd {
     }
 }
 
-/// Where octets are.
+/// Returns the address of octets.
 pub(crate) fn address(octets: &[u8]) -> *const u8
     ensures { result ≡ address_of octets.entry }
 {

@@ -1,4 +1,4 @@
-//! What an end answers of itself.
+//! The readers of an end.
 
 ghost use Rattle.std.specs.Prelude.{◌≡◌, None};
 ghost use Rattle.belkjoef.specs.Calls.{OnPlace, AnswersOfEnd, FindsInEnd, SaysOfEnd};
@@ -12,7 +12,7 @@ use crate::numbers::{EMPTY, NONE, OK};
 use crate::place::BjEnd;
 use std::alloc::Global;
 
-/// 1 or 0.
+/// Returns 1 if it is set, else 0.
 pub(crate) fn yes(set: bool) -> i32
     ensures { result ≡ truth set }
 {
@@ -21,7 +21,7 @@ pub(crate) fn yes(set: bool) -> i32
 
 // contract: c (own) A reader says what the end in its place answers
 // rule: c (own) A reader says what the end in its place answers
-/// Whether the output is full.
+/// Returns whether the output is full.
 #[unsafe(no_mangle)]
 pub extern "C" fn bj_is_full(alloc: Global, end: &mut BjEnd) -> i32
     ensures { OnPlace result (AnswersOfEnd truth (AnswersLog IsFull) result)
@@ -37,7 +37,7 @@ pub extern "C" fn bj_is_full(alloc: Global, end: &mut BjEnd) -> i32
 
 // contract: c (own) A reader says what the end in its place answers
 // rule: c (own) A reader says what the end in its place answers
-/// Whether no output waits, and no stream is active or the connection has failed.
+/// Returns whether no output waits and either no stream is active or the connection has failed.
 #[unsafe(no_mangle)]
 pub extern "C" fn bj_is_drained(alloc: Global, end: &mut BjEnd) -> i32
     ensures { OnPlace result (AnswersOfEnd truth (AnswersLog IsDrained) result)
@@ -53,7 +53,7 @@ pub extern "C" fn bj_is_drained(alloc: Global, end: &mut BjEnd) -> i32
 
 // contract: c (own) A reader says what the end in its place answers
 // rule: c (own) A reader says what the end in its place answers
-/// Whether nothing waits, nothing is owed and nothing could be sent.
+/// Returns whether nothing waits, nothing is owed and nothing could be sent.
 #[unsafe(no_mangle)]
 pub extern "C" fn bj_is_quiet(alloc: Global, end: &mut BjEnd) -> i32
     ensures { OnPlace result (AnswersOfEnd truth AnswersQuiet result) end.old.held end.new.held }
@@ -68,7 +68,7 @@ pub extern "C" fn bj_is_quiet(alloc: Global, end: &mut BjEnd) -> i32
 
 // contract: c (own) A reader says what the end in its place answers
 // rule: c (own) A reader says what the end in its place answers
-/// Whether a stream is active.
+/// Returns whether a stream is active.
 #[unsafe(no_mangle)]
 pub extern "C" fn bj_is_active(alloc: Global, end: &mut BjEnd, stream: u32) -> i32
     ensures { OnPlace result (AnswersOfEnd truth (SaysLog (active_on stream)) result)
@@ -84,7 +84,7 @@ pub extern "C" fn bj_is_active(alloc: Global, end: &mut BjEnd, stream: u32) -> i
 
 // contract: c (own) A reader says what the end in its place answers
 // rule: c (own) A reader says what the end in its place answers
-/// Says the code with which the connection has failed, if it has.
+/// Stores the code with which the connection has failed, if it has.
 #[unsafe(no_mangle)]
 pub extern "C" fn bj_failed(alloc: Global, end: &mut BjEnd, code: &mut u32) -> i32
     ensures call { OnPlace result (FindsInEnd (SaysLog failed_with) result code.old code.new)
@@ -107,7 +107,8 @@ pub extern "C" fn bj_failed(alloc: Global, end: &mut BjEnd, code: &mut u32) -> i
 
 // contract: c (own) A reader says what the end in its place answers
 // rule: c (own) A reader says what the end in its place answers
-/// Says how many octets may be sent on a stream, or on the connection, which is 0.
+/// Stores how many octets of DATA the window of a stream allows, or with 0 that of the
+/// connection.
 #[unsafe(no_mangle)]
 pub extern "C" fn bj_room(alloc: Global, end: &mut BjEnd, stream: u32, room: &mut i64) -> i32
     ensures call { OnPlace result (FindsInEnd (SaysLog (room_on stream)) result room.old room.new)
@@ -130,7 +131,7 @@ pub extern "C" fn bj_room(alloc: Global, end: &mut BjEnd, stream: u32, room: &mu
 
 // contract: c (own) A reader says what the end in its place answers
 // rule: c (own) A reader says what the end in its place answers
-/// Says how many octets of a stream were handed out and are not released.
+/// Stores how many octets of a stream were handed out and not yet released.
 #[unsafe(no_mangle)]
 pub extern "C" fn bj_owed(alloc: Global, end: &mut BjEnd, stream: u32, owed: &mut u32) -> i32
     ensures call { OnPlace result (SaysOfEnd (SaysLog (owed_at stream)) result owed.new)
@@ -147,7 +148,7 @@ pub extern "C" fn bj_owed(alloc: Global, end: &mut BjEnd, stream: u32, owed: &mu
 
 // contract: c (own) A reader says what the end in its place answers
 // rule: c (own) A reader says what the end in its place answers
-/// Says how many octets of the body that was given for a stream wait.
+/// Stores how many octets of the body given for a stream wait.
 #[unsafe(no_mangle)]
 pub extern "C" fn bj_unsent(alloc: Global, end: &mut BjEnd, stream: u32, unsent: &mut usize) -> i32
     ensures call { OnPlace result (SaysOfEnd (SaysUnsent stream) result unsent.new)
@@ -164,7 +165,7 @@ pub extern "C" fn bj_unsent(alloc: Global, end: &mut BjEnd, stream: u32, unsent:
 
 // contract: c (own) A reader says what the end in its place answers
 // rule: c (own) A reader says what the end in its place answers
-/// Says the least active stream above a number.
+/// Stores the least active stream above a number.
 #[unsafe(no_mangle)]
 pub extern "C" fn bj_next_live(alloc: Global, end: &mut BjEnd, above: u32, stream: &mut u32) -> i32
     ensures call { OnPlace result
@@ -188,7 +189,7 @@ pub extern "C" fn bj_next_live(alloc: Global, end: &mut BjEnd, above: u32, strea
 
 // contract: c (own) A reader says what the end in its place answers
 // rule: c (own) A reader says what the end in its place answers
-/// Says how many octets the payload of the last DATA had, padding included.
+/// Stores the payload length of the last DATA frame, padding included.
 #[unsafe(no_mangle)]
 pub extern "C" fn bj_last_flow(alloc: Global, end: &mut BjEnd, flow: &mut u32) -> i32
     ensures call { OnPlace result (SaysOfEnd (SaysLog flow_of_data) result flow.new)
@@ -205,7 +206,7 @@ pub extern "C" fn bj_last_flow(alloc: Global, end: &mut BjEnd, flow: &mut u32) -
 
 // contract: c (own) A reader says what the end in its place answers
 // rule: c (own) A reader says what the end in its place answers
-/// Says the number of why the connection has failed, if it has.
+/// Stores the number of the reason for which the connection has failed, if it has.
 #[unsafe(no_mangle)]
 pub extern "C" fn bj_why(alloc: Global, end: &mut BjEnd, why: &mut u32) -> i32
     ensures call { OnPlace result (FindsInEnd SaysWhy result why.old why.new)
@@ -228,7 +229,7 @@ pub extern "C" fn bj_why(alloc: Global, end: &mut BjEnd, why: &mut u32) -> i32
 
 // contract: c (own) A reader says what the end in its place answers
 // rule: c (own) A reader says what the end in its place answers
-/// Says the stream and the rule of the part of a message that was refused last, if one was.
+/// Stores the stream and the rule of the part of a message that was refused last, if one was.
 #[unsafe(no_mangle)]
 pub extern "C" fn bj_last_malformed(
     alloc: Global,
@@ -260,15 +261,15 @@ pub extern "C" fn bj_last_malformed(
 #[repr(C)]
 #[derive(Drop)]
 pub struct BjSettings {
-    /// The octets of a new stream's window.
+    /// INITIAL_WINDOW_SIZE: the window of a new stream, in octets.
     pub initial_window: u32,
-    /// The most octets of a payload that the peer reads.
+    /// MAX_FRAME_SIZE: the most octets of a payload that the peer reads.
     pub max_frame: u32,
 }
 
 // contract: c (own) A reader says what the end in its place answers
 // rule: c (own) A reader says what the end in its place answers
-/// Says the values of the peer's settings that are in force.
+/// Stores the values of the peer's settings that are in force.
 #[unsafe(no_mangle)]
 pub extern "C" fn bj_peer_settings(alloc: Global, end: &mut BjEnd, settings: &mut BjSettings) -> i32
     ensures call { OnPlace result (SaysOfEnd SaysPeerSettings result settings.new)

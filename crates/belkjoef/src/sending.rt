@@ -16,7 +16,7 @@ use h2_ends::Message;
 use std::alloc::{AllocError, Global};
 
 // rule: c (own) What C gives is copied; without memory nothing has changed
-/// A message of copies of a head and a body.
+/// Makes a message of copies of a head and a body.
 fn message(alloc: Global, head: &[BjField<'_>], body: &[u8]) -> Result<Message, AllocError>
     ensures { IfOk result (λ message. message_value message ≡ message_given head.now body.now) }
 {
@@ -28,7 +28,7 @@ fn message(alloc: Global, head: &[BjField<'_>], body: &[u8]) -> Result<Message, 
 }
 
 // contract: c (own) What C gives is copied; without memory nothing has changed
-/// Gives a response to the request on a stream.
+/// Sends a response to the request on a stream.
 #[unsafe(no_mangle)]
 pub extern "C" fn bj_respond(
     alloc: Global,
@@ -50,7 +50,7 @@ pub extern "C" fn bj_respond(
 }
 
 // contract: c (own) What C gives is copied; without memory nothing has changed
-/// Gives a request, and says its stream.
+/// Sends a request, and stores its stream.
 #[unsafe(no_mangle)]
 pub extern "C" fn bj_request(
     alloc: Global,
@@ -73,7 +73,7 @@ pub extern "C" fn bj_request(
 }
 
 impl Held {
-    /// Responds, at a server.
+    /// Sends a response, at a server.
     fn respond_with(&mut self, alloc: Global, stream: u32, head: &[BjField<'_>], body: &[u8]) -> i32
         ensures { AtServer result (Copies result (Answers reply_number
             (RespondsWith stream (message_given head.now body.now)) result)) self.old self.new }
@@ -84,7 +84,7 @@ impl Held {
         self.respond_copied(alloc, stream, head, body)
     }
 
-    /// Responds with copies.
+    /// Sends a response with copies of what C gives.
     fn respond_copied(
         &mut self,
         alloc: Global,
@@ -102,7 +102,7 @@ impl Held {
     }
 
     // rule: c (own) A call of the other role is refused, and nothing has changed
-    /// Responds.
+    /// Sends a response.
     fn respond(&mut self, stream: u32, message: Message) -> i32
         ensures { AtServer result (Answers reply_number
             (RespondsWith stream (message_value message)) result) self.old self.new }
@@ -113,7 +113,7 @@ impl Held {
         }
     }
 
-    /// Requests, at a client, and says the stream.
+    /// Sends a request, at a client, and stores its stream.
     fn request_with(
         &mut self,
         alloc: Global,
@@ -132,7 +132,7 @@ impl Held {
         self.request_copied(alloc, head, body, stream)
     }
 
-    /// Requests with copies, and says the stream.
+    /// Sends a request with copies of what C gives, and stores its stream.
     fn request_copied(
         &mut self,
         alloc: Global,
@@ -152,7 +152,7 @@ impl Held {
     }
 
     // rule: c (own) A call of the other role is refused, and nothing has changed
-    /// Requests, and says the stream.
+    /// Sends a request, and stores its stream.
     fn request(&mut self, message: Message, stream: &mut u32) -> i32
         ensures call { AtClient result (AnswersWith reply_number (stream_or stream.old)
             (RequestsWith (message_value message)) result stream.new) self.old self.new }
@@ -172,7 +172,8 @@ impl Held {
 }
 
 // contract: c (own) A call of C's is that of the end in its place
-/// Sends what waits of messages, as far as windows go, and says how many octets of bodies it was.
+/// Sends what waits of messages, as far as windows allow, and stores how many octets of bodies
+/// were sent.
 #[unsafe(no_mangle)]
 pub extern "C" fn bj_pump(alloc: Global, end: &mut BjEnd, sent: &mut usize) -> i32
     ensures call { OnPlace result (AnswersWith end_answer_number count_in EndPumps result sent.new)
@@ -189,7 +190,8 @@ pub extern "C" fn bj_pump(alloc: Global, end: &mut BjEnd, sent: &mut usize) -> i
 }
 
 // contract: c (own) A call of C's is that of the end in its place
-/// Sends a share of what waits on each stream, in turn, and says how many octets of bodies it was.
+/// Sends a share of what waits on each stream, in turn, and stores how many octets of bodies
+/// were sent.
 #[unsafe(no_mangle)]
 pub extern "C" fn bj_pump_some(alloc: Global, end: &mut BjEnd, most: usize, sent: &mut usize) -> i32
     ensures call { OnPlace result (AnswersWith end_answer_number count_in (PumpsPass most) result

@@ -13,8 +13,8 @@ use h2_ends::{Client, Server};
 use std::alloc::Global;
 
 // contract: c (own) An event has what was handed out, as numbers and addresses
-/// Takes octets of a piece, up to the end of one frame or else all of them, and says what is
-/// handed out.
+/// Takes octets of a piece, up to the end of one frame or else all of them, and stores the
+/// event.
 #[unsafe(no_mangle)]
 pub extern "C" fn bj_take(alloc: Global, end: &mut BjEnd, octets: &[u8], event: &mut BjEvent) -> i32
     ensures call { OnPlace result (TakesHeld octets.now (blank (address_of octets.entry)) event.new
@@ -32,7 +32,7 @@ pub extern "C" fn bj_take(alloc: Global, end: &mut BjEnd, octets: &[u8], event: 
 }
 
 impl Held {
-    /// Takes octets, and says what is handed out.
+    /// Takes octets, and stores the event.
     fn take(&mut self, octets: &[u8], event: &mut BjEvent) -> i32
         ensures takes { TakesEvent (held_end self.old) octets.now event.old event.new result
             (held_end self.new) }
@@ -45,7 +45,7 @@ impl Held {
     }
 }
 
-/// The same of a client.
+/// Takes octets at a client, and stores the event.
 fn client_takes(client: &mut Client, octets: &[u8], event: &mut BjEvent) -> i32
     ensures { TakesEvent client.old.end octets.now event.old event.new result client.new.end }
 {
@@ -65,7 +65,7 @@ fn client_takes(client: &mut Client, octets: &[u8], event: &mut BjEvent) -> i32
     }
 }
 
-/// The same of a server.
+/// Takes octets at a server, and stores the event.
 fn server_takes(server: &mut Server, octets: &[u8], event: &mut BjEvent) -> i32
     ensures { TakesEvent server.old.end octets.now event.old event.new result server.new.end }
 {

@@ -9,7 +9,7 @@ ghost use Rattle.belkjoef.specs.Texts.{why_text, low_why_texts, high_why_texts, 
 
 use crate::place::address;
 
-/// The version, 0.1.0, as 0x00MMmmpp.
+/// Returns the version, 0.1.0, as 0x00MMmmpp.
 #[unsafe(no_mangle)]
 pub extern "C" fn bj_version() -> u32
     ensures { result ≡ 0x100 }
@@ -19,7 +19,7 @@ pub extern "C" fn bj_version() -> u32
 
 // contract: c (own) Each number of an error or a reason has its text
 // rule: c (own) Each number of an error or a reason has its text
-/// Says the text of an error, which ends in an octet of 0.
+/// Stores the text of an error, which ends with a zero octet.
 #[unsafe(no_mangle)]
 pub extern "C" fn bj_error_text(error: i32, text: &mut *const u8)
     ensures { LendsText (error_text error) text.new }
@@ -29,7 +29,7 @@ pub extern "C" fn bj_error_text(error: i32, text: &mut *const u8)
 
 // contract: c (own) Each number of an error or a reason has its text
 // rule: c (own) Each number of an error or a reason has its text
-/// Says the text of a reason, by its number, which ends in an octet of 0.
+/// Stores the text of the reason with a number; the text ends with a zero octet.
 #[unsafe(no_mangle)]
 pub extern "C" fn bj_why_text(why: u32, text: &mut *const u8)
     ensures { LendsText (why_text why) text.new }
@@ -37,7 +37,7 @@ pub extern "C" fn bj_why_text(why: u32, text: &mut *const u8)
     *text = address(text_of_why(why));
 }
 
-/// The text of an error.
+/// Returns the text of an error.
 fn text_of(error: i32) -> &'static [u8]
     ensures { result.now ≡ error_text error }
 {
@@ -47,7 +47,7 @@ fn text_of(error: i32) -> &'static [u8]
     text_of_number(error.unsigned_abs())
 }
 
-/// The text of the error that is minus this number.
+/// Returns the text of the error whose number is minus this one.
 fn text_of_number(number: u32) -> &'static [u8]
     ensures { result.now ≡ number_text number }
 {
@@ -64,7 +64,7 @@ fn text_of_number(number: u32) -> &'static [u8]
     }
 }
 
-/// The text of an error of a place.
+/// Returns the text of an error of a place.
 #[tactic(auto, unfolding(crate::specs::Texts::text_in))]
 fn text_of_place(number: u32) -> &'static [u8]
     ensures { result.now ≡ text_in place_texts no_error_text number }
@@ -82,7 +82,7 @@ fn text_of_place(number: u32) -> &'static [u8]
     }
 }
 
-/// The text of an error of a configuration.
+/// Returns the text of an error of a configuration.
 #[tactic(auto, unfolding(crate::specs::Texts::text_in))]
 fn text_of_config(number: u32) -> &'static [u8]
     ensures { result.now ≡ text_in config_texts no_error_text number }
@@ -96,7 +96,7 @@ fn text_of_config(number: u32) -> &'static [u8]
     }
 }
 
-/// The text of a refusal of the connection.
+/// Returns the text of a refusal of the connection.
 #[tactic(auto, unfolding(crate::specs::Texts::text_in))]
 fn text_of_refusal(number: u32) -> &'static [u8]
     ensures { result.now ≡ text_in refusal_texts no_error_text number }
@@ -119,7 +119,7 @@ fn text_of_refusal(number: u32) -> &'static [u8]
     }
 }
 
-/// The text of an error of a message.
+/// Returns the text of an error of a message.
 #[tactic(auto, unfolding(crate::specs::Texts::text_in))]
 fn text_of_message(number: u32) -> &'static [u8]
     ensures { result.now ≡ text_in message_texts no_error_text number }
@@ -143,7 +143,7 @@ fn text_of_message(number: u32) -> &'static [u8]
     }
 }
 
-/// The text of a fault of a field block.
+/// Returns the text of a fault of a field block.
 #[tactic(auto, unfolding(crate::specs::Texts::text_in))]
 fn text_of_block(number: u32) -> &'static [u8]
     ensures { result.now ≡ text_in block_texts no_error_text number }
@@ -155,7 +155,7 @@ fn text_of_block(number: u32) -> &'static [u8]
     }
 }
 
-/// The text of a reason.
+/// Returns the text of a reason.
 fn text_of_why(why: u32) -> &'static [u8]
     ensures { result.now ≡ why_text why }
 {
@@ -166,7 +166,7 @@ fn text_of_why(why: u32) -> &'static [u8]
     }
 }
 
-/// The text of one of the first 14 reasons.
+/// Returns the text of one of the first 14 reasons.
 #[tactic(auto, unfolding(crate::specs::Texts::text_in))]
 fn text_of_low_why(number: u32) -> &'static [u8]
     ensures { result.now ≡ text_in low_why_texts no_why_text number }
@@ -190,7 +190,7 @@ fn text_of_low_why(number: u32) -> &'static [u8]
     }
 }
 
-/// The text of one of the others.
+/// Returns the text of one of the others.
 #[tactic(auto, unfolding(crate::specs::Texts::text_in))]
 fn text_of_high_why(number: u32) -> &'static [u8]
     ensures { result.now ≡ text_in high_why_texts no_why_text number }

@@ -1,4 +1,4 @@
-//! Numbers that C keeps beside streams.
+//! The numbers that C keeps for streams.
 
 ghost use Rattle.std.specs.Prelude.{◌≡◌, [], None, Some, OnOk, OnErr};
 ghost use Rattle.h2_numbers.specs.Entries.{SetsValue, value_at};
@@ -13,12 +13,12 @@ use h2_numbers::NumberMap;
 use std::alloc::{AllocError, Global};
 use std::marker::Model;
 
-/// The numbers of C's, by stream.
+/// The numbers that C keeps, by stream.
 #[derive(Drop)]
 pub(crate) struct Users {
     /// The numbers.
     kept: NumberMap<usize>,
-    /// Whether there may be any. Where there is none, none is looked for.
+    /// Whether there may be any. If not, no look-up is made.
     any: bool,
 }
 
@@ -38,7 +38,7 @@ impl Model for Users {
 }
 
 impl Users {
-    /// No number beside any stream. It takes no memory.
+    /// Returns an empty table. It takes no memory.
     pub(crate) fn new(alloc: Global) -> Users
         ensures { result.entries ≡ [] }
     {
@@ -48,7 +48,7 @@ impl Users {
         }
     }
 
-    /// The number beside a stream; 0 where there is none. It takes no memory.
+    /// Returns the number kept for a stream; 0 if none. It takes no memory.
     pub(crate) fn of(&self, id: u32) -> usize
         ensures { result ≡ user_at self.now.entries id }
     {
@@ -62,7 +62,7 @@ impl Users {
     }
 
     // rule: c (own) A number of C's stays beside its stream until it is forgotten
-    /// Keeps a number beside a stream. Only for a stream that has none it takes memory.
+    /// Keeps a number for a stream. It takes memory only if the stream has none.
     fn set(&mut self, id: u32, user: usize) -> Result<(), AllocError>
         ensures updates { OnOk result (SetsValue id (Some user) self.old.entries
             self.new.entries) }
@@ -77,7 +77,7 @@ impl Users {
         self.kept.insert(id, user)
     }
 
-    /// Forgets the number beside a stream. It takes no memory.
+    /// Forgets the number of a stream. It takes no memory.
     fn forget(&mut self, id: u32)
         ensures { SetsValue id None self.old.entries self.new.entries }
     {
@@ -87,7 +87,7 @@ impl Users {
 
 // contract: c (own) A number of C's stays beside its stream until it is forgotten
 // rule: c (own) A number of C's stays beside its stream until it is forgotten
-/// Keeps a number of C's beside a stream; 0 forgets it.
+/// Keeps a number for a stream; 0 forgets it.
 #[unsafe(no_mangle)]
 pub extern "C" fn bj_set_user(alloc: Global, end: &mut BjEnd, stream: u32, user: usize) -> i32
     ensures { OnPlace result (SetsUser stream user result) end.old.held end.new.held }
@@ -101,7 +101,7 @@ pub extern "C" fn bj_set_user(alloc: Global, end: &mut BjEnd, stream: u32, user:
 }
 
 impl Held {
-    /// Keeps a number beside a stream.
+    /// Keeps a number for a stream; 0 forgets it.
     fn set_user(&mut self, stream: u32, user: usize) -> i32
         ensures { SetsUser stream user result self.old self.new }
     {
@@ -118,7 +118,7 @@ impl Held {
 
 // contract: c (own) A number of C's stays beside its stream until it is forgotten
 // rule: c (own) A number of C's stays beside its stream until it is forgotten
-/// Says the number of C's beside a stream; 0 where there is none.
+/// Stores the number that C keeps for a stream; 0 if none.
 #[unsafe(no_mangle)]
 pub extern "C" fn bj_user(alloc: Global, end: &mut BjEnd, stream: u32, user: &mut usize) -> i32
     ensures call { OnPlace result (SaysUser stream result user.new) end.old.held end.new.held }

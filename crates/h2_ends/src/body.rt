@@ -18,12 +18,12 @@ pub(crate) struct Body {
     kept: Kept,
 }
 
-/// How they are kept.
+/// How the octets are kept.
 #[derive(Debug, Drop)]
 pub(crate) enum Kept {
-    /// Few of them, which are copied as they are sent.
+    /// Fewer than 4,096 octets: copied into the output when sent.
     Own(Vec<u8>),
-    /// Many, which are lent to the output.
+    /// 4,096 octets or more: lent to the output.
     Shared(Bytes<Global>),
 }
 
@@ -35,12 +35,12 @@ impl Model for Body {
     ghost view = { λ body. record { items = octets_kept_in body.kept } };
 }
 
-/// So many octets are lent at least.
+/// The least length of a body that is lent to the output, in octets.
 const LEAST_SHARED: usize = 4_096;
 
 impl Body {
     // rule: 8.1 What was sent on a stream is a prefix of its message
-    /// The body with these octets. None is copied.
+    /// Makes the body of these octets, without a copy.
     pub(crate) fn new(octets: Vec<u8>) -> Body
         ensures { result ≡ record { items = octets.items } }
     {
@@ -59,7 +59,7 @@ impl Body {
         }
     }
 
-    /// How many octets it has.
+    /// Returns the length in octets.
     pub(crate) fn len(&self) -> usize
         ensures { result ≡ length self.now.items }
     {
@@ -70,7 +70,7 @@ impl Body {
     }
 
     // rule: 8.1 What was sent on a stream is a prefix of its message
-    /// Sends `count` octets from a place on, as [`Conn::data`] does.
+    /// Sends `count` octets from `from` on, as [`Conn::data`] does.
     pub(crate) fn send(
         &self,
         conn: &mut Conn,

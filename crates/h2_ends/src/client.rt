@@ -31,7 +31,7 @@ use h2_spec_log::Role;
 use std::alloc::Global;
 use std::fmt;
 
-/// A client: it gives requests, and takes their responses. It does no input or output.
+/// A client: sends requests and receives their responses, without input or output.
 #[derive(Drop)]
 pub struct Client {
     pub(crate) end: End,
@@ -39,11 +39,13 @@ pub struct Client {
 
 impl Client {
     // contract: 8.1 (own) A new client or server is that end of a connection
-    /// A new client, whose opening waits (RFC 9113, section 3.4).
+    /// Returns a client whose opening is queued: the preface and SETTINGS (RFC 9113, section
+    /// 3.4).
     ///
     /// # Errors
     ///
-    /// [`EndRefusal::Conn`] (E2) with [`Refusal::Memory`] (C12) where an allocation was refused.
+    /// [`EndRefusal::Conn`] (E2) with [`Refusal::Memory`] (C12) where an allocation was
+    /// refused.
     pub fn new(alloc: Global, config: Config) -> Result<Client, EndRefusal>
         ensures ok { IfOk result (λ client. EndRepresents (values_of config) client.end
             (new_end_log roles.Client (values_of config))) }
@@ -53,7 +55,7 @@ impl Client {
         Ok(Client { end })
     }
 
-    /// The connection, for what it answers of itself.
+    /// Returns the connection, whose readers tell its state.
     pub fn conn(&self) -> &Conn
         ensures { result.now ≡ self.now.end.conn }
     {
@@ -63,15 +65,18 @@ impl Client {
     // contract: 8.1 (own) A request is refused for a rule, or as its head is, or sent
     // contract: 8.1 (own) A request that is refused is handed back, and nothing has changed
     /// Sends the head of a request on a new stream, and keeps its body and trailers for
-    /// [`Client::pump`]. Answers the stream's number: 1, 3, 5 and so on.
+    /// [`Client::pump`]. Returns the stream's number: 1, 3, 5 and so on.
     ///
     /// # Errors
     ///
-    /// The message is handed back with [`EndRefusal::BadMessage`] (E1) where it breaks a rule,
-    /// else with [`EndRefusal::Conn`] (E2) and the first of [`Refusal::Closed`] (C1),
-    /// [`Refusal::TooManyStreams`] (C4), [`Refusal::StreamsExhausted`] (C5),
-    /// [`Refusal::GoingAway`] (C6), [`Refusal::OutputFull`] (C7), [`Refusal::ListTooLarge`] (C10,
-    /// of the trailers too) and [`Refusal::Memory`] (C12). Nothing has changed.
+    /// The message is handed back, and nothing has changed. E1 is checked first.
+    ///
+    /// - [`EndRefusal::BadMessage`] (E1) with the first of M1 to M8, M10 and M11 that it
+    ///   breaks.
+    /// - [`EndRefusal::Conn`] (E2) with the first of [`Refusal::Closed`] (C1),
+    ///   [`Refusal::TooManyStreams`] (C4), [`Refusal::StreamsExhausted`] (C5),
+    ///   [`Refusal::GoingAway`] (C6), [`Refusal::OutputFull`] (C7), [`Refusal::ListTooLarge`]
+    ///   (C10, for the trailers too) and [`Refusal::Memory`] (C12).
     pub fn request(&mut self, message: Message) -> Result<u32, (Message, EndRefusal)>
         ensures { EndRequests self.old.end (message_value message) result self.new.end }
     {
@@ -79,20 +84,22 @@ impl Client {
     }
 
     // contract: 8.1 (own) A part of a message is sent where one was begun, and is checked
-    /// Begins a request on a new stream, whose number it answers: sends its head, without
-    /// END_STREAM, after which [`Client::send_body`] sends the body as it comes, and its end, or
-    /// [`Client::send_trailers`] the end. A request without body and trailers is better given
-    /// whole, by [`Client::request`]. One that is begun and cannot be ended is given up by
-    /// [`Client::reset`].
+    /// Begins a request on a new stream: sends its head without END_STREAM, and returns the
+    /// stream's number. [`Client::send_body`] sends the body and may end the request;
+    /// [`Client::send_trailers`] ends it with trailers; [`Client::reset`] gives it up. Use
+    /// [`Client::request`] for a request without body and trailers.
     ///
     /// # Errors
     ///
-    /// [`EndRefusal::BadMessage`] (E1) with the first of M1 to M8 and M10 that the head breaks, or
-    /// M11 for a `content-length` that is no number or that differs from another one, else
-    /// [`EndRefusal::Conn`] (E2) and the first of [`Refusal::Closed`] (C1),
-    /// [`Refusal::TooManyStreams`] (C4), [`Refusal::StreamsExhausted`] (C5),
-    /// [`Refusal::GoingAway`] (C6), [`Refusal::OutputFull`] (C7), [`Refusal::ListTooLarge`] (C10)
-    /// and [`Refusal::Memory`] (C12). Nothing has changed.
+    /// Nothing has changed. E1 is checked first.
+    ///
+    /// - [`EndRefusal::BadMessage`] (E1) with the first of M1 to M8 and M10 that the head
+    ///   breaks, else with M11 for a `content-length` that is no number of 1 to 19 digits or
+    ///   that differs from another one.
+    /// - [`EndRefusal::Conn`] (E2) with the first of [`Refusal::Closed`] (C1),
+    ///   [`Refusal::TooManyStreams`] (C4), [`Refusal::StreamsExhausted`] (C5),
+    ///   [`Refusal::GoingAway`] (C6), [`Refusal::OutputFull`] (C7), [`Refusal::ListTooLarge`]
+    ///   (C10) and [`Refusal::Memory`] (C12).
     pub fn begin(&mut self, head: &[Field]) -> Result<u32, EndRefusal>
         ensures { EndBegins self.old.end head.now result self.new.end }
     {
@@ -100,20 +107,22 @@ impl Client {
     }
 
     // contract: 8.1 (own) A part of a message is sent where one was begun, and is checked
-    /// Sends octets of the body of the message that was begun on a stream, and its end
-    /// (END_STREAM) with them where `end` is set and all of them are sent. Answers how many were:
-    /// as many as both windows let through, at most 65,536 a call (see [`Conn::data`]), which may
-    /// be none. No octet is kept here: give the rest again, once the output was written and, where
-    /// [`Conn::room`] of the stream or of the connection (0) is not above 0, [`Client::take`] has
-    /// brought more.
+    /// Sends octets of the body of a message that was begun, and returns how many: as many as
+    /// both windows allow, at most 65,536 a call (see [`Conn::data`]), perhaps none. With
+    /// `end`, END_STREAM goes with the last of them once all are sent. None is kept: give the
+    /// unsent octets again, once output was written and, where [`Conn::room`] of the stream or
+    /// of the connection (0) is 0 or less, once [`Client::take`] has received credit.
     ///
     /// # Errors
     ///
-    /// [`EndRefusal::NotAsked`] (E3) where the stream isn't active, no message was begun on it, or
-    /// its end was given; else [`EndRefusal::BadMessage`] (E1) with [`Malformed::BadLength`] (M11)
-    /// where the body, with all of these octets, would be longer than its head says, or, with its
-    /// end, shorter; else [`EndRefusal::Conn`] (E2) and the first of [`Refusal::Closed`] (C1),
-    /// [`Refusal::OutputFull`] (C7) and [`Refusal::Memory`] (C12). Nothing has changed.
+    /// Nothing has changed. E3 is checked first, then E1.
+    ///
+    /// - [`EndRefusal::BadMessage`] (E1) with [`Malformed::BadLength`] (M11) where the body,
+    ///   with all of these octets, would be longer than its head says, or, with `end`, shorter.
+    /// - [`EndRefusal::Conn`] (E2) with the first of [`Refusal::Closed`] (C1),
+    ///   [`Refusal::OutputFull`] (C7) and [`Refusal::Memory`] (C12).
+    /// - [`EndRefusal::NotAsked`] (E3) where the stream isn't active, no message was begun on
+    ///   it, or its end was given.
     pub fn send_body(&mut self, id: u32, octets: &[u8], end: bool) -> Result<usize, EndRefusal>
         ensures { EndSendsBody self.old.end id octets.now end result self.new.end }
     {
@@ -125,11 +134,14 @@ impl Client {
     ///
     /// # Errors
     ///
-    /// [`EndRefusal::NotAsked`] (E3) as [`Client::send_body`]; else [`EndRefusal::BadMessage`]
-    /// (E1) with the first of M1, M2, M3 and M10 that the trailers break, or M11 where the body is
-    /// shorter than its head says; else [`EndRefusal::Conn`] (E2) and the first of
-    /// [`Refusal::Closed`] (C1), [`Refusal::OutputFull`] (C7), [`Refusal::ListTooLarge`] (C10) and
-    /// [`Refusal::Memory`] (C12). Nothing has changed.
+    /// Nothing has changed. E3 is checked first, then E1.
+    ///
+    /// - [`EndRefusal::BadMessage`] (E1) with the first of M1, M2, M3 and M10 that the trailers
+    ///   break, else with M11 where the body is shorter than its head says.
+    /// - [`EndRefusal::Conn`] (E2) with the first of [`Refusal::Closed`] (C1),
+    ///   [`Refusal::OutputFull`] (C7), [`Refusal::ListTooLarge`] (C10) and [`Refusal::Memory`]
+    ///   (C12).
+    /// - [`EndRefusal::NotAsked`] (E3) as for [`Client::send_body`].
     pub fn send_trailers(&mut self, id: u32, trailers: &[Field]) -> Result<(), EndRefusal>
         ensures { EndSendsTrailers self.old.end id trailers.now result self.new.end }
     {
@@ -138,15 +150,15 @@ impl Client {
 
     // contract: 8.1 What was sent on a stream is a prefix of its message
     // contract: 8.1 (own) pump sends the lower streams first, and all that can go
-    /// Sends what waits of bodies and trailers, streams in rising order, each as far as its
-    /// windows go, until nothing more could go or 65,536 octets or more of output wait; answers
-    /// how many octets of bodies were sent. A body is sent from where it lies. A long one on a low
-    /// stream goes before those on higher ones.
+    /// Sends waiting bodies and trailers, streams in rising order, each as far as its windows
+    /// allow, until nothing more can go or 65,536 octets or more of output wait. Returns how
+    /// many octets of bodies were sent. A long body on a low stream goes before those on higher
+    /// ones; [`Client::pump_some`] takes turns.
     ///
     /// # Errors
     ///
-    /// [`EndRefusal::Conn`] (E2) with [`Refusal::Closed`] (C1), and with [`Refusal::Memory`]
-    /// (C12): what was sent stays sent, and the rest waits.
+    /// [`EndRefusal::Conn`] (E2) with [`Refusal::Closed`] (C1) or [`Refusal::Memory`] (C12):
+    /// what was sent stays sent, and the rest waits.
     pub fn pump(&mut self) -> Result<usize, EndRefusal>
         ensures { EndPumps self.old.end result self.new.end }
     {
@@ -154,25 +166,30 @@ impl Client {
     }
 
     // contract: 8.1 (own) pump_some gives each stream a share, in turn
-    /// Sends a share of what waits on each stream, in turn; answers how many octets of bodies were
-    /// sent. It makes one pass over the streams on which something waits, in rising order, from
-    /// the one with which it begins to the highest, and then from the lowest. Each gets the least
-    /// of `most` octets (0 counts as 1, and more than 65,536 as 65,536), what its window and the
-    /// connection's let through, and what is left of its body, whose trailers and end go with its
-    /// last octet, unless the output is full then. Where a share is cut short, since 65,536 octets
-    /// wait or the connection's window is used up, the pass ends there, and what waits on later
-    /// streams stays for the next one, which begins with that stream and with what is left of its
-    /// share; otherwise it begins where this one did. So no long body keeps the others waiting:
-    /// between two shares of one stream, of which one that was cut short and its rest are one,
-    /// each other stream on which something waited gets one. With [`Client::pump`] lower streams
-    /// go first; it also sends trailers that come behind a body for which the connection's window
-    /// leaves no room.
+    /// Sends a share of what waits on each stream, in turn, and returns how many octets of
+    /// bodies were sent.
+    ///
+    /// A call makes one pass over the streams on which something waits: in rising order from
+    /// the stream with which the pass begins, then from the lowest. A share is at most `most`
+    /// octets of the body (0 counts as 1, and more than 65,536 as 65,536), and no more than the
+    /// windows of the stream and of the connection allow. Trailers and END_STREAM go with the
+    /// last octet, unless the output is full then.
+    ///
+    /// The pass ends early where a share is cut short, because 65,536 octets of output wait or
+    /// the connection's window is used up. The next pass then begins with that stream and the
+    /// rest of its share; otherwise it begins with the same stream as this one. So no long body
+    /// keeps the others waiting: between two shares of one stream each other stream on which
+    /// something waits gets one, where a share that was cut short and its rest count as one.
+    ///
+    /// [`Client::pump`] sends lower streams first instead. It also goes on where the
+    /// connection's window is used up, and sends trailers of later streams, which this call
+    /// leaves to a later pass.
     ///
     /// # Errors
     ///
-    /// [`EndRefusal::Conn`] (E2) with [`Refusal::Closed`] (C1), and with [`Refusal::Memory`]
-    /// (C12): what was sent stays sent, the rest waits, and the next pass begins with the stream
-    /// at which memory was refused, and with what is left of its share.
+    /// [`EndRefusal::Conn`] (E2) with [`Refusal::Closed`] (C1) or [`Refusal::Memory`] (C12):
+    /// what was sent stays sent, and the rest waits. After C12 the next pass begins with the
+    /// stream at which memory was refused, and the rest of its share.
     pub fn pump_some(&mut self, most: usize) -> Result<usize, EndRefusal>
         ensures { EndPumpsSome self.old.end most result self.new.end }
     {
@@ -180,9 +197,9 @@ impl Client {
     }
 
     // contract: 8.1 What was sent on a stream is a prefix of its message
-    /// How many octets of the body that was given for a stream wait for [`Client::pump`] or
-    /// [`Client::pump_some`]; 0 where the stream isn't active, and of a message in parts, of
-    /// which none waits. Trailers are not counted: where they alone wait it is 0 too.
+    /// Returns how many octets of the body that was given for a stream wait for
+    /// [`Client::pump`] or [`Client::pump_some`]. 0 where the stream isn't active, where
+    /// trailers alone wait, and for a message that was begun, of which nothing waits.
     pub fn unsent(&self, id: u32) -> usize
         ensures { (values : Values) (end : EndLog) → EndRepresents values self.now.end end
             → result ≡ unsent_on end id }
@@ -191,10 +208,10 @@ impl Client {
     }
 
     // contract: 8.1.1 (own) A part that is refused breaks a rule, the least of which is named
-    /// Why [`Client::take`] has refused a part of a response last: the stream, and the least rule
-    /// ([`Malformed`], M1 to M12) that the part breaks after what came before it. It is none until
-    /// a part is refused, and stays after the connection has failed. A list that is too large, and
-    /// a fault of a frame, are no such refusals.
+    /// Returns why [`Client::take`] refused a part of a response last: the stream, and the
+    /// first rule of [`Malformed`] (M1 to M12) that the part breaks after the parts that came
+    /// before. `None` until a part is refused; kept after the connection has failed. A field
+    /// list above the limit and a fault of a frame refuse no part.
     pub fn last_malformed(&self) -> Option<(u32, Malformed)>
         ensures { (values : Values) (end : EndLog) → EndRepresents values self.now.end end
             → result ≡ end.malformed }
@@ -203,9 +220,9 @@ impl Client {
     }
 
     // contract: 6.1 The complete payload of DATA, padding included, counts for windows
-    /// How many octets the payload of the last DATA frame had, padding included: after
-    /// [`EndEvent::Body`](crate::EndEvent::Body) what is released of its stream once they are used
-    /// ([`Client::release`]), where it is not 0 and the stream is active still. See
+    /// Returns the payload length of the last DATA frame, padding included. After
+    /// [`EndEvent::Body`](crate::EndEvent::Body) it is the count to give to [`Client::release`]
+    /// once the octets are used, if it isn't 0 and the stream is still active. See
     /// [`Conn::last_flow`].
     pub fn last_flow(&self) -> u32
         ensures { (values : Values) (log : Log) → ConnRepresents values self.now.end.conn log
@@ -215,12 +232,13 @@ impl Client {
     }
 
     // contract: 6.9 (own) release_all releases what is owed on each active stream
-    /// Gives all that is owed back to the server (section 6.9), streams in rising order.
+    /// Returns all credit that is owed to the server (RFC 9113, section 6.9), streams in rising
+    /// order.
     ///
     /// # Errors
     ///
     /// [`EndRefusal::Conn`] (E2) with [`Refusal::Closed`] (C1), [`Refusal::OutputFull`] (C7) or
-    /// [`Refusal::Memory`] (C12); what was released stays released, and the rest is owed.
+    /// [`Refusal::Memory`] (C12): what was released stays released, and the rest is owed.
     pub fn release_all(&mut self) -> Result<(), EndRefusal>
         ensures { EndReleases self.old.end result self.new.end }
     {
@@ -228,14 +246,16 @@ impl Client {
     }
 
     // contract: 8.1 (own) The other calls of a client and a server are the connection's
-    /// Releases so many octets of bodies that were handed out on one stream, so that the peer may
-    /// send as many more: see [`Conn::release`]. A caller that uses bodies slowly releases here
-    /// what was used, stream by stream, where [`Client::release_all`] releases everything;
-    /// [`Conn::owed`] says how much of a stream is not released.
+    /// Releases `count` octets of bodies that were handed out on a stream, so that the peer may
+    /// send as many more: see [`Conn::release`]. For a caller that uses bodies slowly;
+    /// [`Client::release_all`] releases everything. [`Conn::owed`] returns how much of a stream
+    /// is not released.
     ///
     /// # Errors
     ///
-    /// Those of [`Conn::release`], in its order. Nothing has changed.
+    /// [`Refusal::Closed`] (C1), [`Refusal::NoSuchStream`] (C2), [`Refusal::OutputFull`] (C7),
+    /// [`Refusal::NotOwed`] (C11) and [`Refusal::Memory`] (C12), in this order. Nothing has
+    /// changed.
     pub fn release(&mut self, id: u32, count: u32) -> Result<(), Refusal>
         ensures { EndAnswers self.old.end (Release id count) (answer_by (λ done. Done) result)
             self.new.end }
@@ -245,14 +265,14 @@ impl Client {
 
     // contract: 8.1 (own) Something is kept of each active stream, and of no other
     // contract: 8.1 (own) The other calls of a client and a server are the connection's
-    /// Resets a stream with a code, forgets what waits on it, and gives up a message that was
+    /// Resets a stream with a code, drops what waits on it, and gives up a message that was
     /// begun there: see [`Conn::reset`].
     ///
     /// # Errors
     ///
     /// [`Refusal::Closed`] (C1), [`Refusal::NoSuchStream`] (C2), [`Refusal::OutputFull`] (C7),
-    /// [`Refusal::TooManyResets`] (C9) and [`Refusal::Memory`] (C12), in this order. Nothing has
-    /// changed.
+    /// [`Refusal::TooManyResets`] (C9) and [`Refusal::Memory`] (C12), in this order. Nothing
+    /// has changed.
     pub fn reset(&mut self, id: u32, code: u32) -> Result<(), Refusal>
         ensures { EndAnswers self.old.end (ResetStream id code) (answer_by (λ done. Done) result)
             self.new.end }
@@ -286,7 +306,7 @@ impl Client {
         self.end.go_away()
     }
 
-    /// Ends the connection with a code of the caller's: see [`Conn::fail`].
+    /// Fails the connection with a code that the caller chooses: see [`Conn::fail`].
     ///
     /// # Errors
     ///
@@ -312,9 +332,9 @@ impl Client {
     }
 
     // contract: calls (own) An end answers of its state, and of little once it has failed
-    /// Whether the output is full: each call that writes a frame but `fail` is refused
-    /// ([`Refusal::OutputFull`], C7), and `pump` and `pump_some` send nothing, until less than
-    /// 65,536 octets wait.
+    /// Returns whether 65,536 octets or more of output wait. Then each call that writes a
+    /// frame, except `fail`, is refused with [`Refusal::OutputFull`] (C7), and `pump` and
+    /// `pump_some` send nothing.
     pub fn is_full(&self) -> bool
         ensures { (values : Values) (log : Log) → ConnRepresents values self.now.end.conn log
             → (result ≡ true) ↔ (full_output ≤ waiting log) }
@@ -323,10 +343,10 @@ impl Client {
     }
 
     // contract: calls (own) An end answers of its state, and of little once it has failed
-    /// Whether no output waits, and no stream is active or the connection has failed. After GOAWAY
-    /// or a failure the writing side can be ended then (RFC 9113, section 6.8); what still comes
-    /// is to be read and dropped before the transport is closed. It looks for an active stream as
-    /// [`Conn::next_live`] does.
+    /// Returns whether no output waits and either no stream is active or the connection has
+    /// failed. Once true after GOAWAY or a failure, the writing side can be closed (RFC 9113,
+    /// section 6.8); read and drop what still comes before the transport is closed. It costs a
+    /// call of [`Conn::next_live`].
     pub fn is_drained(&self) -> bool
         ensures { (values : Values) (log : Log) → ConnRepresents values self.now.end.conn log
             → (result ≡ true) ↔ ((waiting log ≡ 0) × (reader_next_live log 0 ≡ None)) }
@@ -335,10 +355,10 @@ impl Client {
     }
 
     // contract: 8.1 (own) An end is quiet where nothing waits, is owed or could be sent
-    /// Whether the connection is up, no output waits, nothing is owed or to be returned to the
-    /// connection's window, and of what waits of messages nothing could be sent. A part of a frame
-    /// may be held, and an event that needs no octets still be handed out. It looks at the streams
-    /// where something waits or is owed.
+    /// Returns whether the connection is up and has nothing to do: no output waits, no credit
+    /// is owed or still to be returned, and nothing that waits of messages could be sent. An
+    /// incomplete frame may be held, and `take` may still return an event that needs no octets.
+    /// It visits the streams where something waits or is owed.
     pub fn is_quiet(&self) -> bool
         ensures { (values : Values) (end : EndLog) → EndRepresents values self.now.end end
             → (result ≡ true) ↔ IsQuietEnd end }
@@ -346,12 +366,12 @@ impl Client {
         self.end.is_quiet()
     }
 
-    /// Appends as many octets of the output as wait, and at most `count`, to `out`, and takes them
-    /// away: see [`Conn::put_out`].
+    /// Appends at most `count` octets of the output to `out`, removes them from the queue, and
+    /// returns their number: see [`Conn::put_out`].
     ///
     /// # Errors
     ///
-    /// [`Refusal::Memory`] (C12), as of [`Conn::put_out`]. Nothing has changed.
+    /// [`Refusal::Memory`] (C12), as for [`Conn::put_out`]. Nothing has changed.
     pub fn put_out(&mut self, count: usize, out: &mut Vec<u8>) -> Result<usize, Refusal>
         ensures answers { EndAnswers self.old.end (PutOut count)
             (answer_by (λ given. Count given) result) self.new.end }
@@ -359,7 +379,7 @@ impl Client {
             out.new.items) }
         ensures err { OnErr result (out.new.items ≡ out.old.items) }
 
-        // Where nothing is returned first, the capacity of `out` is enough.
+        // Where no credit is returned first, the capacity of `out` is enough.
         ensures room { (values : Values) (log : Log) → ConnRepresents values self.old.end.conn log
             → returns_before_put_out (log_view log) ≡ false
             → vec_len out.old + min count (waiting log) ≤ vec_capacity out.old → IsOk result }
@@ -368,8 +388,9 @@ impl Client {
     }
 
     // contract: calls (own) An end lends its output, and says the place of a fault
-    /// Lends the output that waits from a place on, as much as lies there in one piece: see
-    /// [`Conn::waiting_from`]. After [`Client::ready`] it is all that can be written now.
+    /// Lends the queued output from a place on, as much as lies there in one piece: see
+    /// [`Conn::waiting_from`]. After [`Client::ready`] the queue holds all that can be written
+    /// now.
     pub fn waiting_from(&self, at: usize) -> &[u8]
         ensures { LendsFrom self.now.end.conn at result.now }
     {
@@ -377,16 +398,16 @@ impl Client {
     }
 
     // contract: 8.1 (own) The other calls of a client and a server are the connection's
-    /// Makes the output ready to be written from where it lies: see [`Conn::ready`].
+    /// Prepares the queued output to be written from where it lies: see [`Conn::ready`].
     ///
     /// # Errors
     ///
-    /// [`Refusal::Memory`] (C12), as of [`Conn::ready`]. Nothing has changed.
+    /// [`Refusal::Memory`] (C12), as for [`Conn::ready`]. Nothing has changed.
     pub fn ready(&mut self) -> Result<(), Refusal>
         ensures answers { EndAnswers self.old.end (PutOut 0) (answer_by (λ done. Count 0) result)
             self.new.end }
 
-        // Nothing is returned first then, so consuming takes no memory.
+        // No credit is returned first then, so consuming takes no memory.
         ensures returned { OnOk result ((values : Values) (log : Log)
             → ConnRepresents values self.new.end.conn log
             → returns_before_put_out (log_view log) ≡ false) }
@@ -397,14 +418,14 @@ impl Client {
     }
 
     // contract: 8.1 (own) The other calls of a client and a server are the connection's
-    /// Takes away at most `count` octets of the output, which were written from where they lie,
-    /// and returns their number: see [`Conn::consume`]. Call [`Client::ready`] before each
-    /// [`Client::waiting_from`], and give the number of octets that were written.
+    /// Removes at most `count` octets of the queued output, which the caller has written from
+    /// where they lie, and returns their number: see [`Conn::consume`]. Call [`Client::ready`]
+    /// before each [`Client::waiting_from`], and give the number of octets that were written.
     ///
     /// # Errors
     ///
-    /// [`Refusal::Memory`] (C12), as of [`Conn::consume`]. Nothing has changed. It does not come
-    /// after [`Client::ready`], where no other call was made in between.
+    /// [`Refusal::Memory`] (C12), as for [`Conn::consume`]; never directly after
+    /// [`Client::ready`]. Nothing has changed.
     pub fn consume(&mut self, count: usize) -> Result<usize, Refusal>
         ensures answers { EndAnswers self.old.end (PutOut count)
             (answer_by (λ given. Count given) result) self.new.end }

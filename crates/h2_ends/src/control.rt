@@ -18,7 +18,7 @@ use h2_frame::Code;
 
 impl End {
     // rule: 8.1 (own) The other calls of a client and a server are the connection's
-    /// Resets a stream, and forgets what waits on it.
+    /// Resets a stream, and drops what waits on it.
     pub(crate) fn reset(&mut self, id: u32, code: u32) -> Result<(), Refusal>
         ensures { EndAnswers self.old (ResetStream id code) (answer_by (λ done. Done) result)
             self.new }
@@ -72,7 +72,7 @@ impl End {
     }
 
     // rule: 8.1 (own) The other calls of a client and a server are the connection's
-    /// Gives out output.
+    /// Gives out queued output.
     pub(crate) fn put_out(&mut self, count: usize, out: &mut Vec<u8>) -> Result<usize, Refusal>
         ensures answers { EndAnswers self.old (PutOut count)
             (answer_by (λ given. Count given) result) self.new }
@@ -87,7 +87,7 @@ impl End {
     }
 
     // rule: 8.1 (own) The other calls of a client and a server are the connection's
-    /// Returns what is unreturned, as giving out does first.
+    /// Returns unreturned credit, as `put_out` does first.
     pub(crate) fn ready(&mut self) -> Result<(), Refusal>
         ensures answers { EndAnswers self.old (PutOut 0) (answer_by (λ done. Count 0) result)
             self.new }
@@ -101,7 +101,7 @@ impl End {
     }
 
     // rule: 8.1 (own) The other calls of a client and a server are the connection's
-    /// Consumes output.
+    /// Removes queued output that was written.
     pub(crate) fn consume(&mut self, count: usize) -> Result<usize, Refusal>
         ensures answers { EndAnswers self.old (PutOut count)
             (answer_by (λ given. Count given) result) self.new }

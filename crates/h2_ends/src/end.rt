@@ -19,20 +19,20 @@ use std::alloc::Global;
 /// A connection, and what is kept of its streams.
 #[derive(Drop)]
 pub(crate) struct End {
-    /// Which of the two it is.
+    /// Client or server.
     pub(crate) role: Role,
     /// The connection.
     pub(crate) conn: Conn,
     /// The active streams, by number.
     pub(crate) streams: NumberMap<Stream>,
-    /// Where a message waits, where octets are owed, with which stream a pass begins, and which
-    /// part of a message was refused last.
+    /// The spans of streams where messages wait and where octets are owed, the stream with
+    /// which the next pass begins, and the part of a message that was refused last.
     pub(crate) spans: Spans,
 }
 
 impl End {
     // rule: 8.1 (own) A new client or server is that end of a connection
-    /// A new end, whose opening waits.
+    /// Returns an end whose opening is queued.
     pub(crate) fn new(alloc: Global, role: Role, config: Config) -> Result<End, Refusal>
         ensures ok { IfOk result (λ end. EndRepresents (values_of config) end
             (new_end_log role (values_of config))) }
@@ -55,7 +55,7 @@ impl End {
         })
     }
 
-    /// What is read on a stream of which nothing is kept.
+    /// Returns what is read on a stream of which nothing is kept yet.
     pub(crate) fn first_reads(&self) -> Reads
         ensures { result ≡ reads_of_new self.now.role }
     {
@@ -66,7 +66,7 @@ impl End {
     }
 
     // rule: 8.1 (own) Something is kept of each active stream, and of no other
-    /// Forgets a stream if it is over.
+    /// Drops what is kept of a stream that is no longer active.
     pub(crate) fn forget_if_over(&mut self, id: u32)
         ensures conn { self.new.conn ≡ self.old.conn }
         ensures waits { WaitsAsBefore self.old self.new id }

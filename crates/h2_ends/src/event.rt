@@ -5,9 +5,9 @@ ghost use Rattle.h2_ends.specs.EndEvents.{end_event_with_parts};
 
 use hpack::FieldList;
 
-/// What an end hands out of messages (RFC 9113, section 8.1), and what it passes on of its
-/// connection. `F` is how the fields of a part are held, `B` how the octets of a body are: lent,
-/// kept, or where they lie.
+/// An event of an end: a part of a message (RFC 9113, section 8.1), or an event of its
+/// connection. `F` is how the fields of a part are held, `B` how the octets of a body are:
+/// lent, kept, or by their place.
 #[derive(Clone, Copy, Debug, PartialEq, Eq)]
 pub enum EndEvent<F, B> {
     /// The head of an interim response has come (1xx; RFC 9113, section 8.1).
@@ -23,7 +23,7 @@ pub enum EndEvent<F, B> {
         id: u32,
         /// Its fields, in order.
         list: F,
-        /// Whether the message is whole.
+        /// Whether END_STREAM came with it: the message is complete.
         end: bool,
     },
     /// Octets of a body have come.
@@ -32,35 +32,38 @@ pub enum EndEvent<F, B> {
         id: u32,
         /// The octets; there may be none.
         bytes: B,
-        /// Whether the message is whole.
+        /// Whether END_STREAM came with it: the message is complete.
         end: bool,
     },
-    /// Trailers have come: the message is whole.
+    /// Trailers have come: the message is complete.
     Trailers {
         /// The stream.
         id: u32,
         /// Its fields, in order.
         list: F,
     },
-    /// A stream is over before its messages are (section 6.4). Nothing of it need have been handed
-    /// out before: its first block may have been malformed, or too large, or refused.
+    /// A stream was closed before its messages were complete (section 6.4). It may be the first
+    /// event of the stream: its first field block may have been malformed, too large, or
+    /// refused.
     Reset {
         /// The stream.
         id: u32,
         /// The error code (section 7).
         code: u32,
-        /// Whether this end has reset it: for a fault of the peer, a malformed message among them,
-        /// or since it takes no more streams. No RST_STREAM is sent where the peer has closed it.
+        /// Whether this end closed it: for a fault of the peer, such as a malformed message, or
+        /// because it takes no more streams. No RST_STREAM is sent where the peer had closed
+        /// the stream.
         ours: bool,
     },
-    /// The peer has not processed this request, and will not (section 6.8).
+    /// The peer has not processed this request and will not (section 6.8): it may be sent
+    /// again.
     Unprocessed {
         /// The stream.
         id: u32,
     },
-    /// The peer takes no streams above this one (section 6.8).
+    /// GOAWAY was received: the peer takes no streams above `last` (section 6.8).
     GoAway {
-        /// The least last stream that it has named.
+        /// The lowest last stream that the peer has named.
         last: u32,
         /// The error code (section 7).
         code: u32,
@@ -76,8 +79,8 @@ pub enum EndEvent<F, B> {
 
 impl<F, B> EndEvent<F, B> {
     // rule: 8.1 (own) What is handed out of a stream is what was reported, in order
-    /// The same event, with `list` where it has fields and with `bytes` where it has octets; else
-    /// they are dropped.
+    /// Returns the same event with `list` in place of its fields and `bytes` in place of its
+    /// octets. What the event doesn't have is dropped.
     pub fn with_parts<G, C>(self, list: G, bytes: C) -> EndEvent<G, C>
     where
         F: Drop,
@@ -100,12 +103,13 @@ impl<F, B> EndEvent<F, B> {
     }
 }
 
-/// What a call of `take` made of its piece.
+/// The result of a call of `take`.
 #[derive(Clone, Copy, Debug)]
 pub struct EndTaken<'a> {
-    /// How many octets of the piece were used: up to the end of one frame, or else all of them.
+    /// How many octets of the piece were used: up to the end of one frame, or else all.
     pub used: usize,
-    /// What is handed out. Its fields and octets are lent until the next call: the octets of a
-    /// body from the piece, or from the connection where their frame was cut in two.
+    /// The event, if any. Its fields and octets are lent until the next call: octets of a body
+    /// from the piece, or from the connection where the piece began or ended inside their
+    /// frame.
     pub event: Option<EndEvent<&'a FieldList, &'a [u8]>>,
 }

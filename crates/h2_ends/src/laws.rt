@@ -17,9 +17,9 @@ ghost use Rattle.h2_ends.specs.Turns.{ComesBefore, HasRoomFor, IsNotStopped, Get
 ghost use Rattle.h2_ends.specs.Turns.{Meanwhile, Pass, turn_after};
 
 // contract: 8.1 (own) What has come of a message that breaks no rule can be read
-/// What has come of a message that breaks no rule as it is sent, or none so far where it is given
-/// in parts, can be read, in however many DATA frames its body comes, unless one of them is empty
-/// without END_STREAM (RFC 9113, section 8.1).
+/// The parts received of a message can be read, where the message breaks no rule as it is sent
+/// (for one that is given in parts: none so far). The body may come in any number of DATA
+/// frames, if none is empty without END_STREAM (RFC 9113, section 8.1).
 pub fn sent_parts_are_readable()
     ensures { (reads : Reads) (said : Said) (parts : List (Part × Bool)) → IsSoundSaid reads said
         → AllByRecursion IsNoEmptyPart parts
@@ -28,8 +28,8 @@ pub fn sent_parts_are_readable()
 {}
 
 // contract: 8.1 (own) A part of a message is sent where one was begun, and is checked
-/// Of a message that was begun and that is open nothing waits: what was given of it was sent, or
-/// waits in the output (RFC 9113, section 8.1).
+/// Nothing waits of an open message that was begun: what was given of it was sent, or waits in
+/// the output (RFC 9113, section 8.1).
 pub fn parts_are_sent_at_once()
     ensures { (values : Values) (end : End) (happened : EndLog) (id : ℕ) (said : Said)
         (number : Option ℕ) → EndRepresents values end happened
@@ -37,11 +37,11 @@ pub fn parts_are_sent_at_once()
 {}
 
 // contract: 8.1 (own) Between two shares of a stream each other that waits gets one
-/// Between two shares of one stream each other one gets a share, if something waits on it as each
-/// of the passes begins: where it got none after the first of the two in the same pass, and none
-/// in the passes between, it gets one in the pass of the second, before that, even where that pass
-/// ends with a part of the second (RFC 9113, section 5.2.1). Whatever happens between passes. And
-/// where octets wait that have room, and the share is not refused, it sends one at least.
+/// Between two shares of one stream, in two passes, another stream on which something waits as
+/// each of the two passes begins gets a share: after the first of the two in the same pass, in
+/// a pass between them, or before the second in its pass, even where that pass ends with a part
+/// of the second (RFC 9113, section 5.2.1). This holds whatever happens between passes. A share
+/// that is not refused sends at least one octet where octets wait and the windows have room.
 pub fn shares_are_given_in_turn()
     ensures turns { (i j : ℕ) → j < numbers → (first last : Pass) → GetsShare first i
         → Waits first.end j → (GetsShare first j → ComesBefore first.end.turn.id j i)

@@ -1,4 +1,4 @@
-//! Taking octets at a client and at a server: what is handed out is lent.
+//! `take` of a client and of a server, which lends what is handed out.
 
 ghost use Rattle.std.specs.Prelude.{◌≡◌, ◌≢◌, ◌≤◌, ℕ, List, length, IfOk, IfErr, Ok};
 ghost use Rattle.std.specs.Borrow.{sem};
@@ -25,24 +25,25 @@ impl Client {
     // contract: 8.1.1 A malformed message is a stream error PROTOCOL_ERROR
     // contract: 8.1.1 (own) How the connection takes a refusal is what is answered
     // contract: 8.1 (own) What is handed out of a stream is what was reported, in order
-    /// Takes octets of the piece, up to the end of one frame or else all of them, and answers what
-    /// is handed out: at most one event. Call it again until the piece is used and nothing is
-    /// handed out. A part of a response is handed out only where the parts so far begin one that
-    /// breaks no rule (sections 8.1 to 8.3); otherwise this end resets the stream with
-    /// PROTOCOL_ERROR, unless the part has closed it, and answers that; or the connection fails,
-    /// as [`Conn::refuse`](crate::Conn::refuse) says.
+    /// Takes octets of the piece, up to the end of one frame or else all of them, and returns
+    /// at most one event. Call it again until the piece is used and no event is returned.
+    ///
+    /// A part of a response is handed out only as long as the parts so far can begin a response
+    /// that breaks no rule (sections 8.1 to 8.3). Otherwise this end resets the stream with
+    /// PROTOCOL_ERROR (no RST_STREAM is sent where the part has closed it) and returns that
+    /// event; or the connection fails, as [`Conn::refuse`](crate::Conn::refuse) says.
     ///
     /// # Errors
     ///
-    /// [`ConnFault`] where the connection fails, with INTERNAL_ERROR where an allocation was
-    /// refused, and at every call from then on.
+    /// [`ConnFault`] where the connection fails, and at every call from then on; with
+    /// INTERNAL_ERROR where an allocation was refused.
     pub fn take<'a>(&'a mut self, piece: &'a [u8]) -> Result<EndTaken<'a>, ConnFault>
         ensures used { IfOk result (λ taken. taken.used ≤ length piece.now) }
         ensures* after { sem 𝓛 (Rests client_row self.entry
             (λ new. EndTakes self.old.end piece.now result new.end)) }
 
-        // A frame that lies whole in the piece and needs no memory is not refused any, unless what
-        // it reports is refused.
+        // Taking a frame that lies whole in the piece and needs no memory doesn't fail for lack
+        // of memory, unless what it reports is refused.
         ensures promised { (values : Values) (end : EndLog)
             → EndRepresents values self.old.end end → EndNeedsNoMemory end piece.now
             → IfErr result (λ fault. fault.code ≢ InternalError) }
@@ -59,24 +60,25 @@ impl Server {
     // contract: 8.1.1 (own) How the connection takes a refusal is what is answered
     // contract: 8.1 (own) What is handed out of a stream is what was reported, in order
     // contract: 8.1 (own) A server without memory for a first block fails with INTERNAL_ERROR
-    /// Takes octets of the piece, up to the end of one frame or else all of them, and answers what
-    /// is handed out: at most one event. Call it again until the piece is used and nothing is
-    /// handed out. A part of a request is handed out only where the parts so far begin one that
-    /// breaks no rule (sections 8.1 to 8.3); otherwise this end resets the stream with
-    /// PROTOCOL_ERROR, unless the part has closed it, and answers that; or the connection fails,
-    /// as [`Conn::refuse`](crate::Conn::refuse) says.
+    /// Takes octets of the piece, up to the end of one frame or else all of them, and returns
+    /// at most one event. Call it again until the piece is used and no event is returned.
+    ///
+    /// A part of a request is handed out only as long as the parts so far can begin a request
+    /// that breaks no rule (sections 8.1 to 8.3). Otherwise this end resets the stream with
+    /// PROTOCOL_ERROR (no RST_STREAM is sent where the part has closed it) and returns that
+    /// event; or the connection fails, as [`Conn::refuse`](crate::Conn::refuse) says.
     ///
     /// # Errors
     ///
-    /// [`ConnFault`] where the connection fails, with INTERNAL_ERROR where an allocation was
-    /// refused, and at every call from then on.
+    /// [`ConnFault`] where the connection fails, and at every call from then on; with
+    /// INTERNAL_ERROR where an allocation was refused.
     pub fn take<'a>(&'a mut self, piece: &'a [u8]) -> Result<EndTaken<'a>, ConnFault>
         ensures used { IfOk result (λ taken. taken.used ≤ length piece.now) }
         ensures* after { sem 𝓛 (Rests server_row self.entry
             (λ new. EndTakes self.old.end piece.now result new.end)) }
 
-        // A frame that lies whole in the piece and needs no memory is not refused any, unless what
-        // it reports is refused.
+        // Taking a frame that lies whole in the piece and needs no memory doesn't fail for lack
+        // of memory, unless what it reports is refused.
         ensures promised { (values : Values) (end : EndLog)
             → EndRepresents values self.old.end end → EndNeedsNoMemory end piece.now
             → IfErr result (λ fault. fault.code ≢ InternalError) }
@@ -87,7 +89,7 @@ impl Server {
 }
 
 // rule: 8.1 (own) What is handed out of a stream is what was reported, in order
-/// Lends the fields, or the octets, of what was handed out of this piece.
+/// Lends the fields or the octets of an event of this piece.
 fn lend<'a>(end: &'a End, piece: &'a [u8], progress: EndProgress) -> EndTaken<'a>
     requires lies { BodyLiesIn end.now piece.now progress.handed }
     ensures { (octets : List ℕ) × IsBodyIn end.now piece.now octets progress.handed

@@ -1,15 +1,20 @@
-//! A client and a server of HTTP/2 over cleartext, without input and output (RFC 9113, section 8).
+//! A client and a server of HTTP/2 over cleartext, without input and output (RFC 9113, section
+//! 8).
 //!
-//! [`Client::request`] and [`Server::respond`] take whole messages, whose bodies are sent as
-//! windows allow. [`Client::begin`] and [`Server::begin`] send a head alone, and `send_body` and
-//! `send_trailers` what follows it, as it comes. What the peer sends is handed out part by part: a
-//! part is handed out only where the parts so far begin a message that breaks no rule.
+//! [`Client::request`] and [`Server::respond`] take a complete message, and its body is sent as
+//! windows allow. [`Client::begin`] and [`Server::begin`] send a head alone; `send_body` and
+//! `send_trailers` send the rest as the application has it. What the peer sends is handed out
+//! part by part, and only as long as the parts so far can begin a message that breaks no rule.
 //!
-//! Whoever reads and writes goes round so: `take` with what was read, until the piece is used and
-//! nothing is handed out; `respond` to what was asked; `release_all`, without which the peer stops
-//! at its window; `pump`, `put_out` and a write, again until `put_out` gives nothing, since `pump`
-//! stops where 65,536 octets wait. Where a call is refused with [`Refusal::OutputFull`] (C7),
-//! write first and call again.
+//! A loop that reads and writes makes these calls:
+//!
+//! - `take` with the octets that were read, until all are used and no event is returned;
+//! - `respond` to the requests that were handed out;
+//! - `release_all`, without which the peer stops once its window is used up;
+//! - `pump`, `put_out` and a write, repeated until `put_out` returns 0, since `pump` stops once
+//!   65,536 octets of output wait.
+//!
+//! A call that is refused with [`Refusal::OutputFull`] (C7) succeeds once output was written.
 #![tactic(auto)]
 
 mod body;

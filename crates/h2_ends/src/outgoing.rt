@@ -1,30 +1,31 @@
-//! What a stream of an end has to send, and what was read of it.
+//! What an end keeps of a stream: what was read, and what is still to be sent.
 
 use crate::body::Body;
 use h2_message::{BodyLength, Reading};
 use hpack::Field;
 
-/// What waits of a message whose head was sent: octets of its body, its trailers, or both.
+/// The rest of a message whose head was sent: octets of its body, its trailers, or both.
 #[derive(Debug, Drop)]
 pub(crate) struct Waiting {
     /// The body.
     pub(crate) body: Body,
-    /// How many of its octets were sent.
+    /// How many octets of the body were sent.
     pub(crate) sent: usize,
     /// The trailers.
     pub(crate) trailers: Option<Vec<Field>>,
 }
 
-/// The message of a stream that this end sends.
+/// The state of the message that this end sends on a stream.
 #[derive(Debug, Drop)]
 pub(crate) enum Outgoing {
-    /// It wasn't given yet.
+    /// Not given yet.
     NotGiven,
-    /// It was begun, and what was given of it was sent; its body has to have so much more.
+    /// Begun, and what was given of it was sent; the value is the length that its body still
+    /// needs.
     Open(BodyLength),
-    /// Its head was sent, and this waits.
+    /// Its head was sent, and the rest waits.
     Waiting(Waiting),
-    /// All of it was sent.
+    /// Sent completely.
     Sent,
 }
 

@@ -38,8 +38,9 @@ impl End {
     }
 
     // rule: 8.1 (own) A part of a message is sent where one was begun, and is checked
-    /// Sends octets of the body of a message that was begun, as many as the connection takes now,
-    /// and its end where `end` is set and all of them go; answers how many.
+    /// Sends octets of the body of a message that was begun, as many as the connection takes
+    /// now, and returns how many. With `end`, END_STREAM goes with the last of them once all
+    /// are sent.
     pub(crate) fn send_body(
         &mut self,
         id: u32,
@@ -64,7 +65,7 @@ impl End {
     }
 
     // rule: 8.1 (own) A part of a message is sent where one was begun, and is checked
-    /// Ends a message that was begun with trailers.
+    /// Ends a message that was begun, with trailers.
     pub(crate) fn send_trailers(&mut self, id: u32, list: &[Field]) -> Result<(), EndRefusal>
         ensures { EndSendsTrailers self.old id list.now result self.new }
     {
@@ -82,7 +83,7 @@ impl End {
 
 impl Stream {
     // rule: 8.1 (own) A part of a message is sent where one was begun, and is checked
-    /// How long the rest of the body has to be of the message that was begun on the stream.
+    /// Returns the length that the body of the message begun on the stream still needs.
     fn rest(&self) -> Result<BodyLength, EndRefusal>
         ensures { RestOfKept self.now result }
     {

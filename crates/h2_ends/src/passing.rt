@@ -1,4 +1,4 @@
-//! Sending in turn: a pass over the streams on which something waits, each of which gets a share.
+//! Sending in turn: a pass over the streams on which something waits, with a share for each.
 
 ghost use Rattle.std.specs.Prelude.{◌≡◌, ◌⊎◌, ◌↔◌};
 ghost use Rattle.h2_spec_log.specs.Acts.{Values};
@@ -20,21 +20,22 @@ use h2_frame::limits::FULL_OUTPUT;
 /// A pass that is under way.
 #[derive(Debug, Drop)]
 pub(crate) struct Pass {
-    /// How many octets a share has at most: 1 to 65,536.
+    /// The largest share in octets: 1 to 65,536.
     pub(crate) most: usize,
-    /// With which stream it began, and how many octets of its share that had left.
+    /// The stream with which it began, and how many octets of a share cut short that stream had
+    /// left.
     pub(crate) turn: Turn,
     /// How many octets of bodies were sent.
     pub(crate) count: usize,
     /// How many octets the last share has left.
     pub(crate) rest: usize,
-    /// All streams that had their share and on which something waits still.
+    /// The streams that had their share and on which something still waits.
     pub(crate) left: Span,
 }
 
 impl Pass {
     // rule: 8.1 (own) pump_some gives each stream a share, in turn
-    /// How many octets a stream's share has at most.
+    /// Returns how many octets a stream's share has at most.
     fn share_size(&self, id: u32) -> usize
         ensures { result ≡ size_of self.now id }
     {
@@ -47,8 +48,8 @@ impl Pass {
 
 impl End {
     // rule: 8.1 (own) pump_some gives each stream a share, in turn
-    /// Sends shares of what waits, at most `most` octets of a body a stream, and 65,536, one pass
-    /// over the streams; answers how many octets of bodies went.
+    /// Makes one pass over the streams, with a share of at most `most` octets of a body for
+    /// each (1 to 65,536). Returns how many octets of bodies were sent.
     pub(crate) fn pump_some(&mut self, most: usize) -> Result<usize, EndRefusal>
         ensures { EndPumpsSome self.old most result self.new }
     {
@@ -71,9 +72,9 @@ impl End {
     }
 
     // rule: 8.1 (own) pump_some gives each stream a share, in turn
-    /// Gives the streams of a span their shares, in rising order; answers whether the pass goes
-    /// on. Where it does not, the next one begins with the stream at which this one ended, and
-    /// with what is left of its share.
+    /// Gives the streams of a span their shares, in rising order, and returns whether the pass
+    /// goes on. If not, the next pass begins with the stream at which this one ended, and the
+    /// rest of its share.
     fn pass_over(&mut self, span: Span, pass: &mut Pass) -> Result<bool, Refusal>
         ensures { PassesSpan self.old span pass.old result self.new pass.new }
     {
@@ -104,7 +105,7 @@ impl End {
     }
 
     // rule: 8.1 (own) pump_some gives each stream a share, in turn
-    /// Gives a stream its share: octets of the body, and the trailers once none are left.
+    /// Gives a stream its share: octets of the body, and the trailers once no octets are left.
     fn share(&mut self, id: u32, pass: &mut Pass) -> Result<SendState, Refusal>
         ensures { GivesShare self.old id pass.old result self.new pass.new }
     {
@@ -147,7 +148,7 @@ fn send_share(
             Ok(sent) => {
                 waiting.sent += sent;
                 pass.rest = most.saturating_sub(sent);
-                // Never more than what waits, so it is exact.
+                // Exact: never more than what waits.
                 pass.count = pass.count.saturating_add(sent);
                 if sent < size {
                     return Ok(unless_spent(conn));
@@ -170,7 +171,7 @@ fn send_share(
 }
 
 // rule: 8.1 (own) pump_some gives each stream a share, in turn
-/// How a pass goes on where fewer octets of a share went than it has.
+/// Returns how a pass goes on after a share of which fewer octets were sent than it has.
 fn unless_spent(conn: &Conn) -> SendState
     ensures full { (values : Values) (log : Log) → ConnRepresents values conn.now log
         → (result ≡ SendState.Full) ↔ IsSpent log }

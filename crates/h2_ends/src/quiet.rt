@@ -17,8 +17,8 @@ use h2_conn::Conn;
 
 impl End {
     // rule: 8.1 (own) An end is quiet where nothing waits, is owed or could be sent
-    /// Whether the connection is up, no output waits, nothing is owed or to be returned, and
-    /// nothing of what waits could be sent.
+    /// Returns whether the connection is up, no output waits, no credit is owed or to be
+    /// returned, and nothing that waits of messages could be sent.
     pub(crate) fn is_quiet(&self) -> bool
         ensures { (values : Values) (end : EndLog) → EndRepresents values self.now end
             → (result ≡ true) ↔ IsQuietEnd end }
@@ -31,7 +31,7 @@ impl End {
     }
 
     // rule: 8.1 (own) An end is quiet where nothing waits, is owed or could be sent
-    /// Whether something is owed on a stream.
+    /// Returns whether credit is owed on a stream.
     fn owes(&self) -> bool
         ensures some { (values : Values) (end : EndLog) → EndRepresents values self.now end
             → result ≡ true → (i : ℕ) × (owed end.log i ≢ 0) }
@@ -49,7 +49,7 @@ impl End {
     }
 
     // rule: 8.1 (own) An end is quiet where nothing waits, is owed or could be sent
-    /// Whether something that waits on a stream could be sent.
+    /// Returns whether something that waits on a stream could be sent.
     fn could_send(&self) -> bool
         ensures some { (values : Values) (end : EndLog) → EndRepresents values self.now end
             → result ≡ true → (i : ℕ) × (IsStuckOn end i → ⊥) }
@@ -67,7 +67,7 @@ impl End {
     }
 
     // rule: 8.1 (own) An end is quiet where nothing waits, is owed or could be sent
-    /// Whether the next of what waits on an active stream could be sent.
+    /// Returns whether something that waits on this active stream could be sent.
     fn could_send_on(&self, id: u32) -> bool
         ensures some { (values : Values) (end : EndLog) → EndRepresents values self.now end
             → active end.log id ≡ true → result ≡ true → IsStuckOn end id → ⊥ }
@@ -84,7 +84,8 @@ impl End {
     }
 }
 
-/// Whether a window lets an octet go: the connection's where `id` is 0, else an active stream's.
+/// Returns whether a window allows an octet: the connection's where `id` is 0, else the
+/// stream's.
 pub(crate) fn has_room(conn: &Conn, id: u32) -> bool
     ensures { (values : Values) (log : Log) → ConnRepresents values conn.now log
         → (result ≡ true) ↔ HasRoom (reader_room (log_view log) id) }

@@ -1,4 +1,4 @@
-//! What an end answers of what waits.
+//! Readers: what waits on a stream, and which part was refused last.
 
 ghost use Rattle.std.specs.Prelude.{◌≡◌};
 ghost use Rattle.h2_spec_log.specs.Acts.{Values};
@@ -12,7 +12,7 @@ use h2_message::Malformed;
 
 impl End {
     // rule: 8.1 What was sent on a stream is a prefix of its message
-    /// How many octets of a body wait on a stream.
+    /// Returns how many octets of a body wait on a stream.
     pub(crate) fn unsent(&self, id: u32) -> usize
         ensures { (values : Values) (end : EndLog) → EndRepresents values self.now end
             → result ≡ unsent_on end id }
@@ -27,7 +27,8 @@ impl End {
     }
 
     // rule: 8.1.1 (own) A part that is refused breaks a rule, the least of which is named
-    /// The stream and the rule of the part of a message that was refused last.
+    /// Returns the stream of the part of a message that was refused last, and the rule that it
+    /// breaks.
     pub(crate) fn last_malformed(&self) -> Option<(u32, Malformed)>
         ensures { (values : Values) (end : EndLog) → EndRepresents values self.now end
             → result ≡ end.malformed }

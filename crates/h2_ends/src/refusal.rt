@@ -6,22 +6,23 @@ use h2_message::{Malformed, Message};
 use h2_spec_log::Refusal;
 use thiserror::Error;
 
-/// Why a call was refused. [`EndRefusal::NotAsked`] (E3) and [`EndRefusal::Answered`] (E4) come
-/// first, then [`EndRefusal::BadMessage`] (E1), then [`EndRefusal::Conn`] (E2). Nothing has
-/// changed, unless the call says otherwise.
+/// Why a call was refused. [`EndRefusal::NotAsked`] (E3) is checked first, then
+/// [`EndRefusal::Answered`] (E4), [`EndRefusal::BadMessage`] (E1) and [`EndRefusal::Conn`]
+/// (E2). Nothing has changed, unless the call says otherwise.
 #[derive(Clone, Copy, Debug, PartialEq, Eq, Hash, Error)]
 pub enum EndRefusal {
-    /// E1: the message breaks a rule, this one first.
+    /// E1: the message is malformed; the value is the first rule that it breaks.
     #[error("E1 BadMessage: {0}")]
     BadMessage(Malformed),
-    /// E2: the connection refuses it.
+    /// E2: the connection refuses the call; the value is why.
     #[error("E2 Conn: {0}")]
     Conn(Refusal),
-    /// E3: the stream isn't active; or a response is given where the head of no request was handed
-    /// out, or a part of a message where none was begun or its end was given.
+    /// E3: the stream isn't active; or, of `respond` and `begin` of a server, no request on it
+    /// was handed out; or, of `send_body` and `send_trailers`, no message was begun on it or
+    /// its end was given.
     #[error("E3 NotAsked: the stream has no request to answer, or no open message")]
     NotAsked,
-    /// E4: a response was given for the stream already, or begun.
+    /// E4: the stream has its response, or one was begun.
     #[error("E4 Answered: the request was answered already")]
     Answered,
 }
@@ -29,7 +30,7 @@ pub enum EndRefusal {
 impl From<(Message, EndRefusal)> for EndRefusal {
     ghost from_gives = { λ back made. made ≡ back.1 };
 
-    /// The refusal of a message that is handed back. The message is dropped.
+    /// Returns the refusal, and drops the message that was handed back.
     fn from(back: (Message, EndRefusal)) -> EndRefusal {
         let (_, refusal) = back;
         refusal

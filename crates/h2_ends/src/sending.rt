@@ -26,13 +26,13 @@ use h2_message::{Message, Reading, Reads, asks_head, check_request, check_respon
 use h2_spec_log::Role;
 use hpack::{Field, list_size};
 
-/// How sending what waits on a stream goes on.
+/// The result of sending what waits on a stream.
 pub(crate) enum SendState {
     /// Nothing waited.
     Idle,
     /// All of it was sent.
     Sent,
-    /// No more of it can go now, or its share was given.
+    /// No more can go now, or its share was given.
     Stuck,
     /// The output is full, or a pass has used up the connection's window.
     Full,
@@ -40,7 +40,7 @@ pub(crate) enum SendState {
 
 impl End {
     // rule: 8.1 (own) A request that is refused is handed back, and nothing has changed
-    /// Sends the head of a request on a new stream, and keeps the rest of it.
+    /// Sends the head of a request on a new stream, and keeps the rest of the message.
     pub(crate) fn request(&mut self, message: Message) -> Result<u32, (Message, EndRefusal)>
         ensures { EndRequests self.old (message_value message) result self.new }
     {
@@ -64,14 +64,15 @@ impl End {
             self.new }
     {
         if let Some(trailers) = large_trailers(message) {
-            // The connection refuses them, and says whether something else comes first.
+            // The connection refuses trailers that are too large; an earlier refusal (C1 to C7)
+            // comes first.
             return self.conn.open(trailers, true);
         }
         self.open_with(&message.head, is_head_alone(message))
     }
 
     // rule: 8.1 (own) A request is refused for a rule, or as its head is, or sent
-    /// Opens a stream with this head. Its trailers, where they are known, are not too large.
+    /// Opens a stream with this head. Trailers that are known are not too large.
     pub(crate) fn open_with(&mut self, head: &[Field], ends: bool) -> Result<u32, Refusal>
         ensures { (values : Values) (end : EndLog) (said : Said)
             → EndRepresents values self.old end → said.message.head ≡ head.now
@@ -100,7 +101,7 @@ impl End {
     }
 
     // rule: 8.1 A response may come before its request is whole
-    /// Sends the head of a response, and keeps the rest of it.
+    /// Sends the head of a response, and keeps the rest of the message.
     pub(crate) fn respond(&mut self, id: u32, message: Message) -> Result<(), (Message, EndRefusal)>
         ensures { EndResponds self.old id (message_value message) result self.new }
     {
@@ -121,7 +122,7 @@ impl End {
     }
 
     // rule: 8.1 (own) A request is refused for a rule, or as its head is, or sent
-    /// Keeps what is left of a message whose head was sent.
+    /// Keeps the rest of a message whose head was sent.
     pub(crate) fn keep(&mut self, id: u32, outgoing: Outgoing)
         ensures { IsGiven self.old id outgoing self.new }
     {
@@ -134,8 +135,8 @@ impl End {
     }
 
     // rule: 8.1 (own) pump sends the lower streams first, and all that can go
-    /// Sends what waits of bodies and trailers, streams in rising order, as far as windows and the
-    /// output let it; answers how many octets of bodies went.
+    /// Sends waiting bodies and trailers, streams in rising order, as far as windows and the
+    /// output allow; returns how many octets of bodies were sent.
     pub(crate) fn pump(&mut self) -> Result<usize, EndRefusal>
         ensures { EndPumps self.old result self.new }
     {
@@ -159,7 +160,8 @@ impl End {
     }
 
     // rule: 8.1 What was sent on a stream is a prefix of its message
-    /// Sends what waits on a stream, as far as windows and the output let it; counts the octets.
+    /// Sends what waits on a stream, as far as windows and the output allow, and adds the
+    /// octets to `count`.
     fn pump_stream(&mut self, id: u32, count: &mut usize) -> Result<SendState, Refusal>
         ensures waits { WaitsAsBefore self.old self.new id }
         ensures pumps { PumpsOn self.old id count.old result self.new count.new }
@@ -204,8 +206,8 @@ impl End {
 
     // rule: 8.1 (own) pump sends the lower streams first, and all that can go
     // rule: 6.9 (own) release_all releases what is owed on each active stream
-    /// The next stream of a span above a number. It is found among the numbers in order, so a pump
-    /// costs about the same for each stream, whatever lies between two of them.
+    /// Returns the next active stream of a span above a number. The numbers are kept in order,
+    /// so the cost for each stream doesn't depend on the numbers in between.
     pub(crate) fn next_in(&self, span: Span, above: u32) -> Option<u32>
         ensures next { IsNextIn self.now span above result }
         ensures above { IfSome result (λ id. above < id) }
@@ -244,7 +246,8 @@ impl Stream {
 
     // rule: 8.1 (own) A response is sent only to a request, and is checked
     // rule: 8.1 (own) A second response to a request is refused
-    /// Whether the request on the stream, which has no response yet, asks with HEAD.
+    /// Returns whether the request on the stream, which has no response yet, has the method
+    /// HEAD.
     pub(crate) fn asks(&self, role: Role) -> Result<bool, EndRefusal>
         ensures { AsksOfKept role self.now result }
     {
@@ -271,7 +274,7 @@ fn send_head(conn: &mut Conn, id: u32, message: &Message) -> Result<(), Refusal>
 }
 
 // rule: 8.1 (own) A request is refused for a rule, or as its head is, or sent
-/// The trailers of a message, if they are too large to be sent.
+/// Returns the trailers of a message, if they are too large to be sent.
 fn large_trailers(message: &Message) -> Option<&[Field]>
     ensures large { IfSome result (λ list. (list.now
         ≡ trailer_fields (message_value message.now).trailers)
@@ -286,7 +289,7 @@ fn large_trailers(message: &Message) -> Option<&[Field]>
 }
 
 // rule: 8.1 What was sent on a stream is a prefix of its message
-/// Sends what waits of a message on a stream, as far as windows and the output let it.
+/// Sends what waits of a message on a stream, as far as windows and the output allow.
 fn send(
     conn: &mut Conn,
     id: u32,
@@ -303,7 +306,7 @@ fn send(
             Ok(0) => return Ok(SendState::Stuck),
             Ok(sent) => {
                 waiting.sent += sent;
-                // Never more than what waits, so it is exact.
+                // Exact: never more than what waits.
                 *count = count.saturating_add(sent);
             }
             Err(refusal) => return stopped_by(refusal),
@@ -319,7 +322,7 @@ fn send(
 }
 
 // rule: 8.1 (own) pump sends the lower streams first, and all that can go
-/// How sending goes on once a call of the connection is refused.
+/// Returns how sending goes on once a call of the connection was refused.
 pub(crate) fn stopped_by(refusal: Refusal) -> Result<SendState, Refusal>
     ensures { StopsBy refusal result }
 {
@@ -330,7 +333,7 @@ pub(crate) fn stopped_by(refusal: Refusal) -> Result<SendState, Refusal>
 }
 
 // rule: 8.1 What was sent on a stream is a prefix of its message
-/// What waits of a message whose head was sent.
+/// Returns what waits of a message whose head was sent.
 fn outgoing_of(message: Message) -> Outgoing
     ensures { result ≡ outgoing_for message }
 {
@@ -345,7 +348,7 @@ fn outgoing_of(message: Message) -> Outgoing
     })
 }
 
-/// Whether a message has neither body nor trailers.
+/// Returns whether a message has neither body nor trailers.
 fn is_head_alone(message: &Message) -> bool
     ensures { result ≡ is_head_alone (message_value message.now) }
 {

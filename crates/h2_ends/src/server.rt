@@ -31,7 +31,7 @@ use h2_spec_log::Role;
 use std::alloc::Global;
 use std::fmt;
 
-/// A server: it takes requests, and gives their responses. It does no input or output.
+/// A server: receives requests and sends their responses, without input or output.
 #[derive(Drop)]
 pub struct Server {
     pub(crate) end: End,
@@ -39,11 +39,12 @@ pub struct Server {
 
 impl Server {
     // contract: 8.1 (own) A new client or server is that end of a connection
-    /// A new server, whose opening waits (RFC 9113, section 3.4).
+    /// Returns a server whose opening is queued: SETTINGS (RFC 9113, section 3.4).
     ///
     /// # Errors
     ///
-    /// [`EndRefusal::Conn`] (E2) with [`Refusal::Memory`] (C12) where an allocation was refused.
+    /// [`EndRefusal::Conn`] (E2) with [`Refusal::Memory`] (C12) where an allocation was
+    /// refused.
     pub fn new(alloc: Global, config: Config) -> Result<Server, EndRefusal>
         ensures ok { IfOk result (λ server. EndRepresents (values_of config) server.end
             (new_end_log roles.Server (values_of config))) }
@@ -53,7 +54,7 @@ impl Server {
         Ok(Server { end })
     }
 
-    /// The connection, for what it answers of itself.
+    /// Returns the connection, whose readers tell its state.
     pub fn conn(&self) -> &Conn
         ensures { result.now ≡ self.now.end.conn }
     {
@@ -63,17 +64,22 @@ impl Server {
     // contract: 8.1 (own) A response is sent only to a request, and is checked
     // contract: 8.1 (own) A second response to a request is refused
     // contract: 8.1 A response may come before its request is whole
-    /// Sends the head of a response to the request on a stream, and keeps its body and trailers
-    /// for [`Server::pump`]. The request need not be whole.
+    /// Sends the head of a response on the stream of its request, and keeps its body and
+    /// trailers for [`Server::pump`]. The request need not be complete.
     ///
     /// # Errors
     ///
-    /// The message is handed back with [`EndRefusal::NotAsked`] (E3) where the stream isn't active
-    /// or no request on it was handed out, else with [`EndRefusal::Answered`] (E4) where it has
-    /// its response, or one was begun, else with [`EndRefusal::BadMessage`] (E1) where the message
-    /// breaks a rule, else with [`EndRefusal::Conn`] (E2) and the first of [`Refusal::Closed`]
-    /// (C1), [`Refusal::OutputFull`] (C7), [`Refusal::ListTooLarge`] (C10, of the trailers too)
-    /// and [`Refusal::Memory`] (C12). Nothing has changed.
+    /// The message is handed back, and nothing has changed. E3 is checked first, then E4, then
+    /// E1.
+    ///
+    /// - [`EndRefusal::BadMessage`] (E1) with the first of M1 to M6 and M9 to M11 that it
+    ///   breaks.
+    /// - [`EndRefusal::Conn`] (E2) with the first of [`Refusal::Closed`] (C1),
+    ///   [`Refusal::OutputFull`] (C7), [`Refusal::ListTooLarge`] (C10, for the trailers too)
+    ///   and [`Refusal::Memory`] (C12).
+    /// - [`EndRefusal::NotAsked`] (E3) where the stream isn't active, or no request on it was
+    ///   handed out.
+    /// - [`EndRefusal::Answered`] (E4) where the stream has its response, or one was begun.
     pub fn respond(&mut self, id: u32, message: Message) -> Result<(), (Message, EndRefusal)>
         ensures { EndResponds self.old.end id (message_value message) result self.new.end }
     {
@@ -82,21 +88,24 @@ impl Server {
 
     // contract: 8.1 (own) A part of a message is sent where one was begun, and is checked
     // contract: 8.1 (own) A second response to a request is refused
-    /// Begins a response to the request on a stream: sends its head, without END_STREAM, after
-    /// which [`Server::send_body`] sends the body as it comes, and its end, or
-    /// [`Server::send_trailers`] the end. The request need not be whole. A response without body
-    /// and trailers is better given whole, by [`Server::respond`]. One that is begun and cannot be
-    /// ended is given up by [`Server::reset`].
+    /// Begins a response on the stream of its request: sends its head without END_STREAM. The
+    /// request need not be complete. [`Server::send_body`] sends the body and may end the
+    /// response; [`Server::send_trailers`] ends it with trailers; [`Server::reset`] gives it
+    /// up. Use [`Server::respond`] for a response without body and trailers.
     ///
     /// # Errors
     ///
-    /// [`EndRefusal::NotAsked`] (E3) where the stream isn't active or no request on it was handed
-    /// out, else [`EndRefusal::Answered`] (E4) where it has its response, or one was begun, else
-    /// [`EndRefusal::BadMessage`] (E1) with the first of M1 to M6, M9 and M10 that the head
-    /// breaks, or M11 for a `content-length` that is no number or that differs from another one,
-    /// else [`EndRefusal::Conn`] (E2) and the first of [`Refusal::Closed`] (C1),
-    /// [`Refusal::OutputFull`] (C7), [`Refusal::ListTooLarge`] (C10) and [`Refusal::Memory`]
-    /// (C12). Nothing has changed.
+    /// Nothing has changed. E3 is checked first, then E4, then E1.
+    ///
+    /// - [`EndRefusal::BadMessage`] (E1) with the first of M1 to M6, M9 and M10 that the head
+    ///   breaks, else with M11 for a `content-length` that is no number of 1 to 19 digits or
+    ///   that differs from another one.
+    /// - [`EndRefusal::Conn`] (E2) with the first of [`Refusal::Closed`] (C1),
+    ///   [`Refusal::OutputFull`] (C7), [`Refusal::ListTooLarge`] (C10) and [`Refusal::Memory`]
+    ///   (C12).
+    /// - [`EndRefusal::NotAsked`] (E3) where the stream isn't active, or no request on it was
+    ///   handed out.
+    /// - [`EndRefusal::Answered`] (E4) where the stream has its response, or one was begun.
     pub fn begin(&mut self, id: u32, head: &[Field]) -> Result<(), EndRefusal>
         ensures { EndBeginsAnswer self.old.end id head.now result self.new.end }
     {
@@ -104,21 +113,23 @@ impl Server {
     }
 
     // contract: 8.1 (own) A part of a message is sent where one was begun, and is checked
-    /// Sends octets of the body of the message that was begun on a stream, and its end
-    /// (END_STREAM) with them where `end` is set and all of them are sent. Answers how many were:
-    /// as many as both windows let through, at most 65,536 a call (see [`Conn::data`]), which may
-    /// be none. No octet is kept here: give the rest again, once the output was written and, where
-    /// [`Conn::room`] of the stream or of the connection (0) is not above 0, [`Server::take`] has
-    /// brought more.
+    /// Sends octets of the body of a message that was begun, and returns how many: as many as
+    /// both windows allow, at most 65,536 a call (see [`Conn::data`]), perhaps none. With
+    /// `end`, END_STREAM goes with the last of them once all are sent. None is kept: give the
+    /// unsent octets again, once output was written and, where [`Conn::room`] of the stream or
+    /// of the connection (0) is 0 or less, once [`Server::take`] has received credit.
     ///
     /// # Errors
     ///
-    /// [`EndRefusal::NotAsked`] (E3) where the stream isn't active, no message was begun on it, or
-    /// its end was given; else [`EndRefusal::BadMessage`] (E1) with [`Malformed::BadLength`] (M11)
-    /// where the body, with all of these octets, would be longer than its head says, or, with its
-    /// end, shorter, or has any where none may be (an answer to HEAD, 204, 304); else
-    /// [`EndRefusal::Conn`] (E2) and the first of [`Refusal::Closed`] (C1),
-    /// [`Refusal::OutputFull`] (C7) and [`Refusal::Memory`] (C12). Nothing has changed.
+    /// Nothing has changed. E3 is checked first, then E1.
+    ///
+    /// - [`EndRefusal::BadMessage`] (E1) with [`Malformed::BadLength`] (M11) where the body,
+    ///   with all of these octets, would be longer than its head says, or, with `end`, shorter;
+    ///   or where it has octets though the response has no content (to HEAD, 204, 304).
+    /// - [`EndRefusal::Conn`] (E2) with the first of [`Refusal::Closed`] (C1),
+    ///   [`Refusal::OutputFull`] (C7) and [`Refusal::Memory`] (C12).
+    /// - [`EndRefusal::NotAsked`] (E3) where the stream isn't active, no message was begun on
+    ///   it, or its end was given.
     pub fn send_body(&mut self, id: u32, octets: &[u8], end: bool) -> Result<usize, EndRefusal>
         ensures { EndSendsBody self.old.end id octets.now end result self.new.end }
     {
@@ -130,11 +141,14 @@ impl Server {
     ///
     /// # Errors
     ///
-    /// [`EndRefusal::NotAsked`] (E3) as [`Server::send_body`]; else [`EndRefusal::BadMessage`]
-    /// (E1) with the first of M1, M2, M3 and M10 that the trailers break, or M11 where the body is
-    /// shorter than its head says; else [`EndRefusal::Conn`] (E2) and the first of
-    /// [`Refusal::Closed`] (C1), [`Refusal::OutputFull`] (C7), [`Refusal::ListTooLarge`] (C10) and
-    /// [`Refusal::Memory`] (C12). Nothing has changed.
+    /// Nothing has changed. E3 is checked first, then E1.
+    ///
+    /// - [`EndRefusal::BadMessage`] (E1) with the first of M1, M2, M3 and M10 that the trailers
+    ///   break, else with M11 where the body is shorter than its head says.
+    /// - [`EndRefusal::Conn`] (E2) with the first of [`Refusal::Closed`] (C1),
+    ///   [`Refusal::OutputFull`] (C7), [`Refusal::ListTooLarge`] (C10) and [`Refusal::Memory`]
+    ///   (C12).
+    /// - [`EndRefusal::NotAsked`] (E3) as for [`Server::send_body`].
     pub fn send_trailers(&mut self, id: u32, trailers: &[Field]) -> Result<(), EndRefusal>
         ensures { EndSendsTrailers self.old.end id trailers.now result self.new.end }
     {
@@ -143,15 +157,15 @@ impl Server {
 
     // contract: 8.1 What was sent on a stream is a prefix of its message
     // contract: 8.1 (own) pump sends the lower streams first, and all that can go
-    /// Sends what waits of bodies and trailers, streams in rising order, each as far as its
-    /// windows go, until nothing more could go or 65,536 octets or more of output wait; answers
-    /// how many octets of bodies were sent. A body is sent from where it lies. A long one on a low
-    /// stream goes before those on higher ones.
+    /// Sends waiting bodies and trailers, streams in rising order, each as far as its windows
+    /// allow, until nothing more can go or 65,536 octets or more of output wait. Returns how
+    /// many octets of bodies were sent. A long body on a low stream goes before those on higher
+    /// ones; [`Client::pump_some`] takes turns.
     ///
     /// # Errors
     ///
-    /// [`EndRefusal::Conn`] (E2) with [`Refusal::Closed`] (C1), and with [`Refusal::Memory`]
-    /// (C12): what was sent stays sent, and the rest waits.
+    /// [`EndRefusal::Conn`] (E2) with [`Refusal::Closed`] (C1) or [`Refusal::Memory`] (C12):
+    /// what was sent stays sent, and the rest waits.
     pub fn pump(&mut self) -> Result<usize, EndRefusal>
         ensures { EndPumps self.old.end result self.new.end }
     {
@@ -159,25 +173,30 @@ impl Server {
     }
 
     // contract: 8.1 (own) pump_some gives each stream a share, in turn
-    /// Sends a share of what waits on each stream, in turn; answers how many octets of bodies were
-    /// sent. It makes one pass over the streams on which something waits, in rising order, from
-    /// the one with which it begins to the highest, and then from the lowest. Each gets the least
-    /// of `most` octets (0 counts as 1, and more than 65,536 as 65,536), what its window and the
-    /// connection's let through, and what is left of its body, whose trailers and end go with its
-    /// last octet, unless the output is full then. Where a share is cut short, since 65,536 octets
-    /// wait or the connection's window is used up, the pass ends there, and what waits on later
-    /// streams stays for the next one, which begins with that stream and with what is left of its
-    /// share; otherwise it begins where this one did. So no long body keeps the others waiting:
-    /// between two shares of one stream, of which one that was cut short and its rest are one,
-    /// each other stream on which something waited gets one. With [`Server::pump`] lower streams
-    /// go first; it also sends trailers that come behind a body for which the connection's window
-    /// leaves no room.
+    /// Sends a share of what waits on each stream, in turn, and returns how many octets of
+    /// bodies were sent.
+    ///
+    /// A call makes one pass over the streams on which something waits: in rising order from
+    /// the stream with which the pass begins, then from the lowest. A share is at most `most`
+    /// octets of the body (0 counts as 1, and more than 65,536 as 65,536), and no more than the
+    /// windows of the stream and of the connection allow. Trailers and END_STREAM go with the
+    /// last octet, unless the output is full then.
+    ///
+    /// The pass ends early where a share is cut short, because 65,536 octets of output wait or
+    /// the connection's window is used up. The next pass then begins with that stream and the
+    /// rest of its share; otherwise it begins with the same stream as this one. So no long body
+    /// keeps the others waiting: between two shares of one stream each other stream on which
+    /// something waits gets one, where a share that was cut short and its rest count as one.
+    ///
+    /// [`Server::pump`] sends lower streams first instead. It also goes on where the
+    /// connection's window is used up, and sends trailers of later streams, which this call
+    /// leaves to a later pass.
     ///
     /// # Errors
     ///
-    /// [`EndRefusal::Conn`] (E2) with [`Refusal::Closed`] (C1), and with [`Refusal::Memory`]
-    /// (C12): what was sent stays sent, the rest waits, and the next pass begins with the stream
-    /// at which memory was refused, and with what is left of its share.
+    /// [`EndRefusal::Conn`] (E2) with [`Refusal::Closed`] (C1) or [`Refusal::Memory`] (C12):
+    /// what was sent stays sent, and the rest waits. After C12 the next pass begins with the
+    /// stream at which memory was refused, and the rest of its share.
     pub fn pump_some(&mut self, most: usize) -> Result<usize, EndRefusal>
         ensures { EndPumpsSome self.old.end most result self.new.end }
     {
@@ -185,9 +204,9 @@ impl Server {
     }
 
     // contract: 8.1 What was sent on a stream is a prefix of its message
-    /// How many octets of the body that was given for a stream wait for [`Server::pump`] or
-    /// [`Server::pump_some`]; 0 where the stream isn't active, and of a message in parts, of
-    /// which none waits. Trailers are not counted: where they alone wait it is 0 too.
+    /// Returns how many octets of the body that was given for a stream wait for
+    /// [`Server::pump`] or [`Server::pump_some`]. 0 where the stream isn't active, where
+    /// trailers alone wait, and for a message that was begun, of which nothing waits.
     pub fn unsent(&self, id: u32) -> usize
         ensures { (values : Values) (end : EndLog) → EndRepresents values self.now.end end
             → result ≡ unsent_on end id }
@@ -196,10 +215,10 @@ impl Server {
     }
 
     // contract: 8.1.1 (own) A part that is refused breaks a rule, the least of which is named
-    /// Why [`Server::take`] has refused a part of a request last: the stream, and the least rule
-    /// ([`Malformed`], M1 to M12) that the part breaks after what came before it. It is none until
-    /// a part is refused, and stays after the connection has failed. A list that is too large, and
-    /// a fault of a frame, are no such refusals.
+    /// Returns why [`Server::take`] refused a part of a request last: the stream, and the first
+    /// rule of [`Malformed`] (M1 to M12) that the part breaks after the parts that came before.
+    /// `None` until a part is refused; kept after the connection has failed. A field list above
+    /// the limit and a fault of a frame refuse no part.
     pub fn last_malformed(&self) -> Option<(u32, Malformed)>
         ensures { (values : Values) (end : EndLog) → EndRepresents values self.now.end end
             → result ≡ end.malformed }
@@ -208,9 +227,9 @@ impl Server {
     }
 
     // contract: 6.1 The complete payload of DATA, padding included, counts for windows
-    /// How many octets the payload of the last DATA frame had, padding included: after
-    /// [`EndEvent::Body`](crate::EndEvent::Body) what is released of its stream once they are used
-    /// ([`Server::release`]), where it is not 0 and the stream is active still. See
+    /// Returns the payload length of the last DATA frame, padding included. After
+    /// [`EndEvent::Body`](crate::EndEvent::Body) it is the count to give to [`Server::release`]
+    /// once the octets are used, if it isn't 0 and the stream is still active. See
     /// [`Conn::last_flow`].
     pub fn last_flow(&self) -> u32
         ensures { (values : Values) (log : Log) → ConnRepresents values self.now.end.conn log
@@ -220,26 +239,27 @@ impl Server {
     }
 
     // contract: 6.9 (own) release_all releases what is owed on each active stream
-    /// Gives all that is owed back to the client (section 6.9), streams in rising order.
+    /// Returns all credit that is owed to the client (RFC 9113, section 6.9), streams in rising
+    /// order.
     ///
     /// # Errors
     ///
     /// [`EndRefusal::Conn`] (E2) with [`Refusal::Closed`] (C1), [`Refusal::OutputFull`] (C7) or
-    /// [`Refusal::Memory`] (C12); what was released stays released, and the rest is owed.
+    /// [`Refusal::Memory`] (C12): what was released stays released, and the rest is owed.
     pub fn release_all(&mut self) -> Result<(), EndRefusal>
         ensures { EndReleases self.old.end result self.new.end }
     {
         self.end.release_all()
     }
 
-    /// Resets a stream with a code, forgets what waits on it, and gives up a message that was
+    /// Resets a stream with a code, drops what waits on it, and gives up a message that was
     /// begun there: see [`Conn::reset`].
     ///
     /// # Errors
     ///
     /// [`Refusal::Closed`] (C1), [`Refusal::NoSuchStream`] (C2), [`Refusal::OutputFull`] (C7),
-    /// [`Refusal::TooManyResets`] (C9) and [`Refusal::Memory`] (C12), in this order. Nothing has
-    /// changed.
+    /// [`Refusal::TooManyResets`] (C9) and [`Refusal::Memory`] (C12), in this order. Nothing
+    /// has changed.
     pub fn reset(&mut self, id: u32, code: u32) -> Result<(), Refusal>
         ensures { EndAnswers self.old.end (ResetStream id code) (answer_by (λ done. Done) result)
             self.new.end }
@@ -273,7 +293,7 @@ impl Server {
         self.end.go_away()
     }
 
-    /// Ends the connection with a code of the caller's: see [`Conn::fail`].
+    /// Fails the connection with a code that the caller chooses: see [`Conn::fail`].
     ///
     /// # Errors
     ///
@@ -299,9 +319,9 @@ impl Server {
     }
 
     // contract: calls (own) An end answers of its state, and of little once it has failed
-    /// Whether the output is full: each call that writes a frame but `fail` is refused
-    /// ([`Refusal::OutputFull`], C7), and `pump` and `pump_some` send nothing, until less than
-    /// 65,536 octets wait.
+    /// Returns whether 65,536 octets or more of output wait. Then each call that writes a
+    /// frame, except `fail`, is refused with [`Refusal::OutputFull`] (C7), and `pump` and
+    /// `pump_some` send nothing.
     pub fn is_full(&self) -> bool
         ensures { (values : Values) (log : Log) → ConnRepresents values self.now.end.conn log
             → (result ≡ true) ↔ (full_output ≤ waiting log) }
@@ -310,10 +330,10 @@ impl Server {
     }
 
     // contract: calls (own) An end answers of its state, and of little once it has failed
-    /// Whether no output waits, and no stream is active or the connection has failed. After GOAWAY
-    /// or a failure the writing side can be ended then (RFC 9113, section 6.8); what still comes
-    /// is to be read and dropped before the transport is closed. It looks for an active stream as
-    /// [`Conn::next_live`] does.
+    /// Returns whether no output waits and either no stream is active or the connection has
+    /// failed. Once true after GOAWAY or a failure, the writing side can be closed (RFC 9113,
+    /// section 6.8); read and drop what still comes before the transport is closed. It costs a
+    /// call of [`Conn::next_live`].
     pub fn is_drained(&self) -> bool
         ensures { (values : Values) (log : Log) → ConnRepresents values self.now.end.conn log
             → (result ≡ true) ↔ ((waiting log ≡ 0) × (reader_next_live log 0 ≡ None)) }
@@ -322,10 +342,10 @@ impl Server {
     }
 
     // contract: 8.1 (own) An end is quiet where nothing waits, is owed or could be sent
-    /// Whether the connection is up, no output waits, nothing is owed or to be returned to the
-    /// connection's window, and of what waits of messages nothing could be sent. A part of a frame
-    /// may be held, and an event that needs no octets still be handed out. It looks at the streams
-    /// where something waits or is owed.
+    /// Returns whether the connection is up and has nothing to do: no output waits, no credit
+    /// is owed or still to be returned, and nothing that waits of messages could be sent. An
+    /// incomplete frame may be held, and `take` may still return an event that needs no octets.
+    /// It visits the streams where something waits or is owed.
     pub fn is_quiet(&self) -> bool
         ensures { (values : Values) (end : EndLog) → EndRepresents values self.now.end end
             → (result ≡ true) ↔ IsQuietEnd end }
@@ -334,14 +354,16 @@ impl Server {
     }
 
     // contract: 8.1 (own) The other calls of a client and a server are the connection's
-    /// Releases so many octets of bodies that were handed out on one stream, so that the peer may
-    /// send as many more: see [`Conn::release`]. A caller that uses bodies slowly releases here
-    /// what was used, stream by stream, where [`Server::release_all`] releases everything;
-    /// [`Conn::owed`] says how much of a stream is not released.
+    /// Releases `count` octets of bodies that were handed out on a stream, so that the peer may
+    /// send as many more: see [`Conn::release`]. For a caller that uses bodies slowly;
+    /// [`Server::release_all`] releases everything. [`Conn::owed`] returns how much of a stream
+    /// is not released.
     ///
     /// # Errors
     ///
-    /// Those of [`Conn::release`], in its order. Nothing has changed.
+    /// [`Refusal::Closed`] (C1), [`Refusal::NoSuchStream`] (C2), [`Refusal::OutputFull`] (C7),
+    /// [`Refusal::NotOwed`] (C11) and [`Refusal::Memory`] (C12), in this order. Nothing has
+    /// changed.
     pub fn release(&mut self, id: u32, count: u32) -> Result<(), Refusal>
         ensures { EndAnswers self.old.end (Release id count) (answer_by (λ done. Done) result)
             self.new.end }
@@ -350,12 +372,12 @@ impl Server {
     }
 
     // contract: 8.1 (own) The other calls of a client and a server are the connection's
-    /// Appends as many octets of the output as wait, and at most `count`, to `out`, and takes them
-    /// away: see [`Conn::put_out`].
+    /// Appends at most `count` octets of the output to `out`, removes them from the queue, and
+    /// returns their number: see [`Conn::put_out`].
     ///
     /// # Errors
     ///
-    /// [`Refusal::Memory`] (C12), as of [`Conn::put_out`]. Nothing has changed.
+    /// [`Refusal::Memory`] (C12), as for [`Conn::put_out`]. Nothing has changed.
     pub fn put_out(&mut self, count: usize, out: &mut Vec<u8>) -> Result<usize, Refusal>
         ensures answers { EndAnswers self.old.end (PutOut count)
             (answer_by (λ given. Count given) result) self.new.end }
@@ -363,7 +385,7 @@ impl Server {
             out.new.items) }
         ensures err { OnErr result (out.new.items ≡ out.old.items) }
 
-        // Where nothing is returned first, the capacity of `out` is enough.
+        // Where no credit is returned first, the capacity of `out` is enough.
         ensures room { (values : Values) (log : Log) → ConnRepresents values self.old.end.conn log
             → returns_before_put_out (log_view log) ≡ false
             → vec_len out.old + min count (waiting log) ≤ vec_capacity out.old → IsOk result }
@@ -372,8 +394,9 @@ impl Server {
     }
 
     // contract: calls (own) An end lends its output, and says the place of a fault
-    /// Lends the output that waits from a place on, as much as lies there in one piece: see
-    /// [`Conn::waiting_from`]. After [`Server::ready`] it is all that can be written now.
+    /// Lends the queued output from a place on, as much as lies there in one piece: see
+    /// [`Conn::waiting_from`]. After [`Server::ready`] the queue holds all that can be written
+    /// now.
     pub fn waiting_from(&self, at: usize) -> &[u8]
         ensures { LendsFrom self.now.end.conn at result.now }
     {
@@ -381,16 +404,16 @@ impl Server {
     }
 
     // contract: 8.1 (own) The other calls of a client and a server are the connection's
-    /// Makes the output ready to be written from where it lies: see [`Conn::ready`].
+    /// Prepares the queued output to be written from where it lies: see [`Conn::ready`].
     ///
     /// # Errors
     ///
-    /// [`Refusal::Memory`] (C12), as of [`Conn::ready`]. Nothing has changed.
+    /// [`Refusal::Memory`] (C12), as for [`Conn::ready`]. Nothing has changed.
     pub fn ready(&mut self) -> Result<(), Refusal>
         ensures answers { EndAnswers self.old.end (PutOut 0) (answer_by (λ done. Count 0) result)
             self.new.end }
 
-        // Nothing is returned first then, so consuming takes no memory.
+        // No credit is returned first then, so consuming takes no memory.
         ensures returned { OnOk result ((values : Values) (log : Log)
             → ConnRepresents values self.new.end.conn log
             → returns_before_put_out (log_view log) ≡ false) }
@@ -401,14 +424,14 @@ impl Server {
     }
 
     // contract: 8.1 (own) The other calls of a client and a server are the connection's
-    /// Takes away at most `count` octets of the output, which were written from where they lie,
-    /// and returns their number: see [`Conn::consume`]. Call [`Server::ready`] before each
-    /// [`Server::waiting_from`], and give the number of octets that were written.
+    /// Removes at most `count` octets of the queued output, which the caller has written from
+    /// where they lie, and returns their number: see [`Conn::consume`]. Call [`Server::ready`]
+    /// before each [`Server::waiting_from`], and give the number of octets that were written.
     ///
     /// # Errors
     ///
-    /// [`Refusal::Memory`] (C12), as of [`Conn::consume`]. Nothing has changed. It does not come
-    /// after [`Server::ready`], where no other call was made in between.
+    /// [`Refusal::Memory`] (C12), as for [`Conn::consume`]; never directly after
+    /// [`Server::ready`]. Nothing has changed.
     pub fn consume(&mut self, count: usize) -> Result<usize, Refusal>
         ensures answers { EndAnswers self.old.end (PutOut count)
             (answer_by (λ given. Count given) result) self.new.end }

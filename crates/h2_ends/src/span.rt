@@ -12,30 +12,30 @@ pub(crate) struct Span {
     pub(crate) last: u32,
 }
 
-/// The streams that are to be looked at, and what was refused last.
+/// Which streams `pump`, `release_all` and `pump_some` visit, and what was refused last.
 #[derive(Clone, Copy, Debug)]
 pub(crate) struct Spans {
-    /// All on which a message waits.
+    /// Contains all streams on which a message waits.
     pub(crate) waiting: Span,
-    /// All on which octets are owed to the peer.
+    /// Contains all streams on which octets are owed to the peer.
     pub(crate) owing: Span,
-    /// With which the next pass of `pump_some` begins.
+    /// The stream with which the next pass of `pump_some` begins.
     pub(crate) turn: Turn,
     /// The stream of the part of a message that was refused last, and the rule that it breaks.
     pub(crate) malformed: Option<(u32, Malformed)>,
 }
 
-/// With which stream a pass begins.
+/// The stream with which a pass begins.
 #[derive(Clone, Copy, Debug)]
 pub(crate) struct Turn {
     /// Its number; where nothing waits on it, the pass begins with the next one above.
     pub(crate) id: u32,
-    /// How many octets of its share it has left, where that was cut short; else 0.
+    /// How many octets of its share are left, if that was cut short; else 0.
     pub(crate) rest: usize,
 }
 
 impl Span {
-    /// No number.
+    /// Returns the empty span.
     pub(crate) fn none() -> Span
         ensures { (i : ℕ) → InSpan result i → ⊥ }
     {
@@ -45,7 +45,7 @@ impl Span {
         }
     }
 
-    /// The least span of these numbers and one more.
+    /// Returns the least span that has these numbers and `id`.
     pub(crate) fn with(self, id: u32) -> Span
         ensures here { InSpan result id }
         ensures more { (i : ℕ) → InSpan self i → InSpan result i }
@@ -56,7 +56,7 @@ impl Span {
         }
     }
 
-    /// The numbers from one up, and those below it.
+    /// Splits the span: the numbers from `turn` up, and those below it.
     pub(crate) fn split(self, turn: u32) -> (Span, Span)
         ensures above { (i : ℕ) → InSpan result.0 i ↔ (InSpan self i × (turn ≤ i)) }
         ensures highest { result.0.last < 2 ^ 32 }

@@ -1,4 +1,4 @@
-//! Taking octets: parts of messages, checked before anyone sees them.
+//! Receiving octets: each part of a message is checked before it is handed out.
 
 ghost use Rattle.std.specs.Prelude.{◌≡◌, ℕ, ◌≤◌, false, List, Some, None, IfOk, Ok, length};
 ghost use Rattle.h2_spec_log.specs.Acts.{Values, Answer, Refuse};
@@ -21,12 +21,12 @@ use h2_frame::Code;
 use h2_message::{Malformed, Place, Reading};
 use h2_wire::Complete;
 
-/// What one call made of its piece.
+/// The result of one call of `advance`.
 #[derive(Clone, Copy, Debug)]
 pub(crate) struct EndProgress {
     /// How many octets were used.
     pub(crate) used: usize,
-    /// What is handed out: the connection keeps the fields, and says where the octets of a body
+    /// The event, if any: the connection keeps the fields, and knows where the octets of a body
     /// lie.
     pub(crate) handed: Option<EndEvent<(), Complete>>,
 }
@@ -34,14 +34,15 @@ pub(crate) struct EndProgress {
 /// Why a part of a message isn't handed out.
 #[derive(Clone, Copy, Debug)]
 pub(crate) enum Unread {
-    /// No message that breaks no rule begins so: the part breaks this one.
+    /// The parts so far, with this one, begin no message that is well-formed; the value is the
+    /// rule that this part breaks.
     Malformed(Option<Malformed>),
     /// An allocation was refused.
     OutOfMemory,
 }
 
 impl Unread {
-    /// The code with which the stream is refused.
+    /// Returns the code with which the stream is refused.
     fn code(self) -> u32
         ensures { result ≡ code_unread self }
     {
@@ -52,7 +53,8 @@ impl Unread {
     }
 
     // rule: 8.1.1 (own) A part that is refused breaks a rule, the least of which is named
-    /// The part of a message that was refused last, once one was on this stream.
+    /// Returns the part of a message that was refused last, once one was refused on this
+    /// stream.
     fn refused_last(self, id: u32, before: Option<(u32, Malformed)>) -> Option<(u32, Malformed)>
         ensures { result ≡ refused_last id self before }
     {
@@ -171,7 +173,7 @@ impl End {
     }
 
     // rule: 8.1.1 A malformed message is a stream error PROTOCOL_ERROR
-    /// Reads so many octets of a body.
+    /// Reads `count` octets of a body.
     fn read_data(&mut self, id: u32, count: usize, end: bool) -> Result<(), Unread>
         ensures conn { self.new.conn ≡ self.old.conn }
         ensures reads { (values : Values) (happened : EndLog) (octets : List ℕ)
@@ -194,8 +196,8 @@ impl End {
 
     // rule: 8.1.1 (own) How the connection takes a refusal is what is answered
     // rule: 8.1 (own) A server without memory for a first block fails with INTERNAL_ERROR
-    /// Refuses a stream whose part of a message isn't handed out, and keeps for which rule: this
-    /// end resets it; or the connection fails.
+    /// Refuses the stream of a part that isn't handed out, and keeps the rule that the part
+    /// breaks: this end resets the stream, or the connection fails.
     fn refuse(&mut self, id: u32, unread: Unread) -> Result<EndEvent<(), Complete>, ConnFault>
         ensures resets { IsResetBy id (code_unread unread) result }
         ensures answers { (values : Values) (end : EndLog) → MustRefuse values self.old end id
@@ -206,7 +208,7 @@ impl End {
     {
         self.spans.malformed = unread.refused_last(id, self.spans.malformed);
         let code = unread.code();
-        // C2 where the part itself has closed the stream: then nothing is sent.
+        // Refused with C2 where the part itself has closed the stream: nothing is sent then.
         let _refused = self.conn.refuse(id, code);
         self.forget_if_over(id);
         match self.conn.failed() {
@@ -221,7 +223,7 @@ impl End {
 }
 
 // rule: 8.1.1 (own) A part that is refused breaks a rule, the least of which is named
-/// A rule with the stream on which it is broken.
+/// Pairs a rule with the stream on which it is broken.
 fn named_on(id: u32, rule: Option<Malformed>) -> Option<(u32, Malformed)>
     ensures { result ≡ named_on id rule }
 {
@@ -232,7 +234,7 @@ fn named_on(id: u32, rule: Option<Malformed>) -> Option<(u32, Malformed)>
 }
 
 // rule: 8.1 (own) What is handed out of a stream is what was reported, in order
-/// A part of a message at this place, whose fields the connection keeps.
+/// Makes the event of a part at this place, whose fields the connection keeps.
 fn part_at(id: u32, place: Place, end: bool) -> EndEvent<(), Complete>
     ensures { result ≡ located_at place id end }
 {

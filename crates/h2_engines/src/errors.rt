@@ -1,4 +1,4 @@
-//! How a connection over a link ends, by what a call of its end has answered.
+//! How a connection over a link ends, by the result of a call of its end.
 
 ghost use Rattle.std.specs.Prelude.{◌≡◌, Ok, Err, IfOk, IfErr};
 ghost use Rattle.h2_engines.specs.Failures.{IsOfCall, IsOfServer, error_after};
@@ -9,7 +9,7 @@ use h2_link::LinkError;
 
 // contract: engines (own) N2 has the code with which the connection failed; memory is N3
 // rule: engines (own) N2 has the code with which the connection failed; memory is N3
-/// How it ends once the connection has failed with a code.
+/// Returns how a connection over a link ends once it has failed with a code.
 fn error_of_code(code: Code) -> LinkError
     ensures error { result ≡ error_with code }
     ensures kind { IsOfServer result }
@@ -21,7 +21,7 @@ fn error_of_code(code: Code) -> LinkError
 }
 
 // rule: engines (own) N2 has the code with which the connection failed; memory is N3
-/// What `take` of an end has answered; or, where the connection has failed, how it ends.
+/// Returns the value of a call of `take`; or, where the connection has failed, how it ends.
 pub(crate) fn unless_failed<T>(answer: Result<T, ConnFault>) -> Result<T, LinkError>
     ensures ok { IfOk result (λ value. answer ≡ Ok value) }
     ensures err { IfErr result (λ error. (fault : ConnFault) × (answer ≡ Err fault)
@@ -36,10 +36,10 @@ pub(crate) fn unless_failed<T>(answer: Result<T, ConnFault>) -> Result<T, LinkEr
 
 // rule: engines (own) N2 has the code with which the connection failed; memory is N3
 // rule: engines (own) N5 comes only where a write has taken nothing
-/// How it ends once a call was refused: [`Refusal::Memory`] (C12) is [`LinkError::Memory`] (N3),
-/// and any other [`LinkError::NoProgress`] (N5). [`Refusal::OutputFull`] (C7) comes about where so
-/// much output waits that a request can't be answered, without a link; over one no other is
-/// expected.
+/// Returns how it ends once a call was refused: [`Refusal::Memory`] (C12) becomes
+/// [`LinkError::Memory`] (N3), any other refusal [`LinkError::NoProgress`] (N5). Over a link no
+/// other is expected. Without a link [`Refusal::OutputFull`] (C7) comes where so much output
+/// waits that a request can't be answered.
 pub(crate) fn error_of_refusal(refusal: EndRefusal) -> LinkError
     ensures error { result ≡ error_after refusal }
     ensures kind { IsOfCall result }
@@ -50,7 +50,8 @@ pub(crate) fn error_of_refusal(refusal: EndRefusal) -> LinkError
     }
 }
 
-/// What a call of an end has answered; or, where it was refused, how the connection ends.
+/// Returns the value of a call of an end; or, where the call was refused, how the connection
+/// ends.
 pub(crate) fn unless_refused<T, E: Into<EndRefusal>>(answer: Result<T, E>) -> Result<T, LinkError>
     ensures ok { IfOk result (λ value. answer ≡ Ok value) }
     ensures err { IfErr result (λ error. (refused : E) × (refusal : EndRefusal)

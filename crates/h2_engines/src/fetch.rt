@@ -20,19 +20,24 @@ use std::alloc::Global;
 // contract: engines (own) Over a link credit is returned and what could be sent is sent
 // contract: engines (own) N6 has the code with which the request's stream was reset
 // contract: engines (own) N7 comes only where the message breaks a rule or is too large
-/// Makes a request over a new connection, and answers its response once that is whole, whatever of
-/// the request is still to be sent. Nothing is taken of what was read after the response. Where the
-/// input ends too early, the credit of the connection was returned; and once octets of the server
-/// have come, nothing is owed, and nothing that waits could go.
+/// Makes a request over a new connection, and returns the complete response as soon as it has
+/// come, even if a part of the request is still unsent. Octets read after the response are not
+/// taken.
+///
+/// Where the input ends too early (N4), the connection's credit was returned; and if the server
+/// has sent any octets, no credit is owed and nothing that waits could be sent.
 ///
 /// # Errors
 ///
-/// [`LinkError::Device`] (N1) where the link failed; [`LinkError::Stream`] (N2) where the
-/// connection failed, once its GOAWAY was written; [`LinkError::Memory`] (N3) where an allocation
-/// was refused; [`LinkError::CutOff`] (N4) where the input ended before the response was whole;
-/// [`LinkError::NoProgress`] (N5) where a write took nothing, and after 2^64 - 1 rounds;
-/// [`LinkError::Reset`] (N6) where the stream was reset, by either end, or was not processed;
-/// [`LinkError::Refused`] (N7) where the message breaks a rule or its fields are too many.
+/// - [`LinkError::Device`] (N1) where the link failed.
+/// - [`LinkError::Stream`] (N2) where the connection failed, once its GOAWAY was written.
+/// - [`LinkError::Memory`] (N3) where an allocation was refused.
+/// - [`LinkError::CutOff`] (N4) where the input ended before the response was complete.
+/// - [`LinkError::NoProgress`] (N5) where a write took nothing, and after 2^64 - 1 rounds.
+/// - [`LinkError::Reset`] (N6) where either end reset the stream, or the server did not process
+///   the request.
+/// - [`LinkError::Refused`] (N7) where the message breaks a rule, or its head or its trailers
+///   are larger than 65,536 octets.
 pub fn fetch_link<L: Link>(
     alloc: Global,
     link: &mut L,
@@ -52,8 +57,8 @@ pub fn fetch_link<L: Link>(
 
 // contract: engines (own) Over a link it is said why the connection has failed
 // rule: engines (own) Over a link it is said why the connection has failed
-/// As [`fetch_link`], and says in `why` why its connection has failed, if it has: the rule that the
-/// server has broken, or what else has ended it.
+/// Does what [`fetch_link`] does, and sets `why` to the reason for which the connection has
+/// failed, if it has: the rule that the server has broken, or what else has ended it.
 ///
 /// # Errors
 ///

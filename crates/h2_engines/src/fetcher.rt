@@ -21,7 +21,7 @@ use h2_ends::{Client, Code, Config, EndEvent, EndRefusal, Field, FieldList, Mess
 use h2_link::LinkError;
 use std::alloc::{AllocError, Global};
 
-/// A response that has come whole.
+/// A complete response.
 #[derive(Debug, Drop)]
 pub struct Fetched {
     /// The heads of the interim responses before it, in order (1xx; RFC 9113, section 8.1).
@@ -34,7 +34,7 @@ pub struct Fetched {
     pub trailers: Option<Vec<Field>>,
 }
 
-/// A response, as far as it has come.
+/// The part of a response that has come so far.
 #[derive(Drop)]
 pub(crate) struct Coming {
     pub(crate) interims: Vec<Vec<Field>>,
@@ -43,7 +43,7 @@ pub(crate) struct Coming {
     pub(crate) trailers: Option<Vec<Field>>,
 }
 
-/// A client that makes one request, and keeps what comes of the response. It does no input or
+/// A client that makes one request and keeps what comes of the response, without input or
 /// output.
 #[derive(Drop)]
 pub struct Fetcher {
@@ -52,14 +52,14 @@ pub struct Fetcher {
     /// The stream of the request.
     pub(crate) id: u32,
     pub(crate) coming: Coming,
-    /// Whether the response is whole.
+    /// Whether the response is complete.
     pub(crate) whole: bool,
 }
 
 impl Coming {
     // rule: engines (own) A response that is fetched is the message handed out, whole
-    /// Keeps what was handed out of the response on a stream, and says whether that is whole.
-    /// Memory is refused only for a part of a message.
+    /// Keeps a part of the response on a stream, and returns whether that is complete. Memory
+    /// is refused only for a part of a message.
     fn note(
         &mut self,
         alloc: Global,
@@ -97,12 +97,13 @@ impl Coming {
 impl Fetcher {
     // rule: engines (own) A response that is fetched is the message handed out, whole
     // rule: engines (own) N7 comes only where the message breaks a rule or is too large
-    /// A new one, whose opening and the head of the request wait.
+    /// Makes a client, and queues its opening and the head of the request.
     ///
     /// # Errors
     ///
-    /// [`LinkError::Refused`] (N7) where the message breaks a rule or its fields are too many,
-    /// [`LinkError::Memory`] (N3) where an allocation was refused.
+    /// - [`LinkError::Memory`] (N3) where an allocation was refused.
+    /// - [`LinkError::Refused`] (N7) where the message breaks a rule, or its head or its
+    ///   trailers are larger than 65,536 octets.
     pub fn new(alloc: Global, config: Config, message: Message) -> Result<Fetcher, LinkError>
         ensures ok { IfOk result (λ fetcher. HasRequested (values_of config)
             (message_value message) fetcher) }
@@ -134,11 +135,11 @@ impl Fetcher {
     }
 
     // rule: engines (own) A response that is fetched is the message handed out, whole
-    /// The response, once it is whole.
+    /// Returns the response, once it is complete.
     ///
     /// # Errors
     ///
-    /// [`LinkError::NoProgress`] (N5) where it isn't whole.
+    /// [`LinkError::NoProgress`] (N5) where it isn't complete.
     pub fn into_fetched(self) -> Result<Fetched, LinkError>
         ensures ok { IfOk result (λ fetched. IsFetchedOf self.coming fetched) }
         ensures whole { OnOk result (self.whole ≡ true) }
@@ -166,15 +167,16 @@ impl Fetcher {
     }
 
     // rule: engines (own) Without a link a server answers whole requests, a client reads one
-    /// Takes octets of a piece, and answers whether the response is whole: all of them where it
-    /// isn't, and none of those after its end where it is. Once it is whole, none are taken.
+    /// Takes the octets of a piece up to the end of the response, and returns whether the
+    /// response is complete. Takes none once it is.
     ///
     /// # Errors
     ///
-    /// [`LinkError::Stream`] (N2) where the connection failed, whose GOAWAY waits;
-    /// [`LinkError::Memory`] (N3) where an allocation was refused; [`LinkError::NoProgress`] (N5)
-    /// after 2^64 - 1 rounds; [`LinkError::Reset`] (N6) where the stream was reset, by either end,
-    /// or was not processed.
+    /// - [`LinkError::Stream`] (N2) where the connection failed; its GOAWAY waits.
+    /// - [`LinkError::Memory`] (N3) where an allocation was refused.
+    /// - [`LinkError::NoProgress`] (N5) after 2^64 - 1 rounds.
+    /// - [`LinkError::Reset`] (N6) where either end reset the stream, or the server did not
+    ///   process the request.
     pub fn take_in(&mut self, piece: &[u8]) -> Result<bool, LinkError>
         ensures takes { ClientTakesIn self.old self.new piece.now result }
         ensures whole { self.old.whole ≡ true → (result ≡ Ok true) × (self.new ≡ self.old) }
@@ -188,13 +190,14 @@ impl Fetcher {
     }
 
     // rule: engines (own) Without a link a server answers whole requests, a client reads one
-    /// Gives back all that is owed, sends what waits of the request as windows allow, and appends
-    /// at most `count` octets of the output to `out`: fewer only where no more wait. Answers how
-    /// many. Once the connection has failed it puts out what waits, GOAWAY last.
+    /// Returns all credit that is owed, sends what waits of the request as windows allow, and
+    /// appends at most `count` octets of the output to `out`, fewer only where no more wait.
+    /// Returns their number. Once the connection has failed it still puts out what waits,
+    /// GOAWAY last.
     ///
     /// # Errors
     ///
-    /// [`LinkError::Memory`] (N3) where an allocation was refused; then nothing is appended.
+    /// [`LinkError::Memory`] (N3) where an allocation was refused; nothing is appended.
     pub fn put_out(&mut self, count: usize, out: &mut Vec<u8>) -> Result<usize, LinkError>
         ensures puts { ClientPutsOut self.old self.new count out.old.items out.new.items result }
         ensures err { IfErr result IsOfClient }
@@ -261,7 +264,8 @@ impl Machine for Fetcher {
 
 // rule: engines (own) A response that is fetched is the message handed out, whole
 // rule: engines (own) N6 has the code with which the request's stream was reset
-/// Hands octets to `take` of a client once, and keeps what is handed out of the response.
+/// Hands octets to `take` of a client once, and keeps the part of the response that is handed
+/// out.
 pub(crate) fn hear(
     alloc: Global,
     client: &mut Client,

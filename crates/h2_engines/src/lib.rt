@@ -1,9 +1,9 @@
-//! A whole HTTP/2 connection over any link (RFC 9113): a server that answers each request with what
-//! it asked, and a client that fetches one response.
+//! A complete HTTP/2 connection over any link (RFC 9113): a server that answers each request
+//! with the request itself, and a client that fetches one response.
 //!
-//! [`serve_link`] and [`fetch_link`] read and write a [`Link`]. [`Responder`] and [`Fetcher`] are
-//! their ends without a link, for whoever carries the octets in turns of so many. [`write_waiting`]
-//! writes to a link what waits at a connection.
+//! [`serve_link`] and [`fetch_link`] read and write a [`Link`]. [`Responder`] and [`Fetcher`]
+//! are the same ends without a link, for a caller that carries the octets. [`write_waiting`]
+//! writes the output of a connection to a link.
 #![tactic(auto)]
 
 mod errors;

@@ -1,4 +1,4 @@
-//! What drives a server or a client, over a link or over octets that it is handed.
+//! Drives a server or a client, over a link or over octets that the caller hands in.
 
 ghost use Rattle.std.specs.Prelude.{◌≡◌, ◌≤◌, ◌<◌, ◌-◌, ◌^◌, [], Bool, true, false, length, drop};
 ghost use Rattle.std.specs.Prelude.{Ok};
@@ -29,28 +29,28 @@ use h2_link::{Link, LinkError, LinkFault};
 use std::alloc::Global;
 use std::io::IoSlice;
 
-/// What a machine made of a piece.
+/// The result of handing a piece to a machine.
 #[derive(Drop)]
 pub(crate) struct Heard {
-    /// So many octets were used.
+    /// How many octets were used.
     pub(crate) used: usize,
-    /// What is to be done.
+    /// What is to be done next.
     pub(crate) next: Next,
 }
 
-/// A server or a client that is driven: it takes octets, says what is to be done, and puts octets
-/// out.
+/// A server or a client that is driven: takes octets, says what is to be done next, and gives
+/// out octets.
 pub(crate) trait Machine {
-    /// Its end, and what it keeps beside that.
+    /// The state of its end, and what it keeps beside that.
     ghost held: { Self → MachineState };
 
     /// Whether it is a server.
     ghost serves: { Bool };
 
-    /// Where its memory comes from.
+    /// Returns the allocator that it uses.
     fn alloc(&self) -> Global;
 
-    /// Its connection.
+    /// Returns its connection.
     fn conn(&self) -> &Conn
         ensures { result.now ≡ (held self.now).end.conn };
 
@@ -60,7 +60,7 @@ pub(crate) trait Machine {
         ensures within { IfOk result (λ heard. heard.used ≤ length piece.now) }
         ensures err { IfErr result (StopsWith serves) };
 
-    /// Makes an answer or a reset that is due.
+    /// Makes a response or a reset that is due.
     fn act(&mut self, due: Next) -> Result<(), LinkError>
         ensures acts { Responds (held self.old) (held self.new) due result }
         ensures err { IfErr result (StopsWith serves) };
@@ -70,12 +70,12 @@ pub(crate) trait Machine {
         ensures pumps { EndPumps (held self.old).end result (held self.new).end }
         ensures kept { (held self.new).kept ≡ (held self.old).kept };
 
-    /// Gives back all that is owed.
+    /// Returns all credit that is owed.
     fn release_all(&mut self) -> Result<(), EndRefusal>
         ensures releases { EndReleases (held self.old).end result (held self.new).end }
         ensures kept { (held self.new).kept ≡ (held self.old).kept };
 
-    /// Appends at most so many octets of the output.
+    /// Appends at most `count` octets of the output to `out`.
     fn give_out(&mut self, count: usize, out: &mut Vec<u8>) -> Result<usize, Refusal>
         ensures answers { EndAnswers (held self.old).end (PutOut count)
             (answer_by (λ given. Count given) result) (held self.new).end }
@@ -84,7 +84,7 @@ pub(crate) trait Machine {
         ensures err { OnErr result (out.new.items ≡ out.old.items) }
         ensures kept { (held self.new).kept ≡ (held self.old).kept };
 
-    /// Makes the output ready to be written from where it lies.
+    /// Prepares the output to be written from where it lies.
     fn ready(&mut self) -> Result<(), Refusal>
         ensures answers { EndAnswers (held self.old).end (PutOut 0)
             (answer_by (λ done. Count 0) result) (held self.new).end }
@@ -93,7 +93,7 @@ pub(crate) trait Machine {
             → returns_before_put_out (log_view log) ≡ false) }
         ensures kept { (held self.new).kept ≡ (held self.old).kept };
 
-    /// Takes away at most so many octets of the output, which were written.
+    /// Removes at most `count` octets of the output, which were written.
     fn consume(&mut self, count: usize) -> Result<usize, Refusal>
         ensures answers { EndAnswers (held self.old).end (PutOut count)
             (answer_by (λ given. Count given) result) (held self.new).end }
@@ -114,7 +114,8 @@ fn pump<M: Machine>(machine: &mut M) -> Result<(), LinkError>
 }
 
 // rule: engines (own) Over a link input is used in order and all output is written
-/// Writes all output that waits, from where it lies. What was not written is lost where it fails.
+/// Writes all output that waits, from where it lies. After a fault of the link the unwritten
+/// output is lost.
 fn write_out<M: Machine, L: Link>(machine: &mut M, link: &mut L) -> Result<(), LinkError>
     requires { L.faults link.old < 2 ^ 64 - 1 }
     ensures writes { WritesWaiting
@@ -139,14 +140,16 @@ fn write_out<M: Machine, L: Link>(machine: &mut M, link: &mut L) -> Result<(), L
 }
 
 // rule: engines (own) Over a link input is used in order and all output is written
-/// Writes all octets that wait to a link, from where they lie and in order, in as many calls as it
-/// takes: up to four parts of them at a time. They wait on: whoever has written them takes them
-/// away.
+/// Writes all octets that wait at a connection to a link, from where they lie, in order and in
+/// as many calls as it takes, up to four parts of them a call. They stay queued: the caller
+/// removes them ([`Conn::consume`]).
 ///
 /// # Errors
 ///
-/// [`LinkError::Device`] (N1) where a call of the link failed, [`LinkError::NoProgress`] (N5) where
-/// one has taken no octet. Some first octets may have been taken.
+/// Octets from the first on may have been written.
+///
+/// - [`LinkError::Device`] (N1) where a call of the link failed.
+/// - [`LinkError::NoProgress`] (N5) where a call took no octet.
 pub fn write_waiting<L: Link>(link: &mut L, conn: &Conn) -> Result<(), LinkError>
     requires { L.faults link.old < 2 ^ 64 - 1 }
     ensures writes { WritesAll (L.taken link.old) (L.taken link.new) (L.faults link.old)
@@ -169,8 +172,8 @@ pub fn write_waiting<L: Link>(link: &mut L, conn: &Conn) -> Result<(), LinkError
     Ok(())
 }
 
-/// Writes octets that wait from a place on, at which some wait, as many parts as a link writes at
-/// once. Answers how many were written.
+/// Writes octets that wait, from the place `at`, where some do, in up to four parts. Returns
+/// how many were written.
 fn write_from<L: Link>(link: &mut L, conn: &Conn, at: usize) -> Result<usize, LinkFault>
     requires failures { L.faults link.old < 2 ^ 64 - 1 }
     requires fits { length (octets_queued conn.now) < 2 ^ 64 }
@@ -184,7 +187,7 @@ fn write_from<L: Link>(link: &mut L, conn: &Conn, at: usize) -> Result<usize, Li
 {
     let first = conn.waiting_from(at);
     let past_first = at + first.len();
-    // Mostly one part is all that waits.
+    // Mostly the output lies in one part.
     if past_first == conn.waiting() {
         return link.write(first);
     }
@@ -201,7 +204,7 @@ fn write_from<L: Link>(link: &mut L, conn: &Conn, at: usize) -> Result<usize, Li
     ])
 }
 
-/// Does what is due, once all that waits is written, where it is written to a link.
+/// Does what is due; if it writes to a link, once all that waits is written.
 fn do_due<M: Machine, L: Link>(
     machine: &mut M,
     link: &mut L,
@@ -223,7 +226,8 @@ fn do_due<M: Machine, L: Link>(
     machine.act(due)
 }
 
-/// Ends what can't hear on. Where the connection has failed, all that waits is written to the link.
+/// Ends a machine with this error. Where the connection has failed, writes all that waits to
+/// the link.
 fn end_early<M: Machine, L: Link>(
     machine: &mut M,
     link: &mut L,
@@ -253,9 +257,10 @@ fn end_early<M: Machine, L: Link>(
 
 // rule: engines (own) Over a link input is used in order and all output is written
 // rule: engines (own) N2 has the code with which the connection failed; memory is N3
-/// Takes octets of a piece, and does what is due: all of them; or, where that answers so, those up
-/// to the end of a response that is whole. All that waits is written to the link, if that is said,
-/// before each answer and each reset, and where the octets end the connection.
+/// Takes the octets of a piece and does what is due. Takes all of them and returns false, or
+/// those up to the end of a complete response and returns true. With `writes`, all that waits
+/// is written to the link before each response and each reset, and where the octets end the
+/// connection.
 pub(crate) fn take_all<M: Machine, L: Link>(
     machine: &mut M,
     link: &mut L,
@@ -291,9 +296,9 @@ pub(crate) fn take_all<M: Machine, L: Link>(
 // rule: engines (own) Over a link input is used in order and all output is written
 // rule (tested): engines (own) Where the output was full it pumps and writes before it reads
 // rule: engines (own) N5 comes only where a write has taken nothing
-/// Drives a machine over a link until its response is whole, or the input has ended: answers
-/// whether it is whole. Where the output was full, what is still owed is given back, and what more
-/// can be sent is written, before a read.
+/// Drives a machine over a link until its response is complete or the input has ended, and
+/// returns whether it is complete. Where the output was full, returns credit and sends what can
+/// go before it reads.
 pub(crate) fn drive<M: Machine, L: Link>(machine: &mut M, link: &mut L) -> Result<bool, LinkError>
     requires { L.faults link.old < 2 ^ 64 - 1 }
     ensures drives { Drives
@@ -326,8 +331,8 @@ pub(crate) fn drive<M: Machine, L: Link>(machine: &mut M, link: &mut L) -> Resul
 }
 
 // rule: engines (own) Over a link credit is returned and what could be sent is sent
-/// Gives back all that is owed and sends what waits of messages, while the connection is up. What a
-/// full output holds back is given back later.
+/// Returns credit and sends what waits of messages, while the connection is up. A full output
+/// puts credit off to a later call.
 fn send_waiting<M: Machine>(machine: &mut M) -> Result<(), LinkError>
     ensures sends { SendsWaiting (M.held machine.old).end (M.held machine.new).end result }
     ensures kept { (M.held machine.new).kept ≡ (M.held machine.old).kept }
@@ -343,7 +348,7 @@ fn send_waiting<M: Machine>(machine: &mut M) -> Result<(), LinkError>
     }
 }
 
-/// Sends what waits, and appends at most so many octets of the output.
+/// Sends what waits, and appends at most `count` octets of the output to `out`.
 pub(crate) fn put_out<M: Machine>(
     machine: &mut M,
     count: usize,

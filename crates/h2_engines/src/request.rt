@@ -1,4 +1,4 @@
-//! Requests, as far as they have come.
+//! Requests that are being received.
 
 ghost use Rattle.std.specs.Prelude.{◌≡◌, ◌≤◌, [], IfOk, OnOk, length, true};
 ghost use Rattle.std.specs.Vec.{vec_capacity};
@@ -19,41 +19,41 @@ use hpack::Octets;
 use itoa::Buffer;
 use std::alloc::{AllocError, Global};
 
-/// How many octets of a body are reserved with its head, at most.
+/// The most octets of a body that are reserved with its head.
 const FIRST_ROOM: usize = 16_384;
 
-/// So many times what is kept is reserved later for octets that have yet to come, at most.
+/// The most that is reserved later for octets yet to come, as a multiple of what is kept.
 const MORE_ROOM: usize = 9;
 
-/// A request, as far as it has come.
+/// A request that is being received.
 #[derive(Drop)]
 pub(crate) struct Request {
-    /// What it asks, and its body: what it is answered with.
+    /// The response: the method, a space, the path, a line end, and the body so far.
     pub(crate) text: Vec<u8>,
-    /// Where its body begins.
+    /// Where the body begins in `text`.
     pub(crate) start: usize,
-    /// How many octets of a body its head says, at most as many as a request may have.
+    /// The `content-length` of its head, at most 1,048,576.
     pub(crate) announced: usize,
-    /// Whether it asks with HEAD.
+    /// Whether its method is HEAD.
     pub(crate) to_head: bool,
 }
 
-/// What is to be done once something was handed out.
+/// What is to be done next.
 #[derive(Drop)]
 pub(crate) enum Next {
-    /// More may be handed out.
+    /// Call `take` again: more may be handed out.
     Again,
-    /// All octets were used, and nothing is handed out.
+    /// Nothing: all octets were used, and nothing was handed out.
     Done,
-    /// A response is whole.
+    /// Nothing: a response is complete.
     Whole,
-    /// A request is whole: it is to be answered.
+    /// Answer a complete request.
     Answer { id: u32, request: Request },
-    /// A request is too large: its stream is to be reset.
+    /// Reset the stream of a request that is too large.
     Reset { id: u32 },
 }
 
-/// The requests that aren't whole, by their streams.
+/// The requests that aren't complete, by stream.
 #[derive(Drop)]
 pub(crate) struct Requests {
     pub(crate) alloc: Global,
@@ -62,7 +62,7 @@ pub(crate) struct Requests {
 
 impl Request {
     // rule: engines (own) An answer to HEAD has neither body nor content-length
-    /// A request of which the head has come, with room for it and for a short body that follows.
+    /// Begins a request with its head, with room for a short body.
     fn begin(alloc: Global, head: &FieldList, end: bool) -> Result<Request, AllocError>
         ensures { IfOk result (λ request. IsRequest head.now [] request) }
     {
@@ -85,7 +85,7 @@ impl Request {
     }
 
     // rule: engines (own) A request of more than 1,048,576 octets is ENHANCE_YOUR_CALM
-    /// How many octets of its body may follow.
+    /// Returns how many octets of its body may follow.
     fn room(&self) -> usize
         ensures { result ≡ body_room self.now }
     {
@@ -93,7 +93,7 @@ impl Request {
         GREATEST_BODY.saturating_sub(body)
     }
 
-    /// Adds octets of its body.
+    /// Appends octets to its body.
     fn extend(&mut self, bytes: &[u8]) -> Result<(), AllocError>
         ensures { OnOk result (IsLonger self.old bytes.now self.new) }
     {
@@ -102,9 +102,9 @@ impl Request {
     }
 
     // rule: engines (own) What is reserved for a body is at most ten times what is kept
-    /// Makes room for octets of a body, where there is too little, and for those that are to follow
-    /// them as its head says, but for at most ten times what is kept. Where that is no room for
-    /// these octets, or the head says nothing, none is made: then it doubles as they are added.
+    /// Reserves room for what the head says will follow, up to ten times what is kept in all.
+    /// Reserves none where there is room for `count` octets, where that would not be enough for
+    /// them, or where the head says nothing: then the room doubles as octets are appended.
     fn make_room(&mut self, count: usize) -> Result<(), AllocError>
         ensures text { self.new.text.items ≡ self.old.text.items }
         ensures start { self.new.start ≡ self.old.start }
@@ -126,7 +126,7 @@ impl Request {
     }
 
     // rule: engines (own) An answer to HEAD has neither body nor content-length
-    /// What it is answered with.
+    /// Returns the message that answers it.
     ///
     /// # Errors
     ///
@@ -155,7 +155,7 @@ impl Request {
     }
 }
 
-/// A field of a name of the program, which may be indexed.
+/// Makes a field with a name of this program, which may be indexed.
 fn plain_field(name: &'static [u8], value: Octets) -> Field
     ensures { result ≡ plain_field name.now value }
 {
@@ -167,7 +167,7 @@ fn plain_field(name: &'static [u8], value: Octets) -> Field
 }
 
 impl Requests {
-    /// No requests.
+    /// Returns an empty table.
     pub(crate) fn new(alloc: Global) -> Requests
         ensures { all_of result.kept ≡ [] }
     {
@@ -178,7 +178,7 @@ impl Requests {
     }
 
     // rule: engines (own) A request that is whole is answered once, by method, path and body
-    /// Keeps what was handed out of a request, and says what is to be done.
+    /// Keeps a part of a request, and returns what is to be done next.
     ///
     /// # Errors
     ///
@@ -205,7 +205,7 @@ impl Requests {
     }
 
     // rule: engines (own) A request of more than 1,048,576 octets is ENHANCE_YOUR_CALM
-    /// Adds octets to the body of a request.
+    /// Appends octets to the body of a request.
     fn add(&mut self, id: u32, bytes: &[u8], end: bool) -> Result<Next, AllocError>
         ensures { IfOk result (λ next. AddsOctets self.old self.new id bytes.now end
             (request_at id self.old) next) }
@@ -225,7 +225,7 @@ impl Requests {
     }
 
     // rule: engines (own) A request that is whole is answered once, by method, path and body
-    /// Adds the last octets to the body of a request, which is taken out.
+    /// Takes a request out, and appends the last octets to its body.
     fn add_last(&mut self, id: u32, bytes: &[u8]) -> Result<Next, AllocError>
         ensures { IfOk result (λ next. AddsOctets self.old self.new id bytes.now true
             (request_at id self.old) next) }
@@ -241,7 +241,7 @@ impl Requests {
     }
 
     // rule: engines (own) A request that is whole is answered once, by method, path and body
-    /// Takes out a request that is whole.
+    /// Takes out a complete request.
     fn end(&mut self, id: u32) -> Next
         ensures { EndsKept self.old self.new id (request_at id self.old) result }
     {
@@ -252,7 +252,7 @@ impl Requests {
     }
 }
 
-/// The value of the first field with this name; no octets where there is none.
+/// Returns the value of the first field with this name, or no octets.
 #[tactic(auto, unfolding(h2_message::specs::Fields::value_or_nothing, h2_message::specs::Fields::or_nothing))]
 fn value_or_nothing<'a>(fields: &'a FieldList, name: &[u8]) -> &'a [u8]
     ensures { result.now ≡ value_or_nothing name.now fields.now }
@@ -263,8 +263,8 @@ fn value_or_nothing<'a>(fields: &'a FieldList, name: &[u8]) -> &'a [u8]
     }
 }
 
-/// How many octets of a body follow a head, as it says, but at most as many as a request may have;
-/// 0 where it ends the request or says nothing.
+/// Returns the `content-length` of a head, at most 1,048,576; 0 where the head ends the request
+/// or has none.
 fn announced_octets(head: &FieldList, end: bool) -> usize
     ensures { result ≤ 1048576 }
 {

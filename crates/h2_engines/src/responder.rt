@@ -1,4 +1,4 @@
-//! A server that answers each whole request with what it asked.
+//! A server that answers each complete request with the request itself.
 
 ghost use Rattle.std.specs.Prelude.{◌≡◌, ◌≤◌, ◌<◌, ◌^◌, [], IfOk, IfErr, length, true};
 ghost use Rattle.h2_flow.specs.ConfigValues.{values_of};
@@ -21,9 +21,10 @@ use h2_ends::{Code, Config, EndRefusal, Refusal, Server};
 use h2_link::LinkError;
 use std::alloc::Global;
 
-/// A server that answers each whole request with its method, a space, its path, a line end and its
-/// body. An answer to HEAD has neither body nor `content-length`. A stream whose request has a body
-/// of more than 1,048,576 octets is reset with ENHANCE_YOUR_CALM. It does no input or output.
+/// A server that answers each complete request with its method, a space, its path, a line end
+/// and its body. It does no input or output. A response to HEAD has neither body nor
+/// `content-length`. A stream whose request has a body of more than 1,048,576 octets is reset
+/// with ENHANCE_YOUR_CALM.
 #[derive(Drop)]
 pub struct Responder {
     pub(crate) alloc: Global,
@@ -34,7 +35,7 @@ pub struct Responder {
 }
 
 impl Responder {
-    /// A new one.
+    /// Returns a server whose opening is queued.
     ///
     /// # Errors
     ///
@@ -59,7 +60,7 @@ impl Responder {
         })
     }
 
-    /// Hands octets to `take` once, and keeps what is handed out of requests.
+    /// Hands octets to `take` once, and keeps the parts of requests that are handed out.
     pub(crate) fn hear(&mut self, piece: &[u8]) -> Result<Heard, LinkError>
         ensures hears { ServerHears self.old.server.end self.new.server.end self.old.requests
             self.new.requests piece.now result }
@@ -87,7 +88,7 @@ impl Responder {
 
     // rule: engines (own) A request that is whole is answered once, by method, path and body
     // rule: engines (own) N5 comes only where a write has taken nothing
-    /// Answers a request that is whole.
+    /// Answers a complete request.
     pub(crate) fn answer(&mut self, id: u32, request: Request) -> Result<(), LinkError>
         ensures answers { ServerAnswers self.old.server.end self.new.server.end id
             (answer_with request.text.items request.to_head) self.old.answered result }
@@ -126,14 +127,15 @@ impl Responder {
     }
 
     // rule: engines (own) Without a link a server answers whole requests, a client reads one
-    /// Takes all octets of a piece, and answers the requests that are whole with them.
+    /// Takes all octets of a piece, and answers the requests that they complete.
     ///
     /// # Errors
     ///
-    /// [`LinkError::Stream`] (N2) where the connection failed, whose GOAWAY waits, or where no
-    /// stream can be reset any more, with ENHANCE_YOUR_CALM; [`LinkError::Memory`] (N3) where an
-    /// allocation was refused; [`LinkError::NoProgress`] (N5) where so much output waits that a
-    /// request can't be answered, and after 2^64 - 1 rounds or 2^32 - 1 answers.
+    /// - [`LinkError::Stream`] (N2) where the connection failed, whose GOAWAY waits; or, with
+    ///   ENHANCE_YOUR_CALM, where 1,000 streams were reset and no more can be.
+    /// - [`LinkError::Memory`] (N3) where an allocation was refused.
+    /// - [`LinkError::NoProgress`] (N5) where so much output waits that a request can't be
+    ///   answered, and after 2^64 - 1 rounds or 2^32 - 1 responses.
     pub fn take_in(&mut self, piece: &[u8]) -> Result<(), LinkError>
         ensures takes { ServerTakesIn self.old self.new piece.now result }
         ensures err { IfErr result IsOfServer }
@@ -144,13 +146,14 @@ impl Responder {
     }
 
     // rule: engines (own) Without a link a server answers whole requests, a client reads one
-    /// Gives back all that is owed, sends what waits of answers as windows allow, and appends at
-    /// most `count` octets of the output to `out`: fewer only where no more wait. Answers how many.
-    /// Once the connection has failed it puts out what waits, GOAWAY last.
+    /// Returns all credit that is owed, sends what waits of responses as windows allow, and
+    /// appends at most `count` octets of the output to `out`, fewer only where no more wait.
+    /// Returns their number. Once the connection has failed it still puts out what waits,
+    /// GOAWAY last.
     ///
     /// # Errors
     ///
-    /// [`LinkError::Memory`] (N3) where an allocation was refused; then nothing is appended.
+    /// [`LinkError::Memory`] (N3) where an allocation was refused; nothing is appended.
     pub fn put_out(&mut self, count: usize, out: &mut Vec<u8>) -> Result<usize, LinkError>
         ensures puts { ServerPutsOut self.old self.new count out.old.items out.new.items result }
         ensures answered { self.new.answered ≡ self.old.answered }
@@ -161,12 +164,12 @@ impl Responder {
     }
 
     // rule: engines (own) N4 comes only where the input ended early
-    /// How many requests were answered, once the input has ended.
+    /// Returns how many requests were answered, once the input has ended.
     ///
     /// # Errors
     ///
-    /// [`LinkError::CutOff`] (N4) where it has ended inside the preface or a frame, or a stream is
-    /// active.
+    /// [`LinkError::CutOff`] (N4) where it ended inside the preface or a frame, or while a
+    /// stream was active.
     pub(crate) fn finish(&self) -> Result<u32, LinkError>
         ensures finishes { ServerFinishes self.now.server.end self.now.answered result }
         ensures err { IfErr result (λ error. error ≡ LinkError.CutOff) }

@@ -18,22 +18,26 @@ use std::alloc::Global;
 // contract: engines (own) A request of more than 1,048,576 octets is ENHANCE_YOUR_CALM
 // rule: engines (own) N1 comes exactly where a call of the link has failed
 // contract: engines (own) N2 has the code with which the connection failed; memory is N3
-/// Serves a connection until its input ends: answers each whole request with its method, a space,
-/// its path, a line end and its body, and answers how many requests were answered. An answer to
-/// HEAD has neither body nor `content-length`. A stream whose request has a body of more than
-/// 1,048,576 octets is reset with ENHANCE_YOUR_CALM. Where the input ends, the credit of the
-/// connection was returned and each answer was sent whole; where it ends too early, all that was
-/// owed was given back, and nothing that waits could go.
+/// Serves a connection until its input ends, and returns how many requests were answered.
+/// Answers each complete request with its method, a space, its path, a line end and its body; a
+/// response to HEAD has neither body nor `content-length`. Resets a stream with
+/// ENHANCE_YOUR_CALM whose request has a body of more than 1,048,576 octets.
+///
+/// Where the input ends, the connection's credit was returned and each response was sent
+/// completely. Where it ends too early (N4), all credit that was owed was returned, and nothing
+/// that waits could be sent.
 ///
 /// # Errors
 ///
-/// [`LinkError::Device`] (N1) where the link failed; [`LinkError::Stream`] (N2) where the
-/// connection failed, once its GOAWAY was written, or where no stream can be reset any more, with
-/// ENHANCE_YOUR_CALM; [`LinkError::Memory`] (N3) where an allocation was refused;
-/// [`LinkError::CutOff`] (N4) where the input ended inside the preface or a frame, or while a
-/// stream was active; [`LinkError::NoProgress`] (N5) where a write took nothing, and also where
-/// nothing could go on, which is not expected: after 2^64 - 1 rounds or 2^32 - 1 answers, or where
-/// the end refuses an answer or a reset.
+/// - [`LinkError::Device`] (N1) where the link failed.
+/// - [`LinkError::Stream`] (N2) where the connection failed, once its GOAWAY was written; or,
+///   with ENHANCE_YOUR_CALM, where 1,000 streams were reset and no more can be.
+/// - [`LinkError::Memory`] (N3) where an allocation was refused.
+/// - [`LinkError::CutOff`] (N4) where the input ended inside the preface or a frame, or while a
+///   stream was active.
+/// - [`LinkError::NoProgress`] (N5) where a write took nothing; also, which is not expected,
+///   after 2^64 - 1 rounds or 2^32 - 1 responses, or where the end refuses a response or a
+///   reset.
 pub fn serve_link<L: Link>(alloc: Global, link: &mut L, config: Config) -> Result<u32, LinkError>
     requires { L.faults link.old < 2 ^ 64 - 1 }
     ensures serves { Serves (values_of config)
@@ -50,8 +54,8 @@ pub fn serve_link<L: Link>(alloc: Global, link: &mut L, config: Config) -> Resul
 
 // contract: engines (own) Over a link it is said why the connection has failed
 // rule: engines (own) Over a link it is said why the connection has failed
-/// As [`serve_link`], and says in `why` why its connection has failed, if it has: the rule that the
-/// client has broken, or what else has ended it.
+/// Does what [`serve_link`] does, and sets `why` to the reason for which the connection has
+/// failed, if it has: the rule that the client has broken, or what else has ended it.
 ///
 /// # Errors
 ///

@@ -10,7 +10,7 @@ use h2_ends::{Client, EndRefusal, Message, Refusal};
 use h2_link::LinkError;
 
 // rule: engines (own) Responses of several requests are what is handed out, each in order
-/// Makes a request, and answers its stream; or how the fetch ends, where it was refused.
+/// Makes a request, and returns its stream; or returns how the fetch ends, if it was refused.
 pub(crate) fn request_next(client: &mut Client, message: Message) -> Result<u32, LinkError>
     ensures { RequestsOnce client.old.end client.new.end (message_value message) result }
 {
@@ -20,7 +20,7 @@ pub(crate) fn request_next(client: &mut Client, message: Message) -> Result<u32,
     }
 }
 
-/// How a fetch ends whose request was refused for this.
+/// Returns how a fetch ends whose request was refused.
 fn error_of_request(refusal: EndRefusal) -> LinkError
     ensures { result ≡ error_of_request refusal }
 {

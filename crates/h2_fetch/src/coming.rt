@@ -1,4 +1,4 @@
-//! What has come of several responses with octets.
+//! What a client received of several responses.
 
 ghost use Rattle.std.specs.Prelude.{◌≡◌, ◌≢◌, ◌≤◌, IfErr, IfOk, Some, length};
 ghost use Rattle.h2_ends.specs.Loans.{event_handed};
@@ -13,28 +13,28 @@ use h2_ends::{Client, Code, EndEvent, FieldList};
 use h2_link::LinkError;
 use std::alloc::{AllocError, Global};
 
-/// What a client made of a piece.
+/// The result of handing a piece to a client.
 #[derive(Drop)]
 pub(crate) struct CameTaken {
-    /// So many octets were used.
+    /// How many octets were used.
     pub(crate) used: usize,
-    /// What comes of them.
+    /// What was received with them.
     pub(crate) next: CameNext,
 }
 
-/// What comes of octets that a client took.
+/// What a client received with octets.
 #[derive(Drop)]
 pub(crate) enum CameNext {
-    /// This has come on a stream.
+    /// This, on this stream.
     On(u32, Came),
-    /// Nothing has, and some octets may be left.
+    /// Nothing, and octets may be left.
     Again,
-    /// Nothing has, and no octets are left.
+    /// Nothing, and no octets are left.
     Done,
 }
 
 // rule: engines (own) Responses of several requests are what is handed out, each in order
-/// Hands octets to `take` once, and answers what has come on one of these streams.
+/// Hands octets to `take` once, and returns what came on one of these streams.
 pub(crate) fn take_came(
     alloc: Global,
     client: &mut Client,
@@ -64,7 +64,7 @@ pub(crate) fn take_came(
     }
 }
 
-/// What comes of octets, but for what says nothing, which is dropped.
+/// Replaces what says nothing by [`CameNext::Again`].
 pub(crate) fn without_empty(next: CameNext) -> CameNext
     ensures { result ≡ without_empty next }
 {
@@ -74,8 +74,8 @@ pub(crate) fn without_empty(next: CameNext) -> CameNext
     next
 }
 
-/// Whether what has come says nothing: an interim response, or a part of a body without octets that
-/// ends nothing. No window bounds how many of them come.
+/// Returns whether this is an interim response, or an empty part of a body that doesn't end it.
+/// No window bounds how many of these come.
 fn says_nothing(next: &CameNext) -> bool
     ensures { result ≡ says_nothing next.now }
 {
@@ -87,7 +87,7 @@ fn says_nothing(next: &CameNext) -> bool
 }
 
 // rule: engines (own) Responses of several requests are what is handed out, each in order
-/// What was handed out, where it has come on one of these streams.
+/// Returns what an event says of one of these streams.
 fn came_of(
     alloc: Global,
     ids: &[u32],
@@ -114,8 +114,8 @@ fn came_of(
     }
 }
 
-/// The stream of what was handed out, where that is a part of a final response, or no more comes on
-/// it.
+/// Returns the stream of an event that is a part of a final response, or after which no more
+/// comes on the stream.
 fn stream_of_handed(event: EndEvent<&FieldList, &[u8]>) -> Option<u32>
     ensures { result ≡ stream_of_handed (event_handed event.entry) }
 {

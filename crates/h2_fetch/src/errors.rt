@@ -1,4 +1,4 @@
-//! How a fetch ends, by what a call of its client has answered.
+//! How a fetch ends, by the result of a call of its client.
 
 ghost use Rattle.std.specs.Prelude.{◌≡◌, ◌≢◌, Ok, Err, IfOk, IfErr};
 ghost use Rattle.h2_engines.specs.Failures.{IsOfCall, IsOfClient, error_after};
@@ -8,7 +8,8 @@ use h2_ends::{Code, ConnFault, EndRefusal, Refusal};
 use h2_link::LinkError;
 
 // rule: engines (own) N2 has the code with which the connection failed; memory is N3
-/// What `take` of a client has answered; or, where the connection has failed, how the fetch ends.
+/// Returns the value of a call of `take`; or, where the connection has failed, how the fetch
+/// ends.
 pub(crate) fn unless_failed<T>(answer: Result<T, ConnFault>) -> Result<T, LinkError>
     ensures ok { IfOk result (λ value. answer ≡ Ok value) }
     ensures err { IfErr result (λ error. (fault : ConnFault) × (answer ≡ Err fault)
@@ -22,7 +23,7 @@ pub(crate) fn unless_failed<T>(answer: Result<T, ConnFault>) -> Result<T, LinkEr
     }
 }
 
-/// How a fetch ends once the connection has failed with a code.
+/// Returns how a fetch ends once the connection has failed with a code.
 fn error_of_code(code: Code) -> LinkError
     ensures error { result ≡ error_with code }
     ensures kind { IsOfClient result }
@@ -35,8 +36,8 @@ fn error_of_code(code: Code) -> LinkError
 }
 
 // rule: engines (own) N5 comes only where a write has taken nothing
-/// How a fetch ends once a call was refused: [`Refusal::Memory`] (C12) is [`LinkError::Memory`]
-/// (N3), and any other [`LinkError::NoProgress`] (N5).
+/// Returns how a fetch ends once a call was refused: [`Refusal::Memory`] (C12) becomes
+/// [`LinkError::Memory`] (N3), any other refusal [`LinkError::NoProgress`] (N5).
 pub(crate) fn error_of_refusal(refusal: EndRefusal) -> LinkError
     ensures error { result ≡ error_after refusal }
     ensures kind { IsOfCall result }
@@ -47,7 +48,7 @@ pub(crate) fn error_of_refusal(refusal: EndRefusal) -> LinkError
     }
 }
 
-/// What a call of a client has answered; or, where it was refused, how the fetch ends.
+/// Returns the value of a call of a client; or, where the call was refused, how the fetch ends.
 pub(crate) fn unless_refused<T, E: Into<EndRefusal>>(answer: Result<T, E>) -> Result<T, LinkError>
     ensures ok { IfOk result (λ value. answer ≡ Ok value) }
     ensures err { IfErr result (λ error. (refused : E) × (refusal : EndRefusal)

@@ -17,38 +17,39 @@ use h2_ends::{Client, Code, Config, Conn, EndEvent, EndRefusal, Message, Refusal
 use h2_link::{Link, LinkError};
 use std::alloc::Global;
 
-/// A client that makes one request over a link, and answers its response part by part. It keeps one
-/// piece of the input, and lets the server send more only once the next piece is read.
+/// A client that makes one request over a link and returns its response part by part. It keeps
+/// one piece of the input, and returns credit to the server only once the next piece is to be
+/// read.
 #[derive(Drop)]
 pub struct PartFetch {
     pub(crate) alloc: Global,
     pub(crate) client: Client,
     /// The stream of the request.
     pub(crate) id: u32,
-    /// What was read last.
+    /// The octets that were read last.
     pub(crate) input: Vec<u8>,
-    /// So many octets of it were used.
+    /// How many of them were used.
     pub(crate) used: usize,
     pub(crate) ghost within: { used ≤ length input.items },
 }
 
-/// What a client made of a piece.
+/// The result of handing a piece to a client.
 #[derive(Drop)]
 pub(crate) struct PartTaken {
-    /// So many octets were used.
+    /// How many octets were used.
     pub(crate) used: usize,
-    /// What comes of them.
+    /// What was received with them.
     pub(crate) next: PartNext,
 }
 
-/// What comes of octets that a client took.
+/// What a client received with octets.
 #[derive(Drop)]
 pub(crate) enum PartNext {
-    /// This part of the response is handed out.
+    /// This part of the response.
     Part(ResponsePart),
-    /// Nothing of it, and some octets may be left.
+    /// Nothing of the response, and octets may be left.
     Again,
-    /// Nothing of it, and no octets are left.
+    /// Nothing of the response, and no octets are left.
     Done,
 }
 
@@ -57,12 +58,13 @@ impl PartFetch {
     ghost use Rattle.h2_fetch.specs.Comings.{TakesUntilPart};
 
     // rule: engines (own) N7 comes only where the message breaks a rule or is too large
-    /// A new one, whose opening and the head of the request wait.
+    /// Makes a client, and queues its opening and the head of the request.
     ///
     /// # Errors
     ///
-    /// [`LinkError::Refused`] (N7) where the message breaks a rule or its fields are too many,
-    /// [`LinkError::Memory`] (N3) where an allocation was refused.
+    /// - [`LinkError::Memory`] (N3) where an allocation was refused.
+    /// - [`LinkError::Refused`] (N7) where the message breaks a rule, or its head or its
+    ///   trailers are larger than 65,536 octets.
     pub fn new(alloc: Global, config: Config, message: Message) -> Result<PartFetch, LinkError>
         ensures ok { IfOk result (BeginsFetch (values_of config) (message_value message)) }
         ensures refused { IfErr result (λ error. IsNotAccepted (values_of config)
@@ -86,7 +88,8 @@ impl PartFetch {
         }
     }
 
-    /// Its connection, for what that answers of itself, as why it has failed. It takes no memory.
+    /// Returns the connection, which knows why it has failed ([`Conn::why`]). It takes no
+    /// memory.
     pub fn conn(&self) -> &Conn
         ensures { result.now ≡ self.now.client.end.conn }
     {
@@ -95,18 +98,21 @@ impl PartFetch {
 
     // contract: engines (own) A response in parts is what is handed out, in order
     // rule: engines (own) A response in parts is what is handed out, in order
-    /// The next part of the response. Where none is there, all that is owed is released, what waits
-    /// is written, and then the link is read. Nothing is to be asked for after the part with which
-    /// the response is whole. A link that has failed isn't used any more.
+    /// Returns the next part of the response. If none was received yet, returns all credit that
+    /// is owed, writes what waits, and then reads the link. Don't call it after the part that
+    /// ends the response, nor with a link that has failed.
     ///
     /// # Errors
     ///
-    /// [`LinkError::Device`] (N1) where the link failed; [`LinkError::Stream`] (N2) where the
-    /// connection failed, once its GOAWAY was written; [`LinkError::Memory`] (N3) where an
-    /// allocation was refused; [`LinkError::CutOff`] (N4) where the input ended;
-    /// [`LinkError::NoProgress`] (N5) where a write took nothing, and after 2^64 - 1 rounds;
-    /// [`LinkError::Reset`] (N6) where the stream was reset, by either end, or was not processed.
-    /// All parts before were answered; out of memory the next one may be lost.
+    /// Parts before the error were all returned; after N3 one part may be lost.
+    ///
+    /// - [`LinkError::Device`] (N1) where the link failed.
+    /// - [`LinkError::Stream`] (N2) where the connection failed, once its GOAWAY was written.
+    /// - [`LinkError::Memory`] (N3) where an allocation was refused.
+    /// - [`LinkError::CutOff`] (N4) where the input ended.
+    /// - [`LinkError::NoProgress`] (N5) where a write took nothing, and after 2^64 - 1 rounds.
+    /// - [`LinkError::Reset`] (N6) where either end reset the stream, or the server did not
+    ///   process the request.
     pub fn next<L: Link>(&mut self, link: &mut L) -> Result<ResponsePart, LinkError>
         requires { L.faults link.old < 2 ^ 64 - 1 }
         ensures next { AnswersNext
@@ -127,7 +133,7 @@ impl PartFetch {
         Err(LinkError::NoProgress)
     }
 
-    /// Takes what was read until a part of the response is handed out, or all of it was used.
+    /// Takes what was read until a part of the response is handed out, or all is used.
     fn take_next(&mut self) -> Result<Option<ResponsePart>, LinkError>
         ensures takes { TakesUntilPart self.old self.new result }
         ensures stream { self.new.id ≡ self.old.id }
@@ -147,7 +153,7 @@ impl PartFetch {
         Err(LinkError::NoProgress)
     }
 
-    /// Sends what could go, and reads a piece.
+    /// Sends what can go, and reads a piece.
     fn refill<L: Link>(&mut self, link: &mut L) -> Result<(), LinkError>
         requires { L.faults link.old < 2 ^ 64 - 1 }
         ensures refills { Refills
@@ -162,8 +168,7 @@ impl PartFetch {
         read_piece(&mut self.client, Credit::All, &mut self.input, link)
     }
 
-    /// How a fetch ends that can't go on. Where the connection has failed, all that waits is
-    /// written.
+    /// Ends a fetch with this error. Where the connection has failed, writes what waits first.
     fn end_early<L: Link>(&mut self, link: &mut L, error: LinkError) -> LinkError
         requires fits { L.faults link.old < 2 ^ 64 - 1 }
         requires is { IsOfClient error }
@@ -182,7 +187,7 @@ impl PartFetch {
 
 // rule: engines (own) A response in parts is what is handed out, in order
 // rule: engines (own) N6 has the code with which the request's stream was reset
-/// Hands octets to `take` once, and answers the part of the response that is handed out.
+/// Hands octets to `take` once, and returns the part of the response that is handed out.
 fn take_part(
     alloc: Global,
     client: &mut Client,
@@ -217,7 +222,7 @@ fn take_part(
     }
 }
 
-/// What comes of octets with which something was handed out: this part of the response, or none.
+/// Returns what was received with an event: this part of the response, or nothing.
 fn next_of(part: Option<ResponsePart>) -> PartNext
     ensures part { part_in result ≡ part }
     ensures more { result ≢ PartNext.Done }

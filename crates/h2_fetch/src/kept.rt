@@ -8,7 +8,7 @@ use std::alloc::AllocError;
 use std::collections::VecDeque;
 
 // rule: engines (own) Responses of several requests are what is handed out, each in order
-/// The first that is kept of a stream, which is taken from there.
+/// Takes out the first that is kept of a stream.
 pub(crate) fn take_kept(kept: &mut VecDeque<(u32, Came)>, id: u32) -> Option<Came>
     ensures { TakesKept id kept.old.items kept.new.items result }
 {
@@ -17,7 +17,7 @@ pub(crate) fn take_kept(kept: &mut VecDeque<(u32, Came)>, id: u32) -> Option<Cam
     Some(came)
 }
 
-/// Where that is.
+/// Returns its place.
 fn place_of(kept: &VecDeque<(u32, Came)>, id: u32) -> Option<usize>
     ensures { result ≡ position (is_of id) kept.now.items }
 {
@@ -25,7 +25,7 @@ fn place_of(kept: &VecDeque<(u32, Came)>, id: u32) -> Option<usize>
 }
 
 // rule: engines (own) Responses of several requests are what is handed out, each in order
-/// Keeps what has come on a stream, after all that is kept.
+/// Keeps what came on a stream, after all that is kept.
 pub(crate) fn keep(kept: &mut VecDeque<(u32, Came)>, id: u32, came: Came) -> Result<(), AllocError>
     ensures ok { OnOk result (kept.new.items ≡ kept.old.items ++ (id, came) ∷ []) }
     ensures err { OnErr result (kept.new.items ≡ kept.old.items) }

@@ -1,6 +1,6 @@
-//! Clients that make one request over any link (RFC 9113), or several at once, and answer each
-//! response part by part, as it comes. They keep one piece of the input, and let the server send
-//! more only once the next piece is read.
+//! Clients that make one request, or several at once, over any link (RFC 9113), and return each
+//! response part by part as it comes. They keep one piece of the input, and return credit to
+//! the server only once the next piece is to be read.
 #![tactic(auto)]
 
 mod asking;

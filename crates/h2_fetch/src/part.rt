@@ -8,7 +8,7 @@ ghost use Rattle.h2_fetch.specs.Parts.{HandsPart};
 use h2_ends::{EndEvent, Field, FieldList};
 use std::alloc::{AllocError, Global};
 
-/// A part of a response, as it has come.
+/// A part of a response.
 #[derive(Debug, Drop)]
 pub enum ResponsePart {
     /// The head of an interim response (1xx; RFC 9113, section 8.1).
@@ -20,17 +20,17 @@ pub enum ResponsePart {
     Head {
         /// Its fields, in order.
         list: Vec<Field>,
-        /// Whether the response is whole.
+        /// Whether the response is complete.
         end: bool,
     },
     /// Octets of the body.
     Body {
         /// The octets; there may be none.
         octets: Vec<u8>,
-        /// Whether the response is whole.
+        /// Whether the response is complete.
         end: bool,
     },
-    /// The trailers: the response is whole.
+    /// The trailers: the response is complete.
     Trailers {
         /// Their fields, in order.
         list: Vec<Field>,
@@ -38,8 +38,8 @@ pub enum ResponsePart {
 }
 
 // rule: engines (own) A response in parts is what is handed out, in order
-/// What was handed out, where it is a part of the response on a stream. Memory is refused only for
-/// a part of a message.
+/// Returns the part of the response on a stream that an event is, if it is one. Memory is
+/// refused only for a part of a message.
 pub(crate) fn part_of(
     alloc: Global,
     stream: u32,

@@ -9,11 +9,11 @@ use crate::sending::{Credit, send_all};
 use h2_ends::Client;
 use h2_link::{Link, LinkError};
 
-/// How many octets are read at a time, at most.
+/// The length of a read in octets, at most.
 const PIECE: usize = 16_384;
 
-/// Returns this credit, sends what could go, and reads a piece in the place of the one before,
-/// all of which was used.
+/// Returns this credit, sends what can go, and reads a piece in place of the one before, which
+/// was used completely.
 pub(crate) fn read_piece<L: Link>(
     client: &mut Client,
     credit: Credit,

@@ -24,8 +24,8 @@ pub(crate) enum Credit {
 }
 
 // rule: engines (own) Over a link credit is returned and what could be sent is sent
-/// Returns what is owed, sends what waits of the requests, and writes all of that, until nothing
-/// more could go.
+/// Returns credit, sends what waits of the requests, and writes the output, until nothing more
+/// can go.
 pub(crate) fn send_all<L: Link>(
     client: &mut Client,
     credit: Credit,
@@ -51,8 +51,8 @@ pub(crate) fn send_all<L: Link>(
 }
 
 // rule: engines (own) Over a link credit is returned and what could be sent is sent
-/// Returns what is owed and sends what waits of the requests, while the connection is up. What a
-/// full output holds back is returned later.
+/// Returns credit and sends what waits of the requests, while the connection is up. A full
+/// output puts credit off to a later call.
 fn send_waiting(client: &mut Client, credit: Credit) -> Result<(), LinkError>
     ensures sends { SendsCredit credit client.old.end client.new.end result }
     ensures err { IfErr result IsOfCall }
@@ -68,7 +68,7 @@ fn send_waiting(client: &mut Client, credit: Credit) -> Result<(), LinkError>
 }
 
 // rule: engines (own) A response that is waited for has its window, and no other
-/// Returns what is owed while the connection is up: all of it, or that of one stream.
+/// Returns all credit that is owed, or that of one stream.
 fn return_credit(client: &mut Client, credit: Credit) -> Result<(), EndRefusal>
     ensures { ReturnsCredit credit client.old.end client.new.end result }
 {
@@ -95,7 +95,8 @@ fn pump(client: &mut Client) -> Result<(), LinkError>
 }
 
 // rule: engines (own) Over a link input is used in order and all output is written
-/// Writes all output that waits, from where it lies. What was not written is lost where it fails.
+/// Writes all output that waits, from where it lies. After a fault of the link the unwritten
+/// output is lost.
 pub(crate) fn write_out<L: Link>(client: &mut Client, link: &mut L) -> Result<(), LinkError>
     requires { L.faults link.old < 2 ^ 64 - 1 }
     ensures writes { WritesOver
@@ -118,7 +119,7 @@ pub(crate) fn write_out<L: Link>(client: &mut Client, link: &mut L) -> Result<()
     Err(LinkError::NoProgress)
 }
 
-/// How a fetch ends that can't go on. Where the connection has failed, all that waits is written.
+/// Ends a fetch with this error. Where the connection has failed, writes what waits first.
 pub(crate) fn end_early<L: Link>(client: &mut Client, link: &mut L, error: LinkError) -> LinkError
     requires fits { L.faults link.old < 2 ^ 64 - 1 }
     requires is { IsOfClient error }

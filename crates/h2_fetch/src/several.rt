@@ -17,36 +17,36 @@ use h2_link::{Link, LinkError};
 use std::alloc::Global;
 use std::collections::VecDeque;
 
-/// What has come on a stream.
+/// What came on a stream.
 #[derive(Debug, Drop)]
 pub enum Came {
     /// The next part of the response.
     Part(ResponsePart),
-    /// The stream was reset with this code, by either end (RFC 9113, section 6.4), or its request
-    /// was not processed (section 6.8), with REFUSED_STREAM. No more comes on it.
+    /// The stream was reset with this code, by either end (RFC 9113, section 6.4); or its
+    /// request was not processed (section 6.8), with REFUSED_STREAM. No more comes on it.
     Dropped(u32),
 }
 
-/// A client that makes several requests at once over a link, and answers the response of each part
-/// by part, of whichever stream is asked for. What comes of the others meanwhile is kept until it
-/// is asked for: no more of a body than a stream's window, since that is opened again only for the
-/// stream that is asked for. Interim responses and parts of a body without octets, which no window
-/// bounds, are dropped.
+/// A client that makes several requests at once over a link, and returns each response part by
+/// part, for the stream that the caller asks for. What comes on other streams meanwhile is kept
+/// until it is asked for: of a body no more than the stream's window, since credit is returned
+/// only on the stream that is asked for. Interim responses and empty parts of a body that don't
+/// end it are dropped, since no window bounds them.
 ///
-/// The connection's window is 65,535 octets, and what is kept takes its part of that. So with `n`
-/// requests, the windows of streams ([`Config::initial_window`]) are to be 65,535 / `n` octets at
-/// most: else what is kept may take all of it, and nothing more comes.
+/// The connection's window is 65,535 octets, and bodies that are kept use it up. So with `n`
+/// requests set [`Config::initial_window`] to 65,535 / `n` or less: otherwise what is kept may
+/// take all of it, and nothing more comes.
 #[derive(Drop)]
 pub struct SeveralFetch {
     pub(crate) alloc: Global,
     pub(crate) client: Client,
     /// The streams of the requests, in their order.
     pub(crate) ids: Vec<u32>,
-    /// What has come and wasn't answered yet, in its order, with its stream.
+    /// What came and was not asked for yet, in order, with its stream.
     pub(crate) kept: VecDeque<(u32, Came)>,
-    /// What was read last.
+    /// The octets that were read last.
     pub(crate) input: Vec<u8>,
-    /// So many octets of it were used.
+    /// How many of them were used.
     pub(crate) used: usize,
     pub(crate) ghost within: { used ≤ length input.items },
 }
@@ -57,14 +57,15 @@ impl SeveralFetch {
 
     // contract: engines (own) Responses of several requests are what is handed out, each in order
     // rule: engines (own) Responses of several requests are what is handed out, each in order
-    /// A new one, whose opening and the heads of the requests wait. The requests are made at once,
-    /// whatever the server will allow.
+    /// Makes a client, and queues its opening and the heads of the requests, before the
+    /// server's SETTINGS are known.
     ///
     /// # Errors
     ///
-    /// [`LinkError::Refused`] (N7) where a message breaks a rule or its fields are too many,
-    /// [`LinkError::Memory`] (N3) where an allocation was refused, and [`LinkError::NoProgress`]
-    /// (N5) where the client refuses a request for something else.
+    /// - [`LinkError::Memory`] (N3) where an allocation was refused.
+    /// - [`LinkError::NoProgress`] (N5) where the client refuses a request for another reason.
+    /// - [`LinkError::Refused`] (N7) where a message breaks a rule, or its head or its trailers
+    ///   are larger than 65,536 octets.
     pub fn new(
         alloc: Global,
         config: Config,
@@ -95,14 +96,15 @@ impl SeveralFetch {
         })
     }
 
-    /// The streams of the requests, in their order.
+    /// Returns the streams of the requests, in their order.
     pub fn streams(&self) -> &[u32]
         ensures { result.now ≡ self.now.ids.items }
     {
         &self.ids
     }
 
-    /// Its connection, for what that answers of itself, as why it has failed. It takes no memory.
+    /// Returns the connection, which knows why it has failed ([`Conn::why`]). It takes no
+    /// memory.
     pub fn conn(&self) -> &Conn
         ensures { result.now ≡ self.now.client.end.conn }
     {
@@ -111,15 +113,15 @@ impl SeveralFetch {
 
     // contract: engines (own) Responses of several requests are what is handed out, each in order
     // rule: engines (own) Responses of several requests are what is handed out, each in order
-    /// The next part of the response on a stream of its requests. Where none is there, what is owed
-    /// on that stream is released, what waits is written, and then the link is read. Nothing is to
-    /// be asked for after the part with which the response is whole, or after [`Came::Dropped`]. A
-    /// link that has failed isn't used any more.
+    /// Returns what came next on a stream of [`SeveralFetch::streams`]. If nothing is kept of
+    /// it, returns the credit that is owed on that stream, writes what waits, and then reads
+    /// the link. Don't call it after the part that ends the response, after [`Came::Dropped`],
+    /// nor with a link that has failed.
     ///
     /// # Errors
     ///
-    /// As [`crate::PartFetch::next`], but that a reset is an answer. What is kept then is answered
-    /// still, if it is asked for.
+    /// Those of [`crate::PartFetch::next`] except N6, since a reset is [`Came::Dropped`]. What
+    /// is kept can still be asked for after an error.
     pub fn next_on<L: Link>(&mut self, id: u32, link: &mut L) -> Result<Came, LinkError>
         requires { L.faults link.old < 2 ^ 64 - 1 }
         ensures next { AnswersNextOn
@@ -137,7 +139,7 @@ impl SeveralFetch {
     }
 
     // rule: engines (own) Responses of several requests are what is handed out, each in order
-    /// The next on a stream of which nothing is kept.
+    /// Returns the next on a stream of which nothing is kept.
     fn wait_for<L: Link>(&mut self, id: u32, link: &mut L) -> Result<Came, LinkError>
         requires { L.faults link.old < 2 ^ 64 - 1 }
         ensures waits { WaitsFor
@@ -159,8 +161,8 @@ impl SeveralFetch {
     }
 
     // rule: engines (own) Responses of several requests are what is handed out, each in order
-    /// Takes what was read until something has come on a stream, or all of it was used. What has
-    /// come on the others is kept.
+    /// Takes what was read until something came on a stream, or all is used. Keeps what came on
+    /// the others.
     fn take_next(&mut self, id: u32) -> Result<Option<Came>, LinkError>
         ensures takes { TakesUntilCame self.old self.new id result }
         ensures streams { self.new.ids ≡ self.old.ids }
@@ -185,7 +187,7 @@ impl SeveralFetch {
         Err(LinkError::NoProgress)
     }
 
-    /// Returns what is owed on a stream, sends what could go, and reads a piece.
+    /// Returns the credit that is owed on a stream, sends what can go, and reads a piece.
     fn refill<L: Link>(&mut self, id: u32, link: &mut L) -> Result<(), LinkError>
         requires { L.faults link.old < 2 ^ 64 - 1 }
         ensures fills { FillsSeveral

@@ -2,7 +2,7 @@
 
 use h2_ends::{Code, Config, EndRefusal, Field, Message};
 
-/// Which end of the two.
+/// One of the two ends.
 #[derive(Clone, Copy, Debug, PartialEq, Eq, Hash)]
 pub enum Side {
     /// The client.
@@ -11,12 +11,12 @@ pub enum Side {
     Server,
 }
 
-/// Something that is done with the two ends.
+/// An act: a call of one of the two ends, or octets that are moved or delivered.
 #[derive(Debug, Drop)]
 pub enum JointAct {
-    /// The client makes a request: [`Client::request`](h2_ends::Client::request).
+    /// The client sends a request: [`Client::request`](h2_ends::Client::request).
     Request(Message),
-    /// The server gives a response: [`Server::respond`](h2_ends::Server::respond).
+    /// The server sends a response: [`Server::respond`](h2_ends::Server::respond).
     Respond {
         /// The stream of its request.
         id: u32,
@@ -41,10 +41,10 @@ pub enum JointAct {
         id: u32,
         /// The octets.
         octets: Vec<u8>,
-        /// Whether its end comes with them.
+        /// Whether they end the message.
         end: bool,
     },
-    /// An end ends a message that was begun with trailers:
+    /// An end sends trailers, which end a message that was begun:
     /// [`Client::send_trailers`](h2_ends::Client::send_trailers).
     SendTrailers {
         /// The end.
@@ -54,21 +54,22 @@ pub enum JointAct {
         /// The trailers.
         trailers: Vec<Field>,
     },
-    /// An end sends what windows let through: [`Client::pump`](h2_ends::Client::pump).
+    /// An end sends what windows allow of its messages:
+    /// [`Client::pump`](h2_ends::Client::pump).
     Pump(Side),
-    /// An end sends a share of each stream in turn:
+    /// An end sends a share of each of its messages in turn:
     /// [`Client::pump_some`](h2_ends::Client::pump_some).
     PumpSome {
         /// The end.
         side: Side,
-        /// How many octets a share has at most.
+        /// The largest share in octets.
         most: usize,
     },
-    /// Octets of an end's output are put on the pipe to the other end.
+    /// Octets of an end's output are moved to the pipe to the other end.
     Move {
         /// The end whose output it is.
         from: Side,
-        /// How many octets at most: all, if the output has fewer.
+        /// The most octets to move; all, where the output has fewer.
         count: usize,
     },
     /// Octets of the pipe to an end are given to it: [`Client::take`](h2_ends::Client::take) is
@@ -76,10 +77,10 @@ pub enum JointAct {
     Deliver {
         /// The end that takes them.
         to: Side,
-        /// How many octets at most: all, if the pipe has fewer.
+        /// The most octets to deliver; all, where the pipe has fewer.
         count: usize,
     },
-    /// An end returns the credit that it owes:
+    /// An end returns all credit that it owes:
     /// [`Client::release_all`](h2_ends::Client::release_all).
     ReleaseAll(Side),
     /// An end returns credit of one stream: [`Client::release`](h2_ends::Client::release).
@@ -109,7 +110,7 @@ pub enum JointAct {
     },
     /// An end sends GOAWAY: [`Client::go_away`](h2_ends::Client::go_away).
     GoAway(Side),
-    /// An end ends the connection: [`Client::fail`](h2_ends::Client::fail).
+    /// An end fails its connection: [`Client::fail`](h2_ends::Client::fail).
     Fail {
         /// The end.
         side: Side,
@@ -129,23 +130,25 @@ pub enum JointAct {
 /// The result of an act.
 #[derive(Clone, Copy, Debug, PartialEq, Eq)]
 pub enum Acted {
-    /// A Request was sent, or its head by a Begin, on this stream.
+    /// The stream on which a Request was sent, or its head by a Begin.
     Id(u32),
-    /// How many octets a Pump, a PumpSome or a SendBody has sent of bodies, a Move has put on the
-    /// pipe, or a Deliver has delivered.
+    /// How many octets of bodies a Pump, a PumpSome or a SendBody has sent, or how many octets
+    /// a Move has moved or a Deliver has delivered.
     Count(usize),
     /// A Respond, BeginResponse, SendTrailers, ReleaseAll, Release, Reset, Ping, GoAway, Fail or
     /// ChangeSettings was done.
     Done,
-    /// The end has refused it: any act but a Deliver.
+    /// The end refused the call. A Deliver is never refused so.
     Refused(EndRefusal),
-    /// The end has failed with this code as a Deliver handed it octets, or had failed before.
+    /// The end failed with this code as a Deliver gave it octets, or had failed before.
     Failed(Code),
-    /// Memory was refused. Of a Request, a Respond, a Begin, a BeginResponse, a SendBody or a
-    /// SendTrailers: to copy what is given; nothing has changed. Of a Deliver: to make room for the
-    /// event of one more call of `take`. It stopped before that call: the octets that were used are
-    /// off the pipe, and the events are kept; nothing is lost, and the same Deliver, made again,
-    /// continues where this one stopped. A Deliver that called `take` 2^64 - 1 times, as none does,
-    /// would stop in the same way.
+    /// Memory was refused.
+    ///
+    /// - A Request, Respond, Begin, BeginResponse, SendBody or SendTrailers could not copy what
+    ///   it is given. Nothing has changed.
+    /// - A Deliver could not make room for the event of one more call of `take`, and stopped
+    ///   before that call. The octets that were used are off the pipe, their events are kept,
+    ///   and the same Deliver, made again, continues from there. (It would also stop after 2^64
+    ///   - 1 calls of `take`, which is not expected.)
     Memory,
 }

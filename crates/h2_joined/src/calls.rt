@@ -19,7 +19,7 @@ use h2_ends::{Code, Config, EndRefusal, Message, Refusal};
 
 impl Joined {
     // rule: joined (own) An act is the call of its name at its end
-    /// The client makes a request.
+    /// The client sends a request.
     pub(crate) fn request(&mut self, message: &Message) -> Acted
         ensures { MakesAct self.old (made Client (Requests (message_value message.now)) result)
             self.new }
@@ -44,7 +44,7 @@ impl Joined {
     }
 
     // rule: joined (own) An act is the call of its name at its end
-    /// The server gives a response.
+    /// The server sends a response.
     pub(crate) fn respond(&mut self, id: u32, message: &Message) -> Acted
         ensures { MakesAct self.old (made Server (Responds id (message_value message.now)) result)
             self.new }
@@ -69,7 +69,7 @@ impl Joined {
     }
 
     // rule: joined (own) An act is the call of its name at its end
-    /// An end sends what windows let through.
+    /// An end sends what windows allow.
     pub(crate) fn pump(&mut self, side: Side) -> Acted
         ensures { MakesAct self.old (made side Pumps result) self.new }
     {
@@ -80,7 +80,7 @@ impl Joined {
     }
 
     // rule: joined (own) An act is the call of its name at its end
-    /// An end sends a share of each stream in turn.
+    /// An end sends a share of each message in turn.
     pub(crate) fn pump_some(&mut self, side: Side, most: usize) -> Acted
         ensures { MakesAct self.old (made side (PumpsSome most) result) self.new }
     {
@@ -90,7 +90,7 @@ impl Joined {
         })
     }
 
-    /// An end returns the credit that it owes.
+    /// An end returns all credit that it owes.
     pub(crate) fn release_all(&mut self, side: Side) -> Acted
         ensures { MakesAct self.old (made side ReleasesAll result) self.new }
     {
@@ -140,7 +140,7 @@ impl Joined {
         })
     }
 
-    /// An end ends the connection with a code of its caller's.
+    /// An end fails its connection with a code.
     pub(crate) fn fail(&mut self, side: Side, code: Code) -> Acted
         ensures { MakesAct self.old (made side (Calls (Fail code)) result) self.new }
     {

@@ -1,4 +1,4 @@
-//! What an end has handed out, lent.
+//! What an end has handed out, lent to the caller.
 
 ghost use Rattle.std.specs.Prelude.{◌≡◌, ◌==◌, ◌≤◌, length, slice_get, Some, MatchOption};
 ghost use Rattle.h2_joined.specs.Stored.{event_kept, joint_event_value, events_kept, fields_kept};
@@ -16,14 +16,14 @@ pub struct KeptFields<'a> {
 }
 
 impl<'a> KeptFields<'a> {
-    /// How many fields there are.
+    /// Returns how many fields there are.
     pub fn len(&self) -> usize
         ensures { result ≡ length (fields_kept self.now) }
     {
         self.places.len()
     }
 
-    /// Whether there is no field.
+    /// Returns whether there is no field.
     pub fn is_empty(&self) -> bool
         ensures { result ≡ (length (fields_kept self.now) == 0) }
     {
@@ -31,7 +31,7 @@ impl<'a> KeptFields<'a> {
     }
 
     // contract: joined (own) Accepted messages, what was handed out, octets on a pipe are kept
-    /// A field, by its place: 0 is the first.
+    /// Returns the field at a place, from 0; `None` past the last.
     pub fn get(&self, place: usize) -> Option<FieldRef<'a>>
         ensures { MatchOption result (length (fields_kept self.now) ≤ place)
             (λ field. slice_get (fields_kept self.now) place ≡ Some (record {
@@ -64,21 +64,21 @@ impl fmt::Debug for KeptFields<'_> {
     }
 }
 
-/// What an end has handed out, in order, lent.
+/// The events that an end has handed out, in order, lent to the caller.
 #[derive(Clone, Copy)]
 pub struct HandedEvents<'a> {
     pub(crate) store: &'a Store,
 }
 
 impl<'a> HandedEvents<'a> {
-    /// How many events there are.
+    /// Returns how many events there are.
     pub fn len(&self) -> usize
         ensures { result ≡ length (events_kept self.now.store.now) }
     {
         self.store.events.len()
     }
 
-    /// Whether there is no event.
+    /// Returns whether there is no event.
     pub fn is_empty(&self) -> bool
         ensures { result ≡ (length (events_kept self.now.store.now) == 0) }
     {
@@ -87,7 +87,7 @@ impl<'a> HandedEvents<'a> {
 
     // contract: joined (own) Accepted messages, what was handed out, octets on a pipe are kept
     // rule: joined (own) Accepted messages, what was handed out, octets on a pipe are kept
-    /// An event, by its place: 0 is the first.
+    /// Returns the event at a place, from 0; `None` past the last.
     pub fn get(&self, place: usize) -> Option<EndEvent<KeptFields<'a>, &'a [u8]>>
         ensures { MatchOption result (length (events_kept self.now.store.now) ≤ place)
             (λ event. slice_get (events_kept self.now.store.now) place
@@ -113,7 +113,7 @@ impl fmt::Debug for HandedEvents<'_> {
 }
 
 // rule: joined (own) Accepted messages, what was handed out, octets on a pipe are kept
-/// The event at a place of a store.
+/// Lends the event at a place of a store.
 fn lend(store: &Store, place: EndEvent<Span, Span>) -> EndEvent<KeptFields<'_>, &[u8]>
     ensures { joint_event_value result
         ≡ event_kept store.now.octets.items store.now.fields.items place }
@@ -145,7 +145,7 @@ fn lend(store: &Store, place: EndEvent<Span, Span>) -> EndEvent<KeptFields<'_>, 
     }
 }
 
-/// The fields of a span.
+/// Lends the fields of a span.
 fn lend_fields(store: &Store, span: Span) -> KeptFields<'_>
     ensures octets { result.octets.now ≡ store.now.octets.items }
     ensures places { result.places.now ≡ items_in store.now.fields.items span }

@@ -15,8 +15,8 @@ use crate::kept::{Accepted, Kept};
 use h2_ends::{Client, Config, Server};
 use std::alloc::{AllocError, Global};
 
-/// A client and a server that are joined by two pipes in memory. It keeps what each has accepted
-/// and handed out.
+/// A client and a server that are joined by two pipes in memory, with what each end has
+/// accepted and handed out.
 #[derive(Drop)]
 pub struct Joined {
     pub(crate) alloc: Global,
@@ -28,7 +28,7 @@ pub struct Joined {
 
 impl Joined {
     // rule: joined (own) Two joined ends are a new client and a new server, pipes empty
-    /// A new client and a new server, joined by empty pipes.
+    /// Makes a new client and a new server, joined by empty pipes.
     ///
     /// # Errors
     ///
@@ -56,16 +56,16 @@ impl Joined {
     // contract: joined (own) The first octets of a pipe are given to its end
     // contract: joined (own) Accepted messages, what was handed out, octets on a pipe are kept
     // contract: joined (own) A delivery without memory stops before a call and loses nothing
-    /// Makes an act, and returns its result: that of the end's call of the same name; for
-    /// [`JointAct::Move`] and [`JointAct::Deliver`] how many octets were moved and delivered. A
-    /// refused act has changed nothing, except what a `release_all`, a `pump` or a `pump_some` did
-    /// before it was refused.
+    /// Makes an act, and returns its result: of a call of an end what that returns, of
+    /// [`JointAct::Move`] and [`JointAct::Deliver`] how many octets were moved or delivered. A
+    /// refused act has changed nothing, except for what a `release_all`, `pump` or `pump_some`
+    /// did before it was refused.
     ///
-    /// A delivery makes room for the largest event that a call of `take` can return, and then calls
-    /// it. Where memory is refused it stops before that call and returns [`Acted::Memory`]: the
-    /// octets that were used are off the pipe, the events are kept, the other octets stay on the
-    /// pipe, and the same act continues from there. Octets that were delivered to an end that fails
-    /// are off the pipe; to an end that has failed none are delivered.
+    /// A delivery makes room for the largest event that a call of `take` can return, and then
+    /// calls it. If memory for that is refused, it stops before the call and returns
+    /// [`Acted::Memory`]: the octets that were used are off the pipe, their events are kept,
+    /// and the same act continues from there. All octets of a delivery during which the end
+    /// fails are off the pipe; to an end that has failed none are delivered.
     pub fn act(&mut self, act: &JointAct) -> Acted
         ensures { MakesAct self.old (made_of act.now result) self.new }
     {
@@ -98,9 +98,9 @@ impl Joined {
     }
 
     // rule: joined (own) Two joined ends are quiet where both are, and both pipes are empty
-    /// Whether nothing is under way between the two ends, and neither has anything to do: both are
-    /// quiet ([`Client::is_quiet`]), both pipes are empty, and the last delivery to either end did
-    /// not return [`Acted::Memory`]: all was handed out. An end that has failed is not quiet.
+    /// Returns whether nothing is under way and neither end has anything to do: both are quiet
+    /// ([`Client::is_quiet`]), both pipes are empty, and the last delivery to either end did
+    /// not stop with [`Acted::Memory`]. An end that has failed is not quiet.
     pub fn quiet(&self) -> bool
         ensures { (client_values server_values : Values) (made : List Made)
             (client server : JointEnd)
@@ -119,14 +119,14 @@ impl Joined {
         self.client.is_quiet() && self.server.is_quiet()
     }
 
-    /// The client.
+    /// Returns the client.
     pub fn client(&self) -> &Client
         ensures { result.now ≡ self.now.client }
     {
         &self.client
     }
 
-    /// The server.
+    /// Returns the server.
     pub fn server(&self) -> &Server
         ensures { result.now ≡ self.now.server }
     {
@@ -134,7 +134,8 @@ impl Joined {
     }
 
     // contract: joined (own) Accepted messages, what was handed out, octets on a pipe are kept
-    /// What an end has accepted, a message a stream, in the order of their first calls.
+    /// Returns what an end has accepted: one message for each stream, in the order of their
+    /// first calls.
     pub fn accepted(&self, side: Side) -> &[Accepted]
         ensures { result.now ≡ (kept_of side self.now).accepted.items }
     {
@@ -145,7 +146,7 @@ impl Joined {
     }
 
     // contract: joined (own) Accepted messages, what was handed out, octets on a pipe are kept
-    /// What an end has handed out, in order.
+    /// Returns what an end has handed out, in order.
     pub fn handed(&self, side: Side) -> HandedEvents<'_>
         ensures { result.store.now ≡ (kept_of side self.now).handed }
     {
@@ -159,8 +160,8 @@ impl Joined {
         }
     }
 
-    /// How many octets of an end's output are on its pipe: they were moved, and are not delivered
-    /// to the other end yet.
+    /// Returns how many octets of an end's output are on its pipe: moved, but not yet delivered
+    /// to the other end.
     pub fn piped(&self, side: Side) -> usize
         ensures { (octets : List ℕ)
             → HoldsOctets (kept_of (other_side side) self.now).incoming octets

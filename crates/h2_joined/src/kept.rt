@@ -1,5 +1,5 @@
-//! What is kept of an end: the messages that it has accepted, what it has handed out, and the pipe
-//! that leads to it.
+//! What is kept of an end: the messages that it has accepted, the events that it has handed
+//! out, and the pipe that leads to it.
 
 ghost use Rattle.std.specs.Prelude.{◌≡◌, ◌+◌, ◌≤◌, true, [], ◌∷◌, ◌++◌, length, IfOk, None};
 ghost use Rattle.std.specs.Prelude.{vec_len};
@@ -27,12 +27,12 @@ pub(crate) struct Kept {
     pub(crate) accepted: Vec<Accepted>,
     /// What it has handed out, in order.
     pub(crate) handed: Store,
-    /// Whether the last delivery to it has stopped: there may be more events of its octets.
+    /// Whether the last delivery to it stopped early, so that its octets may give more events.
     pub(crate) unfinished: bool,
 }
 
 impl Kept {
-    /// What is kept of a new end.
+    /// Returns what is kept of a new end.
     pub(crate) fn new(alloc: Global) -> Kept
         ensures { (role : Role) (values : Values)
             → KeepsEnd result (new_joint_end role values) }
@@ -46,7 +46,7 @@ impl Kept {
     }
 
     // rule: joined (own) Accepted messages, what was handed out, octets on a pipe are kept
-    /// Keeps a message that was accepted, for which there is room.
+    /// Keeps a message that was accepted. There is room for it.
     pub(crate) fn accept(&mut self, accepted: Accepted)
         requires room { vec_len self.old.accepted + 1 ≤ vec_capacity self.old.accepted }
         ensures accepted { self.new.accepted.items ≡ self.old.accepted.items ++ accepted ∷ [] }
@@ -57,7 +57,7 @@ impl Kept {
         let _pushed = self.accepted.push(accepted);
     }
 
-    /// The place of what was accepted for a stream, if anything was.
+    /// Returns the place of the message that was accepted for a stream, if any.
     fn place_of(&self, id: u32) -> Option<usize>
         ensures { IsPlaceOf self.now.accepted.items id result }
     {
@@ -72,8 +72,8 @@ impl Kept {
     }
 
     // rule: joined (own) Accepted messages, what was handed out, octets on a pipe are kept
-    /// Makes room for so many octets more of the body of the stream's message, if one was accepted,
-    /// and returns whether there was memory for them.
+    /// Makes room for `count` more octets of the body of the stream's message, if one was
+    /// accepted, and returns whether there was memory for them.
     pub(crate) fn make_room(&mut self, id: u32, count: usize) -> bool
         ensures same { ShowsAccepted self.old (shown_of self.old.accepted.items) self.new }
         ensures room { result ≡ true → HasRoomInBody self.new.accepted.items id count }
@@ -85,8 +85,8 @@ impl Kept {
     }
 
     // rule: joined (own) Accepted messages, what was handed out, octets on a pipe are kept
-    /// Keeps octets more of the body of the stream's message, for which there is room, and whether
-    /// they end it.
+    /// Keeps more octets of the body of the stream's message, for which there is room, and
+    /// whether they end it.
     pub(crate) fn keep_octets(&mut self, id: u32, octets: &[u8], ended: bool)
         ensures { HasRoomInBody self.old.accepted.items id (length octets.now)
             → ShowsAccepted self.old (grown id (shown_with_octets octets.now ended)
@@ -117,19 +117,19 @@ impl Kept {
     }
 }
 
-/// What an end has accepted for a stream.
+/// A message that an end has accepted for a stream.
 #[derive(Debug, Drop)]
 pub struct Accepted {
     /// The stream.
     pub id: u32,
-    /// The message: of one that was begun, what was accepted of it so far.
+    /// The message; of one that was begun, what was accepted of it so far.
     pub message: Message,
     /// Whether more of it may follow.
     pub begun: bool,
 }
 
 impl Accepted {
-    /// A message that is begun on a stream with this head.
+    /// Makes the entry of a message that is begun on a stream with this head.
     pub(crate) fn with_head(alloc: Global, id: u32, head: Vec<Field>) -> Accepted
         ensures { accepted_shown result
             ≡ (id, (record { head = head.items; body = []; trailers = None }, true)) }
@@ -147,8 +147,8 @@ impl Accepted {
     }
 }
 
-/// A field of copies of a name and a value. The items of slices are octets, so its contract can
-/// say it.
+/// Copies a name and a value into a field. The items of slices are known to be octets, so its
+/// contract can say it.
 fn copy_field(
     alloc: Global,
     name: &[u8],
@@ -165,7 +165,7 @@ fn copy_field(
     Field::copy_of(alloc, name, value, sensitive)
 }
 
-/// A copy of fields. Their names and values are octets.
+/// Copies fields. Their names and values are octets.
 pub(crate) fn copy_fields(alloc: Global, fields: &[Field]) -> Result<Vec<Field>, AllocError>
     ensures same { IfOk result (λ copy. copy.items ≡ fields.now) }
     ensures octets { IfOk result (λ copy. AreOctets copy.items) }
@@ -179,7 +179,7 @@ pub(crate) fn copy_fields(alloc: Global, fields: &[Field]) -> Result<Vec<Field>,
 }
 
 // rule: joined (own) Accepted messages, what was handed out, octets on a pipe are kept
-/// A copy of a message.
+/// Copies a message.
 fn copy_message(alloc: Global, message: &Message) -> Result<Message, AllocError>
     ensures same { IfOk result (λ copy. message_value copy ≡ message_value message.now) }
     ensures octets { IfOk result (λ copy. AreOctets (message_value copy).head) }
@@ -195,7 +195,7 @@ fn copy_message(alloc: Global, message: &Message) -> Result<Message, AllocError>
     })
 }
 
-/// Two copies of a message: one for the end, and one that is kept.
+/// Copies a message twice: once for the end, once to keep.
 pub(crate) fn copy_twice(alloc: Global, message: &Message) -> Result<(Message, Message), AllocError>
     ensures given { IfOk result (λ copies. message_value copies.0 ≡ message_value message.now) }
     ensures kept { IfOk result (λ copies. message_value copies.1 ≡ message_value message.now) }

@@ -1,4 +1,4 @@
-//! Laws of two joined ends, over whatever acts were made. Each is the contract of a function that
+//! Laws of two joined ends, whatever acts were made. Each is the contract of a function that
 //! does nothing.
 
 ghost use Rattle.std.specs.Prelude.{◌≡◌, ℕ, List, [], None};
@@ -17,9 +17,9 @@ ghost use Rattle.h2_joined.specs.Joints.{NoneWasEnded};
 ghost use Rattle.h2_joined.specs.Headline.{AreQuiet, WasResetIn, ReportsNoFault, HoldsTheRest};
 
 // contract: joined (own) What one end has handed out is a prefix of what the other accepted
-/// Two joined ends with their pipes are a pair that comes about, and so all laws of pairs hold of
-/// them: of their octets, header tables and windows. Where memory was not refused and no Fail was
-/// made, it is undisturbed.
+/// Two joined ends with their pipes are a pair, so all laws of pairs hold of their octets,
+/// header tables and windows. Where memory was not refused and no Fail was made, the pair is
+/// undisturbed.
 pub fn joined_ends_are_a_pair()
     ensures { (client_values server_values : Values) (made : List Made)
         (client server : JointEnd) → IsJoint client_values server_values made client server
@@ -29,9 +29,9 @@ pub fn joined_ends_are_a_pair()
         → IsUndisturbed pair) }
 {}
 
-/// What an end has handed out on a stream is a prefix of what the other has accepted for it, part
-/// by part, where the head, interim heads and trailers are told apart: always, after faults,
-/// refusals and resets too.
+/// What an end has handed out on a stream is a prefix of what the other has accepted for it,
+/// part by part, where interim heads, the head and the trailers are distinguished. This holds
+/// after faults, refusals and resets too.
 pub fn handed_out_is_a_prefix()
     ensures at_server { (client_values server_values : Values) (made : List Made)
         (client server : JointEnd) (i : ℕ)
@@ -45,9 +45,9 @@ pub fn handed_out_is_a_prefix()
         (parts_said (said_for i server.happened.accepted)) }
 {}
 
-/// Where memory was not refused and no Fail was made, neither end reports a fault: its connection
-/// has not failed, it has refused no message, and whatever stream it says the peer has reset, a
-/// Reset there has reset.
+/// Where memory was not refused and no Fail was made, neither end reports a fault: its
+/// connection has not failed, it has refused no message, and each stream that it reports as
+/// reset by the peer was reset by a Reset there.
 pub fn no_fault_is_reported()
     ensures at_client { (client_values server_values : Values) (made : List Made)
         (client server : JointEnd) → IsJoint client_values server_values made client server
@@ -59,8 +59,8 @@ pub fn no_fault_is_reported()
         → ReportsNoFault made server.happened Client }
 {}
 
-/// Once both are quiet, what an end has accepted for a stream was handed out whole at the other,
-/// unless that stream was reset: of a message that was begun, all that was accepted of it.
+/// Once both ends are quiet, all that an end has accepted for a stream was handed out at the
+/// other, unless that stream was reset.
 pub fn quiet_ends_have_all()
     ensures at_server { (client_values server_values : Values) (made : List Made)
         (client server : JointEnd) (i : ℕ)
@@ -77,7 +77,7 @@ pub fn quiet_ends_have_all()
 {}
 
 // contract: joined (own) Two joined ends are quiet where both are, and both pipes are empty
-/// Two quiet ends hold no octets of a frame that isn't complete.
+/// Two quiet ends hold no octets of an incomplete frame.
 pub fn quiet_ends_hold_nothing()
     ensures { (client_values server_values : Values) (made : List Made)
         (client server : JointEnd) → IsJoint client_values server_values made client server
@@ -86,9 +86,9 @@ pub fn quiet_ends_hold_nothing()
 {}
 
 // contract: joined (own) The header tables of joined ends agree, no window is lost
-/// The header tables are in step, both ways, whatever settings change: after the field blocks under
-/// way the reader's table is the writer's, and each of them decodes at its place to the list that
-/// the writer was given (RFC 9113, section 4.3).
+/// The header tables are in step, both ways, whatever settings change: after the field blocks
+/// under way the reader's table is the writer's, and each of those blocks decodes to the list
+/// that the writer was given (RFC 9113, section 4.3).
 pub fn header_tables_are_in_step()
     ensures to_server { (client_values server_values : Values) (made : List Made)
         (client server : JointEnd) (way : List Item)
@@ -103,9 +103,9 @@ pub fn header_tables_are_in_step()
 {}
 
 // contract: joined (own) The header tables of joined ends agree, no window is lost
-/// Nothing of the connection's windows is lost, both ways, as long as the reader has not failed:
-/// what the writer may send, DATA under way, the increments that come back, and what the reader
-/// owes or has not returned, are 65,535 octets (RFC 9113, section 6.9).
+/// Nothing of the connection's window is lost, both ways, as long as the reader has not failed:
+/// what the writer may send, the DATA under way, the increments under way, and what the reader
+/// owes or has not returned add up to 65,535 octets (RFC 9113, section 6.9).
 pub fn connection_windows_are_conserved()
     ensures to_server { (client_values server_values : Values) (made : List Made)
         (client server : JointEnd) (way back : List Item) (bound : ℕ)
@@ -126,10 +126,10 @@ pub fn connection_windows_are_conserved()
 {}
 
 // contract: joined (own) What slow readers hold of the window is all that others lack
-/// What slow readers hold is all that the others lack, both ways, as long as the reader has not
-/// failed: once nothing is under way between the ends and nothing is to be returned to the
-/// connection's window, what the writer may send on the connection and what the reader owes on its
-/// streams are 65,535 octets together (RFC 9113, section 6.9).
+/// Slow readers hold all that is missing from the connection's window, both ways, as long as
+/// the reader has not failed: once nothing is under way and no credit is still to be returned
+/// to that window, what the writer may send on the connection and what the reader owes on its
+/// streams add up to 65,535 octets (RFC 9113, section 6.9).
 pub fn held_credit()
     ensures to_server { (client_values server_values : Values) (made : List Made)
         (client server : JointEnd) (bound : ℕ)
@@ -149,10 +149,11 @@ pub fn held_credit()
         → HoldsTheRest server.happened.log client.happened.log bound }
 {}
 
-/// Nothing is lost of the window of a stream that is active at the writer, that the reader has not
-/// closed by itself, and whose end it has not read; both ways, whatever settings change. What the
-/// writer may send on it, its DATA under way, the increments that come back, and what the reader
-/// owes, are the initial window that the writer has received last (RFC 9113, section 6.9.2).
+/// Nothing of a stream's window is lost, both ways, whatever settings change, while the stream
+/// is active at the writer, and the reader has neither closed it nor read its end: what the
+/// writer may send on it, its DATA under way, the increments under way, and what the reader
+/// owes add up to the initial window that the writer has received last (RFC 9113, section
+/// 6.9.2).
 pub fn stream_windows_are_conserved()
     ensures to_server { (client_values server_values : Values) (made : List Made)
         (client server : JointEnd) (way back : List Item) (i : ℕ)

@@ -1,9 +1,10 @@
-//! A client and a server joined by two pipes in memory, for whoever tests a program over HTTP/2
+//! A client and a server joined by two pipes in memory, for tests of a program over HTTP/2
 //! without sockets (RFC 9113).
 //!
-//! [`Joined::act`] makes an act: a call of either end, or octets that are moved from an output to
-//! its pipe or delivered from a pipe. [`run`] makes a list of them. What each end has accepted and
-//! handed out is kept. Laws say what holds, whatever acts are made: the headline of this library.
+//! [`Joined::act`] makes an act: a call of either end, or octets that are moved from an output
+//! to its pipe or delivered from a pipe. [`run`] makes a list of them. What each end has
+//! accepted and handed out is kept. Laws say what holds, whatever acts are made; [`headline`]
+//! is the main one.
 #![tactic(auto)]
 
 mod act;

@@ -1,4 +1,4 @@
-//! Octets that are moved and delivered.
+//! Moving and delivering octets.
 
 ghost use Rattle.std.specs.Prelude.{◌≡◌, length};
 ghost use Rattle.h2_spec_log.specs.Acts as log;
@@ -15,7 +15,7 @@ use crate::store::Store;
 use h2_ends::{Client, Code, EndRefusal, Refusal, Server};
 use std::mem;
 
-/// What a call of `take` made of a piece.
+/// The result of a call of `take`.
 #[derive(Clone, Copy)]
 pub(crate) enum Taking {
     /// How many octets were used, and whether there was an event, which is kept.
@@ -27,13 +27,13 @@ pub(crate) enum Taking {
 /// How a delivery goes on after a call of `take`.
 #[derive(Clone, Copy)]
 pub(crate) enum Next {
-    /// With the octets after the first ones, of which this many were used.
+    /// It goes on with the octets that follow; the value is how many were used.
     Again(usize),
-    /// It is over: all octets were used.
+    /// It is done: all octets were used.
     Whole,
-    /// It is over: the connection has failed.
+    /// It is done: the connection has failed.
     Failed(Code),
-    /// It is over: memory was refused before the call, which was not made.
+    /// It stops: memory was refused before the call, which was not made.
     Stopped,
 }
 
@@ -50,7 +50,7 @@ pub(crate) enum Delivered {
 
 impl Joined {
     // rule: joined (own) Output is put on the pipe to the other end, as much as is asked
-    /// Puts octets of an end's output on the pipe to the other.
+    /// Moves octets of an end's output to the pipe to the other end.
     pub(crate) fn put_on_pipe(&mut self, from: Side, count: usize) -> Acted
         ensures { MakesAct self.old (made from (Moves count) result) self.new }
     {
@@ -91,7 +91,7 @@ impl Joined {
         acted
     }
 
-    /// Takes the pipe to an end out, and leaves an empty one.
+    /// Takes out the pipe to an end, and leaves an empty one.
     fn take_pipe(&mut self, to: Side) -> Pipe
         ensures { TakesPipe to self.old result self.new }
     {
@@ -102,7 +102,7 @@ impl Joined {
         }
     }
 
-    /// Puts it back, and keeps whether the delivery has stopped.
+    /// Puts the pipe to an end back, and keeps whether the delivery stopped early.
     fn put_pipe(&mut self, to: Side, pipe: Pipe, unfinished: bool)
         ensures { PutsPipe to self.old pipe unfinished self.new }
     {
@@ -182,7 +182,7 @@ impl Joined {
     }
 }
 
-/// The result of a move.
+/// Returns the result of a move.
 fn moved(outcome: Result<usize, Refusal>) -> Acted
     ensures { result ≡ acted_as (answer_by (λ given. log.Count given) outcome) }
 {

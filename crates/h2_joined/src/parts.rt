@@ -75,7 +75,7 @@ impl Joined {
     }
 
     // rule: joined (own) An act is the call of its name at its end
-    /// An end ends a message that was begun with trailers.
+    /// An end sends trailers, which end a message that was begun.
     pub(crate) fn send_trailers(&mut self, side: Side, id: u32, trailers: &[Field]) -> Acted
         ensures { MakesAct self.old (made side (SendsTrailers id trailers.now) result) self.new }
     {
@@ -126,7 +126,7 @@ impl Joined {
         }
     }
 
-    /// Makes room for so many octets more of the body that an end has begun on a stream, and
+    /// Makes room for `count` more octets of the body that an end has begun on a stream, and
     /// returns whether there was memory for them.
     fn make_room_in_body(&mut self, side: Side, id: u32, count: usize) -> bool
         ensures same { ChangesShown side self.old (shown_at side self.old) self.new }
@@ -140,8 +140,8 @@ impl Joined {
     }
 
     // rule: joined (own) Accepted messages, what was handed out, octets on a pipe are kept
-    /// Keeps octets more of the body that an end has begun on a stream, for which there is room,
-    /// and whether they end it.
+    /// Keeps more octets of the body that an end has begun on a stream, for which there is
+    /// room, and whether they end it.
     fn keep_octets(&mut self, side: Side, id: u32, octets: &[u8], ended: bool)
         ensures { HasRoomInBody (kept_of side self.old).accepted.items id (length octets.now)
             → ChangesShown side self.old

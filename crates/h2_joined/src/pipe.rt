@@ -1,11 +1,11 @@
-//! A pipe: octets that one end has sent and that the other has not received yet.
+//! A pipe: octets that one end has sent and the other has not received yet.
 
 ghost use Rattle.std.specs.Prelude.{◌≡◌, ◌≤◌, ◌*◌, ℕ, List, [], take, drop, length};
 ghost use Rattle.h2_joined.specs.Kept.{HoldsOctets};
 
 use std::alloc::Global;
 
-/// Octets in order, of which the first were delivered.
+/// Octets in order, with how many of the first were delivered.
 #[derive(Debug, Drop)]
 pub(crate) struct Pipe {
     /// The octets.
@@ -15,7 +15,7 @@ pub(crate) struct Pipe {
 }
 
 impl Pipe {
-    /// An empty pipe.
+    /// Returns an empty pipe.
     pub(crate) fn new(alloc: Global) -> Pipe
         ensures { HoldsOctets result [] }
     {
@@ -25,14 +25,14 @@ impl Pipe {
         }
     }
 
-    /// How many octets were not delivered.
+    /// Returns how many octets were not delivered.
     pub(crate) fn len(&self) -> usize
         ensures { (octets : List ℕ) → HoldsOctets self.now octets → result ≡ length octets }
     {
         self.octets.len().saturating_sub(self.used)
     }
 
-    /// The first of them, at most `count`.
+    /// Returns the first `count` of them, or all if there are fewer.
     pub(crate) fn first(&self, count: usize) -> &[u8]
         ensures { (octets : List ℕ) → HoldsOctets self.now octets
             → result.now ≡ take count octets }
@@ -44,7 +44,7 @@ impl Pipe {
 
     // rule: joined (own) The first octets of a pipe are given to its end
     /// Marks the first `count` of them as delivered. Delivered octets are dropped once they are
-    /// half of all: so the pipe never holds more than twice the octets that were not delivered.
+    /// half of all, so a pipe holds at most twice the octets that were not delivered.
     pub(crate) fn deliver(&mut self, count: usize)
         ensures holds { (octets : List ℕ) → HoldsOctets self.old octets
             → HoldsOctets self.new (drop count octets) }

@@ -14,16 +14,20 @@ use h2_ends::{Config, EndRefusal, Refusal};
 use std::alloc::{AllocError, Global};
 
 // contract: joined (own) What one end has handed out is a prefix of what the other accepted
-/// The headline of this library. What each of two joined ends has handed out on every stream is a
-/// prefix of what the other has accepted for it, whatever acts were made. Where memory was not
-/// refused to a connection, and no [`JointAct::Fail`] was made, neither end reports a fault. After
-/// whichever act, no DATA of either has passed its windows, as
-/// `h2_laws_end::no_data_passes_windows` says of one end. Once both are quiet, all that was
-/// accepted was handed out, on every stream that was not reset.
+/// The main law of this library, whatever acts were made:
 ///
-/// For any other peer, [`Conn::take`](h2_ends::Conn::take),
-/// [`Client::take`](h2_ends::Client::take) and [`Server::take`](h2_ends::Server::take) say in their
-/// contracts what its octets give.
+/// - What each of two joined ends has handed out on a stream is a prefix of what the other has
+///   accepted for it.
+/// - Where memory was not refused to a connection and no [`JointAct::Fail`] was made, neither
+///   end reports a fault.
+/// - No DATA of either end has passed its windows, as `h2_laws_end::no_data_passes_windows`
+///   says of one end.
+/// - Once both ends are quiet, all that was accepted was handed out, on every stream that was
+///   not reset.
+///
+/// For any other peer, the contracts of [`Conn::take`](h2_ends::Conn::take),
+/// [`Client::take`](h2_ends::Client::take) and [`Server::take`](h2_ends::Server::take) say what
+/// its octets give.
 pub fn headline()
     ensures { (client_values server_values : Values) (joined : types.Joined) (made : List Made)
         (client server : JointEnd)
@@ -33,14 +37,14 @@ pub fn headline()
 
 // contract: joined (own) What one end has handed out is a prefix of what the other accepted
 // rule: joined (own) What one end has handed out is a prefix of what the other accepted
-/// Makes the acts, in order, on a new client and a new server. An act that is refused is an act
-/// like any other, unless it is with [`Refusal::Memory`] (C12). The [`headline`] holds of the two
-/// ends then. That a connection has failed with INTERNAL_ERROR, since memory was refused as it took
-/// octets, is no error here: [`Conn::failed`](h2_ends::Conn::failed) says so.
+/// Makes the acts, in order, on a new client and a new server, of which [`headline`] then
+/// holds. An act that is refused for another reason than [`Refusal::Memory`] (C12) is no error,
+/// and the next one is made. Nor is a connection that has failed with INTERNAL_ERROR because
+/// memory was refused as it took octets: see [`Conn::failed`](h2_ends::Conn::failed).
 ///
 /// # Errors
 ///
-/// [`AllocError`] where memory was refused to make the two ends, or an act returned
+/// [`AllocError`] where memory for the two ends was refused, or an act returned
 /// [`Acted::Memory`] or was refused with [`Refusal::Memory`] (C12).
 pub fn run(
     alloc: Global,
@@ -57,13 +61,13 @@ pub fn run(
 
 impl Joined {
     // contract: joined (own) An act is the call of its name at its end
-    /// Makes the acts, in order. An act that is refused is an act like any other, and the next one
-    /// is made after it, unless it is refused with [`Refusal::Memory`] (C12).
+    /// Makes the acts, in order. An act that is refused for another reason than
+    /// [`Refusal::Memory`] (C12) is no error, and the next one is made.
     ///
     /// # Errors
     ///
     /// [`AllocError`] where an act returned [`Acted::Memory`], or was refused with
-    /// [`Refusal::Memory`] (C12): the acts up to that one were made, and no other.
+    /// [`Refusal::Memory`] (C12). The acts up to that one were made, and no other.
     pub fn act_all(&mut self, acts: &[JointAct]) -> Result<(), AllocError>
         ensures ok { OnOk result (MakesAll self.old acts.now self.new) }
         ensures err { OnErr result (StopsAtAct self.old acts.now self.new) }
@@ -77,7 +81,7 @@ impl Joined {
     }
 }
 
-/// Whether an act was refused memory.
+/// Returns whether an act was refused memory.
 fn was_refused_memory(acted: Acted) -> bool
     ensures { (result ≡ false) ↔ GotMemory acted }
 {

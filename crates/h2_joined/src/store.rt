@@ -1,4 +1,4 @@
-//! What an end has handed out, kept: the places of its events, of their fields and of their octets.
+//! What an end has handed out: its events, with the places of their fields and octets.
 
 ghost use Rattle.std.specs.Prelude.{◌≡◌, true, length, []};
 ghost use Rattle.h2_ends.specs.Loans.{event_handed};
@@ -9,21 +9,21 @@ ghost use Rattle.h2_joined.specs.Stored.{events_kept, items_in};
 use h2_ends::{EndEvent, FieldList, FieldRef};
 use std::alloc::Global;
 
-/// The most octets that one event has: a list whose size is at most 65,536, or a body of at most
-/// 65,535, which is the connection's window.
+/// The most octets of one event: a list whose size is at most 65,536, or a body of at most
+/// 65,535, the connection's window.
 const MOST_OCTETS: usize = 65_536;
 
-/// The most fields that one event has, each of which counts at least 32 of the size of its list.
+/// The most fields of one event: each counts at least 32 of the size of its list.
 const MOST_FIELDS: usize = 2_048;
 
-/// From one place to another, which is not in it.
+/// From `start` up to `end`, which is not included.
 #[derive(Clone, Copy)]
 pub(crate) struct Span {
     pub(crate) start: usize,
     pub(crate) end: usize,
 }
 
-/// Where a field is among the octets.
+/// Where a field lies among the octets.
 #[derive(Clone, Copy)]
 pub(crate) struct FieldPlace {
     pub(crate) name: Span,
@@ -34,7 +34,7 @@ pub(crate) struct FieldPlace {
 /// What an end has handed out, in order.
 #[derive(Drop)]
 pub(crate) struct Store {
-    /// The events, with where their fields are among the fields, and their octets among the octets.
+    /// The events, with the spans of their fields in `fields` and of their octets in `octets`.
     pub(crate) events: Vec<EndEvent<Span, Span>>,
     /// The fields of all of them.
     pub(crate) fields: Vec<FieldPlace>,
@@ -43,7 +43,7 @@ pub(crate) struct Store {
 }
 
 impl Store {
-    /// An empty store.
+    /// Returns an empty store.
     pub(crate) fn new(alloc: Global) -> Store
         ensures none { events_kept result ≡ [] }
         ensures stored { AreStored result }
@@ -72,7 +72,7 @@ impl Store {
     }
 
     // rule: joined (own) Accepted messages, what was handed out, octets on a pipe are kept
-    /// Keeps an event, for which there is room: so nothing of it is refused.
+    /// Keeps an event. There is room, so memory is never refused.
     pub(crate) fn keep(&mut self, event: EndEvent<&FieldList, &[u8]>)
         ensures { HasRoomForEvent self.old → Fits (event_handed event.entry) → AreStored self.old
             → KeepsMore self.old (event_handed event.entry) self.new }
@@ -82,7 +82,7 @@ impl Store {
     }
 
     // rule: joined (own) Accepted messages, what was handed out, octets on a pipe are kept
-    /// Keeps the fields and the octets of an event, and returns its place.
+    /// Keeps the fields and the octets of an event, and returns the event with their places.
     fn place_of(&mut self, event: EndEvent<&FieldList, &[u8]>) -> EndEvent<Span, Span>
         ensures { PlacesEvent self.old (event_handed event.entry) result self.new }
     {
@@ -161,7 +161,7 @@ impl Store {
     }
 }
 
-/// The octets of a span.
+/// Returns the octets of a span.
 pub(crate) fn octets_at(octets: &[u8], span: Span) -> &[u8]
     ensures { result.now ≡ items_in octets.now span }
 {
@@ -170,7 +170,7 @@ pub(crate) fn octets_at(octets: &[u8], span: Span) -> &[u8]
     &octets[start..end]
 }
 
-/// The fields of a span.
+/// Returns the fields of a span.
 pub(crate) fn fields_at(fields: &[FieldPlace], span: Span) -> &[FieldPlace]
     ensures { result.now ≡ items_in fields.now span }
 {

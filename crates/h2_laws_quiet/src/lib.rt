@@ -1,5 +1,5 @@
-//! Two ends that are driven get quiet: laws of what is left at two quiet ends, of what a pump
-//! sends, and of the work that driving two ends leaves. Each is the contract of a function that
+//! Laws of two ends that are driven until they are quiet: what a pump sends, how much work a
+//! round leaves, and what is left at two quiet ends. Each is the contract of a function that
 //! does nothing.
 #![tactic(auto)]
 

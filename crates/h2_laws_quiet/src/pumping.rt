@@ -10,12 +10,16 @@ ghost use Rattle.h2_ends.specs.Pumping.{IsStuckBelow};
 ghost use Rattle.h2_laws_quiet.specs.Going.{CouldGoOn, WentOn, most_sendable};
 
 // contract: 8.1 (own) pump sends the lower streams first, and all that can go
-/// Where fewer than 65,536 octets of output wait, a `pump` that is refused no memory sends more on
-/// the lowest stream on which something could go, whatever the peer; and so on some stream wherever
-/// something could go on any. Where octets of a body wait on that stream, the pump answers one
-/// octet at least, and no fewer than one call may send there; where trailers or an end alone are
-/// left, they go. And wherever octets of a body could go on some stream, the pump answers one octet
-/// at least, or the output is full after it (RFC 9113, sections 6.9 and 8.1).
+/// A `pump` that is refused no memory sends what could go, whatever the peer (RFC 9113,
+/// sections 6.9 and 8.1). Where fewer than 65,536 octets of output wait:
+///
+/// - It sends more on the lowest stream on which something could go. If octets of a body wait
+///   there, it returns at least 1, and at least what one call may send there; if only trailers
+///   or an end wait, they go.
+/// - So it sends on some stream, if something could go on any.
+///
+/// Where octets of a body could go on some stream, it returns at least 1, or the output is full
+/// after it.
 pub fn pump_sends_what_could_go()
     ensures lowest { (end after : EndLog) (id count : ℕ) → MayPump end (Ok count) after
         → waiting end.log < full_output → CouldGoOn end id → IsStuckBelow end id

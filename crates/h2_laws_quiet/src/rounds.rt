@@ -1,4 +1,4 @@
-//! Rounds bring two joined ends nearer to quiet, and then they are quiet.
+//! Rounds bring two joined ends closer to quiet, until they are quiet.
 
 ghost use Rattle.std.specs.Prelude.{◌≡◌, ◌⊎◌, ◌≤◌, ◌<◌, ◌-◌, ℕ, List, None};
 ghost use Rattle.h2_spec_log.specs.Acts.{Values};
@@ -12,8 +12,8 @@ ghost use Rattle.h2_laws_quiet.specs.Rounds.{IsRound, AreRounds};
 ghost use Rattle.h2_laws_quiet.specs.Work.{tokens_on, work_left};
 
 // contract: joined (own) Two ends that are driven get quiet, and all that was accepted arrives
-/// After a round in which memory sufficed and neither end failed, the two ends are quiet, or less
-/// work is left than before.
+/// After a round in which no memory was refused and neither end failed, the two ends are quiet,
+/// or less work is left than before.
 pub fn rounds_lead_to_quiet()
     ensures { (client_values server_values : Values) (made : List Made)
         (client server new_client new_server : JointEnd)
@@ -26,7 +26,7 @@ pub fn rounds_lead_to_quiet()
 {}
 
 // contract: joined (own) Two ends that are driven get quiet, and all that was accepted arrives
-/// At two quiet ends no work is left.
+/// No work is left at two quiet ends.
 pub fn quiet_ends_have_no_work()
     ensures { (client_values server_values : Values) (made : List Made)
         (client server : JointEnd) → IsJoint client_values server_values made client server
@@ -34,8 +34,8 @@ pub fn quiet_ends_have_no_work()
 {}
 
 // contract: joined (own) Two ends that are driven get quiet, and all that was accepted arrives
-/// Two joined ends that are driven get quiet: after more rounds than the work that was left they
-/// are, whatever acts were made before, where memory sufficed and neither end has failed.
+/// Two joined ends are quiet after more rounds than the work that was left, whatever acts were
+/// made before, where no memory was refused and neither end has failed.
 pub fn driven_ends_get_quiet()
     ensures { (client_values server_values : Values) (made : List Made) (count : ℕ)
         (client server new_client new_server : JointEnd)
@@ -47,8 +47,8 @@ pub fn driven_ends_get_quiet()
 
 // contract: joined (own) Two ends that are driven get quiet, and all that was accepted arrives
 /// All that two joined ends have accepted has arrived after more rounds than the work that was
-/// left, on each stream that was not reset, whatever acts were made before: flow control leaves
-/// nothing stuck. Memory sufficed in these rounds, and neither end has failed.
+/// left, on each stream that was not reset, whatever acts were made before, where no memory was
+/// refused and neither end has failed: flow control leaves nothing stuck.
 pub fn driven_messages_arrive()
     ensures at_client { (client_values server_values : Values) (made : List Made) (count : ℕ)
         (client server new_client new_server : JointEnd) (i : ℕ)
@@ -69,11 +69,11 @@ pub fn driven_messages_arrive()
 {}
 
 // contract: joined (own) Two ends that are driven get quiet, and all that was accepted arrives
-/// Few rounds lead to quiet, whatever acts were made before. At each of two joined ends all octets
-/// that wait are cut into shares of a window, 65,535 at most; and what waits on a stream is up to
-/// three pieces, its octets, its trailers and its end. After two rounds for each share and each
-/// piece, at both ends together, and ten more, the ends are quiet (`most_rounds`). Memory sufficed
-/// in these rounds, and neither end has failed.
+/// Two joined ends are quiet after few rounds (`most_rounds`), whatever acts were made before,
+/// where no memory was refused and neither end has failed: ten, and two for each share and each
+/// piece that waits at either end. A share is as much of the octets that wait at an end, all
+/// together, as a window allows, 65,535 at most. What waits on a stream is up to three pieces:
+/// its octets, its trailers and its end.
 pub fn few_rounds_lead_to_quiet()
     ensures { (client_values server_values : Values) (made : List Made) (count : ℕ)
         (client server new_client new_server : JointEnd)
@@ -84,12 +84,12 @@ pub fn few_rounds_lead_to_quiet()
 {}
 
 // contract: joined (own) Two ends that are driven get quiet, and all that was accepted arrives
-/// In two rounds one after another the lowest stream on which something waits sends as many octets
-/// as a window lets through, or all that wait there, where those are fewer. The window is the last
-/// initial window that the reader has sent, and 65,535 at most (RFC 9113, section 6.9). Before these
-/// two a round was made; as the first of them begins both ends have room for all credit that they
-/// owe, and as the second begins the writer has. So it is whatever acts were made before, and
-/// whatever waits on other streams.
+/// Two consecutive rounds send a window's worth of octets on the lowest stream on which
+/// something waits, or all that wait there if those are fewer, whatever acts were made before
+/// and whatever waits on other streams. The window is the last initial window that the reader
+/// has sent, 65,535 at most (RFC 9113, section 6.9). A round precedes these two; both ends have
+/// room for all credit that they owe as the first begins, and the writer has as the second
+/// begins.
 pub fn two_rounds_send_a_window()
     ensures to_server { (client_values server_values : Values) (made : List Made)
         (old_client old_server client server mid_client mid_server new_client new_server

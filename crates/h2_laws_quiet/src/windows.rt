@@ -9,9 +9,10 @@ ghost use Rattle.h2_laws_pair.specs.Quiet.{IsQuiet};
 ghost use Rattle.h2_laws_quiet.specs.OpenWindows.{HasOpenWindows};
 
 // contract: joined (own) Two ends that are driven get quiet, and all that was accepted arrives
-/// At a quiet pair of which neither end has failed the same streams are active at both: none that
-/// is active at one end is closed at the other, by whichever end (RFC 9113, section 5.1). Whatever
-/// was reset, and whatever the server does not process, which the client has reported.
+/// The same streams are active at both ends of a quiet pair of which neither end has failed:
+/// none that is active at one end is closed at the other (RFC 9113, section 5.1). This holds
+/// whatever was reset, and whatever requests the server does not process, which the client has
+/// reported.
 pub fn quiet_ends_have_the_same_streams()
     ensures same { (client_values server_values : Values) (client server : Half) (i : ℕ)
         → IsPair client_values server_values client server → client.log.failed ≡ None
@@ -28,10 +29,10 @@ pub fn quiet_ends_have_the_same_streams()
 {}
 
 // contract: joined (own) Two ends that are driven get quiet, and all that was accepted arrives
-/// At a quiet pair of which neither end has failed all windows are open, both ways: 65,535 octets
-/// may go on the connection, and on each active stream that the end has not ended its initial
-/// window, which is 1 at least (RFC 9113, section 6.9). Whatever settings changed before, and
-/// whatever was reset.
+/// All windows are open, both ways, at a quiet pair of which neither end has failed: 65,535
+/// octets may go on the connection, and on each active stream that the end has not ended its
+/// initial window, which is at least 1 (RFC 9113, section 6.9). This holds whatever settings
+/// changed and whatever was reset before.
 pub fn windows_of_a_quiet_pair()
     ensures at_client { (client_values server_values : Values) (client server : Half)
         → IsPair client_values server_values client server → client.log.failed ≡ None

@@ -1,4 +1,4 @@
-//! Driving two ends leaves no more work.
+//! Driving two ends makes no work.
 
 ghost use Rattle.std.specs.Prelude.{◌≡◌, ◌≤◌, ◌+◌, List, None};
 ghost use Rattle.h2_spec_log.specs.Acts.{Values};
@@ -7,9 +7,9 @@ ghost use Rattle.h2_laws_quiet.specs.Driving.{IsDriving, received_since};
 ghost use Rattle.h2_laws_quiet.specs.Work.{work_left};
 
 // contract: joined (own) Two ends that are driven get quiet, and all that was accepted arrives
-/// An act that drives two joined ends leaves no more work, as long as neither has failed; and one
-/// less at least for each item that it reads. So, act after act, in whatever order: once as many
-/// items were read as the work was, no such act reads more.
+/// An act that drives two joined ends doesn't increase the work that is left, as long as
+/// neither has failed, and decreases it by at least 1 for each item that it reads. So, whatever
+/// the order of acts, once as many items were read as there was work, no such act reads more.
 pub fn driving_makes_no_work()
     ensures { (client_values server_values : Values) (made : List Made)
         (client server new_client new_server : JointEnd) (act : Made)

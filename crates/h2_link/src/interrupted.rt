@@ -1,11 +1,11 @@
-//! Reading and writing where a signal may interrupt.
+//! Reads and writes that a signal may interrupt.
 
 ghost use Rattle.std.specs.Prelude.{◌≡◌, ◌<◌, ◌≤◌, length, take, IfOk, OnErr};
 ghost use Rattle.std.specs.Io.KnownBytes.{Appends, Consumes, IsAtEnd, Keeps};
 
 use std::io::{self, ErrorKind, Read, Write};
 
-/// Reads once, and again where a signal interrupts. Answers how many octets were read; 0 is the
+/// Reads once, and again where a signal interrupts. Returns how many octets were read; 0 is the
 /// end.
 ///
 /// # Errors
@@ -28,7 +28,8 @@ pub fn read_some<R: Read>(input: &mut R, buffer: &mut [u8]) -> io::Result<usize>
 }
 
 // rule: engines (own) A link over TCP sends octets in order and once
-/// Writes once, and again where a signal interrupts. Answers how many first octets were written.
+/// Writes once, and again where a signal interrupts. Returns how many octets, from the first,
+/// were written.
 ///
 /// # Errors
 ///

@@ -1,4 +1,4 @@
-//! Links: what carries the octets of a connection. A link reads and writes, and may fail.
+//! Links, which carry the octets of a connection: reads and writes that may fail.
 #![tactic(auto)]
 
 mod error;

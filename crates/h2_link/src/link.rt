@@ -10,20 +10,21 @@ use crate::parts::first_part;
 use std::io::IoSlice;
 use thiserror::Error;
 
-/// A call of a link has failed. Nothing more is known of it.
+/// A call of a link failed. Nothing more is known of it.
 #[derive(Clone, Copy, Debug, PartialEq, Eq, Hash, Error)]
 #[error("a read or a write has failed")]
 pub struct LinkFault;
 
-/// What carries the octets of a connection, both ways. It waits for its peer where it has to.
+/// Carries the octets of a connection, both ways. Its calls wait for the peer where they have
+/// to.
 pub trait Link {
-    /// All octets that it has given so far, where it says so; a socket doesn't.
+    /// All octets that it has given so far, where it knows them; a socket doesn't.
     ghost given: { Self → Option (List ℕ) };
 
-    /// All octets that it has taken so far, where it says so.
+    /// All octets that it has taken so far, where it knows them.
     ghost taken: { Self → Option (List ℕ) };
 
-    /// Whether a read with room has given nothing: the end of its input.
+    /// Whether a read into a buffer with room has given nothing: the end of the input.
     ghost ended: { Self → Bool };
 
     /// Whether a write of some octets has taken none.
@@ -32,8 +33,8 @@ pub trait Link {
     /// How many of its calls have failed.
     ghost faults: { Self → ℕ };
 
-    /// Reads octets to the front of a buffer, and answers how many; 0 is the end of the input,
-    /// where the buffer has room.
+    /// Reads octets into the beginning of a buffer, and returns how many. 0 is the end of the
+    /// input, where the buffer has room.
     ///
     /// # Errors
     ///
@@ -48,11 +49,11 @@ pub trait Link {
         ensures stalled { stalled self.new ≡ stalled self.old }
         ensures failures { faults self.new ≡ failures_after (faults self.old) result };
 
-    /// Writes the first of the octets, and answers how many.
+    /// Writes octets, from the first, and returns how many were written.
     ///
     /// # Errors
     ///
-    /// [`LinkFault`] where the write failed: some first octets may have been written.
+    /// [`LinkFault`] where the write failed: octets from the first on may have been written.
     fn write(&mut self, octets: &[u8]) -> Result<usize, LinkFault>
         requires { faults self.old < 2 ^ 64 - 1 }
         ensures takes { Takes (taken self.old) (taken self.new) result octets.now }
@@ -62,11 +63,12 @@ pub trait Link {
             ≡ stalled_after (stalled self.old) (length octets.now) result }
         ensures failures { faults self.new ≡ failures_after (faults self.old) result };
 
-    /// Writes the first of the octets that lie in several parts, in order, and answers how many.
+    /// Writes octets that lie in several parts, from the first and in order, and returns how
+    /// many were written. The provided method writes the first part that has octets.
     ///
     /// # Errors
     ///
-    /// [`LinkFault`] where the write failed: some first octets may have been written.
+    /// [`LinkFault`] where the write failed: octets from the first on may have been written.
     fn write_parts(&mut self, parts: &[IoSlice<'_>]) -> Result<usize, LinkFault>
         requires { faults self.old < 2 ^ 64 - 1 }
         ensures takes { Takes (taken self.old) (taken self.new) result
@@ -80,7 +82,7 @@ pub trait Link {
         self.write(first_part(parts))
     }
 
-    /// How many of its calls have failed: one more after each that does, and after no other.
+    /// Returns how many calls have failed.
     fn failures(&self) -> u64
         ensures { result ≡ faults self.now };
 }

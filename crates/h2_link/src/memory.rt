@@ -5,8 +5,8 @@ ghost use Rattle.std.specs.Prelude.{◌≡◌, ◌≤◌, ◌<◌, ◌-◌, ◌^
 use crate::link::{Link, LinkFault};
 use std::alloc::Global;
 
-/// A link in memory, for tests: it gives the octets of an input, keeps what it takes, and reads and
-/// writes so many octets a call at most. One of its calls may fail.
+/// A link in memory, for tests. It gives the octets of an input and keeps what it takes, at
+/// most a set number of octets a call. One of its calls may be made to fail.
 #[derive(Debug, Drop)]
 pub struct MemoryLink {
     input: Vec<u8>,
@@ -25,7 +25,7 @@ impl MemoryLink {
 
     // rule: links (own) A link gives and takes octets in order
     // rule: links (own) The end of the input is a read that gives nothing
-    /// A link that gives these octets and then the end, whole at a time.
+    /// Returns a link that gives these octets and then the end, with no bound to a call.
     pub fn new(alloc: Global, input: Vec<u8>) -> MemoryLink
         ensures given { octets_given result ≡ [] }
         ensures taken { octets_taken result ≡ [] }
@@ -48,8 +48,8 @@ impl MemoryLink {
     }
 
     // rule: links (own) A link gives and takes octets in order
-    /// The same link, which reads and writes at most so many octets a call. With 0 it is at its
-    /// end, or takes nothing.
+    /// Bounds each call to `read` octets read and `written` octets written. 0 makes a read the
+    /// end of the input, and a write take nothing.
     pub fn with_most(mut self, read: usize, written: usize) -> MemoryLink
         ensures { result ≡ record self { most_read = read; most_written = written } }
     {
@@ -59,7 +59,7 @@ impl MemoryLink {
     }
 
     // rule: links (own) A link counts the calls that fail
-    /// The same link, whose call after so many more fails: 0 is the next one.
+    /// Makes the call fail that follows `calls` others: 0 is the next one.
     pub fn failing_after(mut self, calls: u64) -> MemoryLink
         ensures { result ≡ record self { fails_in = Some calls } }
     {
@@ -68,7 +68,7 @@ impl MemoryLink {
     }
 
     // rule: links (own) A link gives and takes octets in order
-    /// What it has taken.
+    /// Returns the octets that it has taken.
     pub fn output(&self) -> &[u8]
         ensures { result.now ≡ octets_taken self.now }
     {
@@ -76,7 +76,7 @@ impl MemoryLink {
     }
 
     // rule: links (own) A link counts the calls that fail
-    /// Whether this call fails.
+    /// Returns whether this call fails.
     fn fails(&mut self) -> bool
         ensures given { octets_given self.new ≡ octets_given self.old }
         ensures input { self.new.input ≡ self.old.input }

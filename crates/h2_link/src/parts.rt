@@ -6,7 +6,7 @@ ghost use Rattle.std.specs.Io.Slices.{io_slices_bytes};
 
 use std::io::IoSlice;
 
-/// The first part that has octets; none where no part has.
+/// Returns the first part that has octets; an empty slice if none has.
 pub fn first_part<'a>(parts: &[IoSlice<'a>]) -> &'a [u8]
     ensures part { StartsWith (io_slices_bytes parts.now) result.now }
     ensures none { length result.now ≡ 0 → io_slices_bytes parts.now ≡ [] }

@@ -12,8 +12,10 @@ use crate::link::Link;
 ///
 /// # Errors
 ///
-/// [`LinkError::Device`] (N1) where a write failed, [`LinkError::NoProgress`] (N5) where one took
-/// nothing; some first octets were written.
+/// Octets from the first on may have been written.
+///
+/// - [`LinkError::Device`] (N1) where a write failed.
+/// - [`LinkError::NoProgress`] (N5) where a write took nothing.
 pub fn write_all<L: Link>(link: &mut L, octets: &[u8]) -> Result<(), LinkError>
     requires { L.faults link.old < 2 ^ 64 - 1 }
     ensures writes { WritesAll (L.taken link.old) (L.taken link.new) (L.faults link.old)

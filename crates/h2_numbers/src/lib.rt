@@ -1,4 +1,5 @@
-//! Values by the numbers of streams, found in about the same time beside one number and a thousand.
+//! Values by stream number. A look-up takes about the same time for one number as for a
+//! thousand.
 #![tactic(auto)]
 
 mod map;

@@ -1,4 +1,4 @@
-//! The map.
+//! The map, which also knows the next number above another.
 
 ghost use Rattle.std.specs.Prelude.{◌≡◌, ◌<◌, [], Some, None, IfSome, OnOk, OnErr, true};
 ghost use Rattle.std.specs.Option.{option_copied, option_copied_mut};
@@ -11,9 +11,9 @@ use crate::table::NumberTable;
 use std::alloc::{AllocError, Global};
 use std::marker::Model;
 
-/// Values by number, as a [`NumberTable`] has them. The numbers are kept in rising order beside it,
-/// for [`NumberMap::next_above`]: a number above all others, as that of a new stream is, is put last
-/// in one step, and so is the last one taken out.
+/// Values by number, in a [`NumberTable`], with the numbers in rising order beside it for
+/// [`NumberMap::next_above`]. A number above all others, as that of a new stream, is inserted
+/// in one step, and the highest is removed in one step.
 #[derive(Drop)]
 pub struct NumberMap<V> {
     /// The values, by number.
@@ -36,7 +36,7 @@ impl<V> Model for NumberMap<V> {
 }
 
 impl<V> NumberMap<V> {
-    /// A map without values. It takes no memory.
+    /// Returns an empty map. It takes no memory.
     pub fn new(alloc: Global) -> NumberMap<V>
         ensures empty { result.entries ≡ [] }
     {
@@ -47,7 +47,7 @@ impl<V> NumberMap<V> {
     }
 
     // rule: 5.1 (own) What is kept of a stream is found by its number
-    /// The value with this number. It takes no memory.
+    /// Returns the value at a number. It takes no memory.
     pub fn get(&self, id: u32) -> Option<&V>
         ensures value { option_copied result ≡ value_at id self.now.entries }
     {
@@ -56,12 +56,12 @@ impl<V> NumberMap<V> {
 
     // rule: 5.1 (own) What is kept of a stream is found by its number
     // rule: 5.1 (own) A change of a stream changes that stream alone
-    /// The value with this number, to be changed. It takes no memory.
+    /// Returns the value at a number, to be changed. It takes no memory.
     pub fn get_mut(&mut self, id: u32) -> Option<&mut V>
         ensures* writes_back { sem 𝓛 (lends_at V.row self.entry id result) }
         ensures value { option_copied_mut result ≡ value_at id self.old.entries }
     {
-        // A number above all others, as that of a new stream is, needs no search.
+        // A number above all others, as that of a new stream, needs no search.
         if is_above_all(&self.order, id) {
             return None;
         }
@@ -69,11 +69,11 @@ impl<V> NumberMap<V> {
     }
 
     // rule: 5.1 (own) A change of a stream changes that stream alone
-    /// Puts a value at a number. A value that was there is dropped.
+    /// Sets the value at a number, and drops the one that was there.
     ///
     /// # Errors
     ///
-    /// [`AllocError`] where an allocation was refused; the map is as before.
+    /// [`AllocError`] where an allocation was refused; the map has not changed.
     pub fn insert(&mut self, id: u32, value: V) -> Result<(), AllocError>
     where
         V: Drop,
@@ -94,7 +94,7 @@ impl<V> NumberMap<V> {
     }
 
     // rule: 5.1 (own) A change of a stream changes that stream alone
-    /// Takes the value out at a number, if there is one. It takes no memory.
+    /// Removes the value at a number, if there is one. It takes no memory.
     pub fn remove(&mut self, id: u32)
     where
         V: Drop,
@@ -108,7 +108,7 @@ impl<V> NumberMap<V> {
     }
 
     // rule: 5.1 (own) What is kept of a stream is found by its number
-    /// The least number above another that has a value. It takes no memory.
+    /// Returns the least number above another that has a value. It takes no memory.
     pub fn next_above(&self, above: u32) -> Option<u32>
         ensures next { IsNextAbove self.now.entries above result }
         ensures above { IfSome result (λ id. above < id) }
@@ -122,7 +122,7 @@ impl<V> NumberMap<V> {
     }
 }
 
-/// Whether a number is above each of these.
+/// Returns whether a number is above all of these.
 fn is_above_all(order: &[u32], number: u32) -> bool
     requires { Ascends order.now }
     ensures { result ≡ true → IsAboveAll order.now number }
@@ -131,7 +131,7 @@ fn is_above_all(order: &[u32], number: u32) -> bool
     end == 0 || order[end - 1] < number
 }
 
-/// The place of the first of these numbers that is above another.
+/// Returns the place of the first of these numbers that is above another.
 fn first_above(order: &[u32], number: u32) -> usize
     requires { Ascends order.now }
     ensures { IsFirstAbove order.now number result }

@@ -1,4 +1,4 @@
-//! The table: what is found by one comparison, or by a hash.
+//! The table: a value is found by one comparison or by a hash.
 
 ghost use Rattle.std.specs.Prelude.{◌≡◌, [], None, Some, IsSome, OnOk, OnErr};
 ghost use Rattle.std.specs.Option.{option_copied, option_copied_mut};
@@ -11,14 +11,14 @@ use std::alloc::{AllocError, Global};
 use std::collections::HashMap;
 use std::marker::Model;
 
-/// Values by number. The one that was put in last, mostly that of the stream which is worked on,
-/// is found by one comparison; the others by the hash of their number, so that a look-up costs
-/// about the same for a thousand numbers as for one.
+/// Values by number. The value inserted last, mostly of the stream that is in use, is found by
+/// one comparison, the others by the hash of their number. So a look-up costs about the same
+/// for a thousand numbers as for one.
 #[derive(Drop)]
 pub struct NumberTable<V> {
-    /// The number that was put in last.
+    /// The number inserted last.
     number: u32,
-    /// Its value, as long as it has one.
+    /// Its value, until it is removed.
     newest: Option<V>,
     /// The others.
     older: HashMap<u32, V>,
@@ -41,7 +41,7 @@ impl<V> Model for NumberTable<V> {
 }
 
 impl<V> NumberTable<V> {
-    /// A table without values. It takes no memory.
+    /// Returns an empty table. It takes no memory.
     pub fn new(alloc: Global) -> NumberTable<V>
         ensures empty { all_of result ≡ [] }
     {
@@ -53,7 +53,7 @@ impl<V> NumberTable<V> {
     }
 
     // rule: 5.1 (own) What is kept of a stream is found by its number
-    /// The value with this number. It takes no memory.
+    /// Returns the value at a number. It takes no memory.
     #[inline(always)]
     pub fn get(&self, id: u32) -> Option<&V>
         ensures value { option_copied result ≡ value_at id (all_of self.now) }
@@ -69,7 +69,7 @@ impl<V> NumberTable<V> {
 
     // rule: 5.1 (own) What is kept of a stream is found by its number
     // rule: 5.1 (own) A change of a stream changes that stream alone
-    /// The value with this number, to be changed. It takes no memory.
+    /// Returns the value at a number, to be changed. It takes no memory.
     #[inline(always)]
     pub fn get_mut(&mut self, id: u32) -> Option<&mut V>
         ensures* writes_back { sem 𝓛 (table_lends_at V.row self.entry id result) }
@@ -85,11 +85,11 @@ impl<V> NumberTable<V> {
     }
 
     // rule: 5.1 (own) A change of a stream changes that stream alone
-    /// Puts a value at a number that has none.
+    /// Sets the value at a number that has none.
     ///
     /// # Errors
     ///
-    /// [`AllocError`] where an allocation was refused; the table is as before.
+    /// [`AllocError`] where an allocation was refused; the table has not changed.
     #[inline(always)]
     pub fn insert(&mut self, id: u32, value: V) -> Result<(), AllocError>
     where
@@ -111,7 +111,7 @@ impl<V> NumberTable<V> {
     }
 
     // rule: 5.1 (own) A change of a stream changes that stream alone
-    /// Takes the value out at a number, if there is one, and answers it. It takes no memory.
+    /// Removes the value at a number, if there is one, and returns it. It takes no memory.
     #[inline(always)]
     pub fn take(&mut self, id: u32) -> Option<V>
         ensures value { result ≡ value_at id (all_of self.old) }
@@ -127,7 +127,7 @@ impl<V> NumberTable<V> {
     }
 
     // rule: 5.1 (own) A change of a stream changes that stream alone
-    /// Drops the value at a number, if there is one. It takes no memory.
+    /// Removes the value at a number, if there is one, and drops it. It takes no memory.
     #[inline(always)]
     pub fn remove(&mut self, id: u32)
     where
@@ -137,7 +137,7 @@ impl<V> NumberTable<V> {
         self.take(id);
     }
 
-    /// Whether a number is the one that was put in last, and has its value still.
+    /// Returns whether a number was inserted last and still has its value.
     #[inline(always)]
     fn is_newest(&self, id: u32) -> bool
         ensures { result ≡ is_newest id self.now }
@@ -145,21 +145,21 @@ impl<V> NumberTable<V> {
         self.number == id && self.newest.is_some()
     }
 
-    /// The value that was put in last, as long as it is there. It takes no memory.
+    /// Returns the value inserted last, unless it was removed. It takes no memory.
     pub fn newest(&self) -> Option<&V>
         ensures { option_copied result ≡ self.now.newest }
     {
         self.newest.as_ref()
     }
 
-    /// The number that was put in last; 0 where none was. It takes no memory.
+    /// Returns the number inserted last; 0 if none was. It takes no memory.
     pub fn newest_number(&self) -> u32
         ensures { result ≡ self.now.number }
     {
         self.number
     }
 
-    /// The values but that of the number that was put in last. It takes no memory.
+    /// Returns the values except that of the number inserted last. It takes no memory.
     pub fn older(&self) -> &HashMap<u32, V>
         ensures older { result.now.entries ≡ self.now.older }
         ensures apart { IsSome self.now.newest

@@ -1,4 +1,4 @@
-//! What has arrived where driving has ended with quiet ends.
+//! What has arrived once `settle` has ended with quiet ends.
 
 ghost use Rattle.std.specs.Prelude.{ℕ, false, List, None};
 ghost use Rattle.h2_spec_log.specs.Acts.{Values};
@@ -8,9 +8,9 @@ ghost use Rattle.h2_laws_quiet.specs.Arrived.{HasArrived};
 ghost use Rattle.h2_settle.specs.Settling.{HasSettled};
 
 // contract: joined (own) settle makes rounds until the ends are quiet or one has failed
-/// Where [`settle`](crate::settle) has ended with quiet ends, all that either end had accepted has
-/// arrived at the other, on each stream of which no Reset was made before, and which the client has
-/// not reported as unprocessed.
+/// Once [`settle`](crate::settle) has ended with quiet ends, all that either end had accepted
+/// has arrived at the other, on each stream on which no Reset was made before and which the
+/// client has not reported as unprocessed.
 pub fn settled_messages_arrive()
     ensures at_client { (client_values server_values : Values) (before acts : List Made)
         (rounds : ℕ) (client server new_client new_server : JointEnd) (i : ℕ)

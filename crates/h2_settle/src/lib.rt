@@ -1,10 +1,9 @@
-//! Two joined ends that are driven until they are quiet, for whoever tests a program over HTTP/2
-//! without sockets (RFC 9113).
+//! Drives two joined ends until they are quiet, for tests of a program over HTTP/2 without
+//! sockets (RFC 9113).
 //!
-//! [`settle`] makes rounds on two joined ends, in which each releases, pumps and gives out its
-//! output, and takes what has come, and says how that has ended. So a test makes its acts, as
-//! requests and responses ([`Joined::act`]), drives both ends by `settle(&mut joined, u64::MAX)`,
-//! and reads what each has handed out ([`Joined::handed`]).
+//! [`settle`] makes rounds: each end returns credit, pumps, gives out its output, and takes
+//! what has come. A test makes its requests and responses ([`Joined::act`]), calls `settle(&mut
+//! joined, u64::MAX)`, and reads what each end has handed out ([`Joined::handed`]).
 #![tactic(auto)]
 
 mod laws;

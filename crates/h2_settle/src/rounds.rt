@@ -7,20 +7,20 @@ ghost use Rattle.h2_settle.specs.RoundEndings.{FindsFailed, EndsAct, MakesRound}
 
 use h2_joined::{Acted, EndRefusal, Joined, JointAct, Refusal, Side};
 
-/// How an act, or a round, has ended.
+/// How an act or a round has ended.
 #[derive(Clone, Copy)]
 pub(crate) enum Ending {
-    /// It was made, memory sufficed, and neither end has failed.
+    /// Done: memory was not refused, and neither end has failed.
     Whole,
-    /// This end has failed, before it or in it.
+    /// This end has failed, before or during it.
     Failed(Side),
-    /// It was refused memory.
+    /// Memory was refused.
     NoMemory,
 }
 
 // rule: joined (own) settle makes rounds until the ends are quiet or one has failed
-/// Makes a round, up to the act that is refused memory, or after which an end has failed; none
-/// where an end has failed before.
+/// Makes the acts of a round, up to one that is refused memory or after which an end has
+/// failed. Makes none where an end has failed before.
 pub(crate) fn make_round(joined: &mut Joined) -> Ending
     ensures { MakesRound joined.old result joined.new }
 {
@@ -37,7 +37,7 @@ pub(crate) fn make_round(joined: &mut Joined) -> Ending
     Ending::Whole
 }
 
-/// The acts of a round, in order.
+/// Returns the acts of a round, in order.
 fn round_acts() -> [JointAct; 8]
     ensures { reverse (each joint_act_value result) ≡ round_doings }
 {
@@ -65,7 +65,7 @@ fn round_acts() -> [JointAct; 8]
     ]
 }
 
-/// Makes an act, and returns whether it was refused memory, or an end has failed.
+/// Makes an act, and returns how it has ended.
 fn make_act(joined: &mut Joined, act: &JointAct) -> Ending
     ensures { EndsAct joined.old act.now result joined.new }
 {
@@ -78,7 +78,7 @@ fn make_act(joined: &mut Joined, act: &JointAct) -> Ending
     }
 }
 
-/// An end that has failed, if one has: the client, if both have.
+/// Returns the end that has failed, if any: the client, if both have.
 fn failed_end(joined: &Joined) -> Option<Side>
     ensures { FindsFailed joined.now result }
 {
@@ -91,7 +91,7 @@ fn failed_end(joined: &Joined) -> Option<Side>
     None
 }
 
-/// Whether an act was refused memory.
+/// Returns whether an act was refused memory.
 fn was_refused_memory(acted: Acted) -> bool
     ensures { (result ≡ false) ↔ GotMemory acted }
 {

@@ -1,5 +1,5 @@
-//! The calls of a connection, and what to do where they are refused, as the `CALLING.md` of
-//! `h2_conn` shows it.
+//! Callers of a connection's calls, with what to do at each refusal, which the `CALLING.md` of
+//! `h2_conn` quotes.
 
 // calling: h2_conn open
 ghost use Rattle.std.specs.Prelude.{◌≡◌, ◌≢◌, ℕ, true, false, Ok, Err};
@@ -9,20 +9,20 @@ ghost use Rattle.h2_conn.specs.Conn.{ConnAnswers};
 use h2_conn::{Code, Conn, Refusal};
 use hpack::Field;
 
-/// What came of opening a stream.
+/// The result of opening a stream.
 #[derive(Clone, Copy, Debug, PartialEq, Eq)]
 pub enum Opened {
-    /// The stream has this number.
+    /// Opened, with this number.
     Stream(u32),
-    /// It is opened by the same call later: once the output was written, and where that is not
-    /// enough, once more was read.
+    /// Make the same call later: once the output was written, and if that is not enough, once
+    /// more was read.
     Later,
-    /// It is opened on another connection: this one takes no streams any more.
+    /// Open it on another connection: this one takes no more streams.
     Elsewhere,
 }
 
-/// Opens a stream with the head of a request. Fields that are too large are refused by each
-/// connection, and [`Refusal::Memory`] asks for another try, or to give up.
+/// Opens a stream with the head of a request. Fields that are too large are refused by every
+/// connection. After [`Refusal::Memory`] try again or give up.
 pub fn open_stream(conn: &mut Conn, head: &[Field], end: bool) -> Result<Opened, Refusal>
     ensures opened { (id : ℕ) → result ≡ Ok (Opened.Stream id)
         → ConnAnswers conn.old (Open head.now end) (Number id) conn.new }
@@ -45,17 +45,17 @@ pub fn open_stream(conn: &mut Conn, head: &[Field], end: bool) -> Result<Opened,
 /// How far a response was sent.
 #[derive(Clone, Copy, Debug, PartialEq, Eq)]
 pub enum Sent {
-    /// Nothing of it.
+    /// None of it.
     Nothing,
-    /// Its head, and so many octets of its body.
+    /// Its head, and this many octets of its body.
     Head(usize),
-    /// All of it; or its stream is over, and nobody waits for the rest.
+    /// All of it; or its stream is closed, and nobody waits for the rest.
     All,
 }
 
-/// Sends a response on from where it was left, and returns how far it went. As long as that is not
-/// [`Sent::All`] the call is made again with it: at once where it went further; else once the
-/// output was written; and where it then goes no further either, once more was read.
+/// Sends more of a response, from where it was left, and returns how far it went. Until that is
+/// [`Sent::All`] make the call again with it: at once if it went further, else once the output
+/// was written, and if it goes no further then either, once more was read.
 pub fn send_response(
     conn: &mut Conn,
     id: u32,
@@ -87,7 +87,7 @@ fn send_head(conn: &mut Conn, id: u32, head: &[Field], is_all: bool) -> Result<S
     }
 }
 
-/// Sends what windows let through of a body of which so many octets were sent.
+/// Sends what windows allow of a body of which `sent` octets were sent.
 fn send_rest(conn: &mut Conn, id: u32, body: &[u8], sent: usize) -> Result<Sent, Refusal> {
     let start = sent.min(body.len());
     match conn.data(id, &body[start..], true) {
@@ -101,9 +101,9 @@ fn send_rest(conn: &mut Conn, id: u32, body: &[u8], sent: usize) -> Result<Sent,
 // calling: h2_conn refuse
 use h2_message::Reading;
 
-/// Checks octets of a body that were reported, and returns whether they may be used. Where they
-/// don't belong there the message is malformed, and its stream is reset (RFC 9113, section 8.1.1),
-/// unless it is over.
+/// Checks octets of a body that were reported, and returns whether they may be used. If they
+/// may not come here, the message is malformed, and its stream is reset (RFC 9113, section
+/// 8.1.1) unless it is closed.
 pub fn accept_data(
     conn: &mut Conn,
     reading: &mut Reading,
@@ -127,8 +127,8 @@ pub fn accept_data(
 // calling: h2_conn reset
 ghost use Rattle.h2_spec_log.specs.Acts.{ResetStream, SendGoAway, Refused};
 
-/// Gives up a stream, which may be over meanwhile. Returns whether the connection goes on: an end
-/// resets 1,000 streams in all, and after these a program calls [`leave`] and opens another one.
+/// Gives up a stream, which may be closed by now. Returns whether the connection goes on: an
+/// end resets 1,000 streams in all; then call [`leave`] and open another connection.
 pub fn cancel(conn: &mut Conn, id: u32) -> Result<bool, Refusal>
     ensures over { (result ≢ Err Refusal.NoSuchStream) × (result ≢ Err Refusal.TooManyResets) }
     ensures most { result ≡ Ok false
@@ -141,8 +141,8 @@ pub fn cancel(conn: &mut Conn, id: u32) -> Result<bool, Refusal>
     }
 }
 
-/// Says that this end takes no further streams, and returns whether that is said: where the output
-/// is full it is written, and the call made again. It need not have been the first call.
+/// Announces that this end takes no further streams, and returns whether that was sent, now or
+/// before. If the output is full, write it and make the call again.
 pub fn leave(conn: &mut Conn) -> Result<bool, Refusal>
     ensures before { (result ≢ Err Refusal.GoingAway) × (result ≢ Err Refusal.OutputFull) }
     ensures full { result ≡ Ok false
@@ -159,9 +159,9 @@ pub fn leave(conn: &mut Conn) -> Result<bool, Refusal>
 // calling: h2_conn ping
 ghost use Rattle.h2_spec_log.specs.Acts.{SendPing, Done};
 
-/// Asks the peer whether it is there, as a program does now and then on an idle connection. Returns
-/// whether it was there the last time: else it has not answered, or not even taken the output, and
-/// the connection is given up.
+/// Asks the peer whether it is there, for now and then on an idle connection. Returns whether
+/// it was there the last time. If not, it has not answered, or not even taken the output: give
+/// the connection up.
 pub fn keep_alive(conn: &mut Conn) -> Result<bool, Refusal>
     ensures asks { result ≡ Ok true → ConnAnswers conn.old (SendPing PING) Done conn.new }
     ensures absent { (result ≢ Err Refusal.PingWaits) × (result ≢ Err Refusal.OutputFull) }
@@ -183,7 +183,8 @@ ghost use Rattle.h2_flow.specs.ConfigValues.{values_of};
 
 use h2_conn::{BadConfig, Config};
 
-/// The settings of a server, as its operator has chosen them, or what is wrong with the choice.
+/// Returns the settings of a server, as its operator has chosen them, or what is wrong with the
+/// choice.
 pub fn chosen_config(window: u32, max_streams: u32) -> Result<Config, &'static str> {
     match Config::new(4_096, window, max_streams) {
         Ok(config) => Ok(config),
@@ -192,9 +193,9 @@ pub fn chosen_config(window: u32, max_streams: u32) -> Result<Config, &'static s
     }
 }
 
-/// Changes the settings, and returns whether it has. Else the call is made again: after an
-/// [`Event::Acked`](h2_conn::Event), since the peer has not applied the last ones yet, or after the
-/// output was written, which was full.
+/// Changes the settings, and returns whether that was done. If not, make the call again: after
+/// an [`Event::Acked`](h2_conn::Event), since the peer has not applied the last ones yet, or
+/// after the output, which was full, was written.
 pub fn change_config(conn: &mut Conn, config: Config) -> Result<bool, Refusal>
     ensures done { result ≡ Ok true
         → ConnAnswers conn.old (ChangeSettings (values_of config)) Done conn.new }
@@ -213,17 +214,17 @@ ghost use Rattle.std.specs.Prelude.{◌≤◌, IfOk, length};
 
 use h2_conn::{ConnFault, Progress};
 
-/// Why a connection has failed. In either case GOAWAY is the last of its output, which is written
+/// Why a connection has failed. In both cases GOAWAY is the last of its output: write that
 /// before the transport is closed.
 #[derive(Clone, Copy, Debug, PartialEq, Eq)]
 pub enum Failure {
-    /// There was no memory here.
+    /// This end is out of memory.
     Memory,
     /// The peer has broken a rule, with this code.
     Peer(Code),
 }
 
-/// Takes octets, up to the end of one frame, and says at a fault whose it is.
+/// Takes octets, up to the end of one frame, and returns whose fault a failure is.
 pub fn advance(conn: &mut Conn, piece: &[u8]) -> Result<Progress, Failure>
     ensures used { IfOk result (λ progress. progress.used ≤ length piece.now) }
     ensures ours { result ≢ Err (Failure.Peer Code.InternalError) }

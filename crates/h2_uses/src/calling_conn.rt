@@ -1,13 +1,12 @@
-//! A connection that is driven by hand, as the `CALLING.md` of `h2_conn` shows it.
+//! A connection that is driven by hand, which the `CALLING.md` of `h2_conn` quotes.
 
 // calling: h2_conn
 ghost use Rattle.std.specs.Prelude.{◌≡◌, ◌≢◌, ◌≤◌, Err, IfOk, IfSome, length};
 
 use h2_conn::{Conn, Event, Refusal};
 
-/// Sends the next part of a body, and returns the number of its octets that were sent, 0 where a
-/// window is closed; or `None` where the output is full: then it is written, and the call made
-/// again.
+/// Sends the next part of a body, and returns how many octets were sent: 0 if a window is
+/// closed, `None` if the output is full. Then write it, and make the call again.
 pub fn send_part(
     conn: &mut Conn,
     id: u32,
@@ -28,10 +27,10 @@ pub fn send_part(
 // calling: h2_conn refusals
 use anyhow::Result as Answer;
 
-/// Takes a piece that was read, and releases the octets of all bodies in it, with what was owed on
-/// their streams before. Where the output is full they stay owed: the caller writes it, and then
-/// releases [`Conn::owed`] of each stream that [`Conn::next_live`] names. Where a stream is over
-/// the end returns them by itself.
+/// Takes a piece that was read, and releases the octets of all bodies in it, with what was owed
+/// on their streams before. If the output is full they stay owed: write it, and then release
+/// [`Conn::owed`] of each stream that [`Conn::next_live`] returns. The credit of a closed
+/// stream returns by itself.
 pub fn discard_bodies(conn: &mut Conn, piece: &[u8]) -> Answer<()> {
     let mut unused = piece;
     for _ in 0..u64::MAX {
@@ -63,26 +62,26 @@ fn release_owed(conn: &mut Conn, id: u32) -> Answer<()> {
 /// What a program does after a call was refused.
 #[derive(Clone, Copy, Debug, PartialEq, Eq)]
 pub enum Next {
-    /// Nothing more on this stream: it is over, or this end has ended it.
+    /// Do nothing more on this stream: it is closed, or this end has ended it.
     LeaveStream,
-    /// The output is written, and the call made again.
+    /// Write the output, and make the call again.
     Write,
-    /// The call is made again after more was read: an `Acked`, a `Pong`, the end of a stream, or
+    /// Make the call again after more was read: an `Acked`, a `Pong`, the end of a stream, or
     /// SETTINGS of the peer, which are not reported.
     ReadMore,
-    /// Another connection is opened for it.
+    /// Open another connection for it.
     Connect,
-    /// The call is made again later, or the connection given up: there was no memory.
+    /// Make the call again later, or give the connection up: out of memory.
     Retry,
-    /// GOAWAY is sent, the streams under way end, and then the connection is closed.
+    /// Send GOAWAY, let the streams under way end, and then close the connection.
     GoAway,
-    /// The output is written, and the connection closed.
+    /// Write the output, and close the connection.
     Close,
-    /// The program has made a call that it must not make.
+    /// Fix the program: it has made a call that it must not make.
     Mend,
 }
 
-/// What to do after a refusal, whichever call gave it.
+/// Returns what to do after a refusal, whatever call was refused.
 pub fn after_refusal(refusal: Refusal) -> Next {
     match refusal {
         Refusal::NoSuchStream | Refusal::Ended => Next::LeaveStream,

@@ -1,5 +1,5 @@
-//! The calls of a client and a server, and what to do where they are refused, as the `CALLING.md`
-//! of `h2_ends` shows it.
+//! Callers of a client's and a server's calls, with what to do at each refusal, which the
+//! `CALLING.md` of `h2_ends` quotes.
 
 // calling: h2_ends request
 ghost use Rattle.std.specs.Prelude.{◌≡◌, ◌≢◌, Ok, Err};
@@ -7,20 +7,20 @@ ghost use Rattle.h2_message.specs.Values.{message_value};
 
 use h2_ends::{Client, Code, EndRefusal, Message, Refusal, Server};
 
-/// What came of a request.
+/// The result of a request.
 #[derive(Drop)]
 pub enum Asked {
-    /// It is under way, on this stream.
+    /// Sent, on this stream.
     Stream(u32),
-    /// It is made by the same call later: once the output was written, and where that is not
-    /// enough, once more was read.
+    /// Make the same call later: once the output was written, and if that is not enough, once
+    /// more was read.
     Later(Message),
-    /// It is made on another connection: this one takes no requests any more.
+    /// Make it on another connection: this one takes no more requests.
     Elsewhere(Message),
 }
 
-/// Makes a request, or hands it back for another try. A request that breaks a rule, or that is too
-/// large, is refused by each connection.
+/// Makes a request, or hands it back for another try. A request that breaks a rule, or is too
+/// large, is refused by every connection.
 pub fn ask(client: &mut Client, message: Message) -> Result<Asked, EndRefusal>
     ensures later { (back : Message) → result ≡ Ok (Asked.Later back)
         → message_value back ≡ message_value message }
@@ -42,9 +42,9 @@ pub fn ask(client: &mut Client, message: Message) -> Result<Asked, EndRefusal>
 // end
 
 // calling: h2_ends late
-/// Gives an answer that was long in the making. It is handed back where the output is full, which
-/// is written then, and where there was no memory; where its stream is over it is dropped, since
-/// nobody waits for it. After an answer that breaks a rule or is too large the stream is reset.
+/// Sends a response that took long to make. Hands it back if the output is full, which must be
+/// written first, or if memory was refused. Drops it if its stream is closed, since nobody
+/// waits for it. Resets the stream if the response breaks a rule or is too large.
 pub fn answer_late(
     server: &mut Server,
     id: u32,
@@ -64,10 +64,10 @@ pub fn answer_late(
 // end
 
 // calling: h2_ends release
-/// Says that of a response's body all was used but so many octets, so that the server sends as many
-/// more as were. The padding of DATA is owed too, which no event shows: it is given back with them.
-/// Returns whether that is done: where the output is full it is written, and the call made again.
-/// Where the stream is over nothing is owed on it any more.
+/// Releases what was used of a response's body, all but `unused` octets, so that the server may
+/// send as much more. Padding of DATA, which no event shows, is released with it. Returns
+/// whether that is done: if the output is full, write it and make the call again. Nothing is
+/// owed on a closed stream.
 pub fn release_used(client: &mut Client, id: u32, unused: u32) -> Result<bool, Refusal>
     ensures over { result ≢ Err Refusal.NoSuchStream }
     ensures full { result ≢ Err Refusal.OutputFull }
@@ -85,8 +85,8 @@ pub fn release_used(client: &mut Client, id: u32, unused: u32) -> Result<bool, R
 // end
 
 // calling: h2_ends reset
-/// Gives up a request, whose response may have come meanwhile. Returns whether the client goes on:
-/// it resets 1,000 streams in all, and after these the next request is made on another connection.
+/// Gives up a request, whose response may have come by now. Returns whether the client goes on:
+/// it resets 1,000 streams in all; then make the next request on another connection.
 pub fn give_up(client: &mut Client, id: u32) -> Result<bool, Refusal>
     ensures over { result ≢ Err Refusal.NoSuchStream }
     ensures most { result ≢ Err Refusal.TooManyResets }
@@ -98,8 +98,9 @@ pub fn give_up(client: &mut Client, id: u32) -> Result<bool, Refusal>
     }
 }
 
-/// Ends a server gracefully: called after each round of reading and writing, until it returns true
-/// and the transport is closed. GOAWAY is sent once, as soon as the output has room for it.
+/// Ends a server gracefully: call it after each round of reading and writing, until it returns
+/// true, and then close the transport. GOAWAY is sent once, as soon as the output has room for
+/// it.
 pub fn wind_down(server: &mut Server) -> Result<bool, Refusal>
     ensures { (result ≢ Err Refusal.GoingAway) × (result ≢ Err Refusal.OutputFull)
         × (result ≢ Err Refusal.Closed) }
@@ -121,9 +122,9 @@ ghost use Rattle.h2_conn.specs.Conn.{ConnRepresents};
 
 use std::io::Write;
 
-/// Writes the output from where it lies, without a copy, and returns whether all was written. What
-/// the writer did not take still waits, also where a write has failed, as one that would block: the
-/// call is then made again.
+/// Writes the output from where it lies, without a copy, and returns whether all was written.
+/// What the writer did not take still waits, also after a write that failed, such as one that
+/// would block: make the call again.
 pub fn send_from_place<W: Write>(client: &mut Client, to: &mut W) -> anyhow::Result<bool>
     ensures { IfOk result (λ all. all ≡ true → (values : Values) (log : Log)
         → ConnRepresents values client.new.end.conn log → waiting log ≡ 0) }

@@ -1,4 +1,4 @@
-//! Frames that are written and read, as the `CALLING.md` of `h2_frame` shows it.
+//! Frames that are written and read, which the `CALLING.md` of `h2_frame` quotes.
 
 // calling: h2_frame
 ghost use Rattle.std.specs.Prelude.{◌≡◌, IfOk, IfErr};
@@ -10,7 +10,7 @@ use h2_frame::{
     written_frame_is_read,
 };
 
-/// Writes a frame, and reads what was written: it is that frame. A refusal is returned.
+/// Writes a frame, and reads it back: it is the same frame. Returns a refusal.
 pub fn read_back<'a>(frame: &Frame, out: &'a mut Vec<u8>) -> Result<FrameRef<'a>, Unwritable>
     ensures ok { IfOk result (λ read. frame_of read ≡ owned_frame frame.now) }
     ensures err { IfErr result (λ error. IsRefused (owned_frame frame.now) error) }
@@ -37,8 +37,8 @@ ghost use Rattle.h2_frame.specs.Frames.{Carries};
 
 use h2_frame::{Code, PayloadError, head_fault};
 
-/// Reads the frame of a head and its payload; `None` where the payload has another length. A fault
-/// of either is returned as its code.
+/// Reads a frame of its head and its payload; `None` if the payload has another length. Returns
+/// the code of a fault of either.
 pub fn read_frame<'a>(nine: &[u8; 9], payload: &'a [u8]) -> Result<Option<FrameRef<'a>>, Code>
     ensures { IfOk result (λ read. IfSome read (λ frame.
         Carries (head_of nine.now) payload.now (frame_of frame))) }
@@ -61,8 +61,8 @@ pub fn read_frame<'a>(nine: &[u8; 9], payload: &'a [u8]) -> Result<Option<FrameR
 ghost use Rattle.std.specs.Prelude.{◌++◌, OnErr};
 ghost use Rattle.h2_frame.specs.Encoding.{encoding_of};
 
-/// Appends a frame as asked for by a user, whose mistakes are returned as text. Out of memory, the
-/// caller writes the queued output, and tries again: `None`.
+/// Appends a frame as a user asks for it, and returns the user's mistakes as text. `None` out
+/// of memory: write the queued output, and try again.
 pub fn write_for_user(frame: &Frame, out: &mut Vec<u8>) -> Result<Option<()>, &'static str>
     ensures ok { IfOk result (λ written. IfSome written (λ _.
         out.new.items ≡ out.old.items ++ encoding_of (owned_frame frame.now))) }
@@ -81,8 +81,8 @@ pub fn write_for_user(frame: &Frame, out: &mut Vec<u8>) -> Result<Option<()>, &'
 // calling: h2_frame pad
 use h2_frame::{pad_length, payload_frame};
 
-/// Reads a frame only where it is on this stream; the others are checked, and left as they lie. A
-/// fault of any of them is returned as its code, since it ends the connection.
+/// Reads a frame only if it is on this stream; checks the others without reading them. Returns
+/// the code of a fault of any of them, since that ends the connection.
 pub fn read_on<'a>(
     stream: u32,
     nine: &[u8; 9],
@@ -111,11 +111,11 @@ ghost use Rattle.std.specs.Prelude.{true};
 
 use h2_frame::write_ref;
 
-/// Appends a frame that was read to a copy of its stream of octets, as a recorder does, and returns
-/// whether it did: out of memory, the caller writes the copy, and tries again. A frame as it was
-/// read is refused for nothing else; the codes are for one that was changed since. For another
-/// connection frames are made anew: stream numbers, header tables, settings and windows are each
-/// connection's own.
+/// Appends a frame that was read to a copy of its stream of octets, as a recorder does, and
+/// returns whether it did. If not, memory was refused: write the copy, and try again. A frame
+/// as it was read is refused for nothing else; the codes are for one that was changed since.
+/// For another connection make frames anew: stream numbers, header tables, settings and windows
+/// belong to one connection.
 pub fn pass_on(frame: FrameRef<'_>, out: &mut Vec<u8>) -> Result<bool, Code>
     ensures ok { IfOk result (λ passed. passed ≡ true →
         out.new.items ≡ out.old.items ++ encoding_of (frame_of frame.entry)) }

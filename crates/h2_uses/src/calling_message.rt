@@ -1,4 +1,4 @@
-//! Messages that are checked and read, as the `CALLING.md` of `h2_message` shows it.
+//! Messages that are checked and read, which the `CALLING.md` of `h2_message` quotes.
 
 // calling: h2_message
 ghost use Rattle.std.specs.Prelude.{◌≡◌, true, false, List, [], ◌∷◌, length};
@@ -7,7 +7,7 @@ ghost use Rattle.h2_message.specs.Reading.{IsReadable, FieldsPart, OctetsPart};
 
 use h2_message::{FieldList, Place, Reading, Reads};
 
-/// Whether a head and a body begin a request that breaks no rule, where the body ends it.
+/// Returns whether a head and a complete body are a request that breaks no rule.
 pub fn is_request(head: &FieldList, body: &[u8]) -> bool
     ensures { result ≡ true → IsReadable Requests
         ((FieldsPart head.now, false) ∷ ((OctetsPart body.now, true) ∷ [])) }
@@ -27,7 +27,8 @@ ghost use Rattle.h2_message.specs.Values.{message_value};
 
 use h2_message::{Malformed, Message, check_response};
 
-/// A response that may be sent; or why it may not, for the log of whoever wrote it.
+/// Returns a response that may be sent; or why it may not, for the log of the program that made
+/// it.
 pub fn checked_response(message: Message, to_head: bool) -> Result<Message, &'static str>
     ensures { IfOk result (λ sent. broken_by_response to_head (message_value sent) ≡ None) }
 {
@@ -48,9 +49,9 @@ ghost use Rattle.h2_message.specs.Messages.{broken_by_request};
 
 use h2_message::check_request;
 
-/// Whether a request may be sent on; else the status with which a gateway answers whoever made it:
-/// 501 (Not Implemented) for a method that cannot be sent, as CONNECT, and 400 (Bad Request) for
-/// whatever else is wrong with it.
+/// Returns whether a request may be sent on; else the status with which a gateway answers it:
+/// 501 (Not Implemented) for a method that cannot be sent, such as CONNECT, 400 (Bad Request)
+/// for any other fault.
 pub fn check_forwarded(request: &Message) -> Result<(), u16>
     ensures { OnOk result (broken_by_request (message_value request.now) ≡ None) }
 {

@@ -6,27 +6,28 @@ use std::alloc::Global;
 use std::collections::BTreeMap;
 use std::io::{Read, Write};
 
-/// A response, as far as it has come.
+/// The part of a response that has come so far.
 #[derive(Drop)]
 pub struct Response {
-    /// Its status, as `200`.
+    /// Its status, such as `200`.
     pub status: Vec<u8>,
     /// The octets of its body.
     pub body: Vec<u8>,
     /// Whether it is complete.
     pub is_whole: bool,
-    /// Whether nothing more of it comes: it is complete, its stream was reset, or the server has
-    /// not processed the request.
+    /// Whether no more of it comes: it is complete, its stream was reset, or the server has not
+    /// processed the request.
     pub is_over: bool,
 }
 
-/// Asks for each path with GET, on one connection, and returns what has come by stream, 1, 3, 5
-/// and so on, once all responses are over or the input has ended.
+/// Sends a GET for each path on one connection. Returns what has come, by stream (1, 3, 5 and
+/// so on), once all responses are over or the input has ended.
 ///
 /// # Errors
 ///
-/// The connection has failed, and its GOAWAY was written; or a read, a write or an allocation has
-/// failed, or there are more paths than the server takes streams: 100 until it says so.
+/// The connection failed, and its GOAWAY was written; or a read, a write or an allocation
+/// failed; or there are more paths than streams that the server takes: 100 until its SETTINGS
+/// have come.
 pub fn get<R: Read, W: Write>(
     alloc: Global,
     from: &mut R,
@@ -66,7 +67,7 @@ fn read_responses<R: Read, W: Write>(
     Ok(())
 }
 
-/// Whether all responses are over.
+/// Returns whether all responses are over.
 fn are_over(responses: &BTreeMap<u32, Response>) -> bool {
     responses.values().all(|response| response.is_over)
 }
@@ -151,7 +152,7 @@ impl Response {
     }
 }
 
-/// Lets the server send as much again. A full output is sent first: then there is room for all.
+/// Returns all credit. A full output is sent first, so that there is room for it.
 fn release<W: Write>(alloc: Global, client: &mut Client, to: &mut W) -> Result<()> {
     match client.release_all() {
         Err(EndRefusal::Conn(Refusal::OutputFull)) => {
@@ -162,7 +163,7 @@ fn release<W: Write>(alloc: Global, client: &mut Client, to: &mut W) -> Result<(
     }
 }
 
-/// Sends what windows let through, and writes all queued output.
+/// Sends what windows allow, and writes all queued output.
 fn send<W: Write>(alloc: Global, client: &mut Client, to: &mut W) -> Result<()> {
     let mut output = Vec::new(alloc);
     send_into(client, &mut output, to)
@@ -180,7 +181,7 @@ fn send_into<W: Write>(client: &mut Client, output: &mut Vec<u8>, to: &mut W) ->
     Ok(())
 }
 
-/// Writes all queued output, and returns how many octets that were.
+/// Writes all queued output, and returns its number of octets.
 fn write_out<W: Write>(client: &mut Client, output: &mut Vec<u8>, to: &mut W) -> Result<usize> {
     output.clear();
     let count = client.put_out(usize::MAX, output)?;

@@ -6,47 +6,48 @@ use h2_message::{list_asks_head, names_user};
 use std::alloc::Global;
 use std::io::{BufRead, BufReader, Read, Write};
 
-/// How many octets of a file are kept at most.
+/// The most octets of a file that are kept.
 const PART: usize = 16_384;
 
 /// Where files come from.
 pub trait Opener {
-    /// A file, whose length need not be known. A read that fails resets its stream.
+    /// A file, whose length need not be known. If a read fails, its stream is reset.
     type File: Read + Drop;
 
-    /// Opens what a request asks for, by the fields of its head, or finds nothing there (404). An
-    /// error is answered with status 500.
+    /// Opens what a request asks for, by the fields of its head; `None` is answered with status
+    /// 404, an error with 500.
     fn open(&mut self, head: &FieldList) -> Result<Option<Self::File>>;
 }
 
-/// A file under way on a stream: what was read of it and isn't sent is in the reader's buffer.
+/// A file under way on a stream. The reader's buffer holds what was read of it and not yet
+/// sent.
 #[derive(Drop)]
 struct Download<F> {
     id: u32,
     file: BufReader<F>,
 }
 
-/// What became of a part of a file.
+/// The result of sending a part of a file.
 #[derive(Clone, Copy)]
 enum Part {
-    /// All of it went.
+    /// The part was sent completely.
     Sent,
-    /// It waits, or the rest of it, until the client widens a window, or the output is written.
+    /// Some of the part waits, until the client widens a window or the output is written.
     Waits,
-    /// No part is left to be sent: the file has ended, or its stream is over.
+    /// No part is left: the file has ended, or its stream is closed.
     Over,
 }
 
-/// What a request is answered with.
+/// The answer to a request.
 #[derive(Drop)]
 enum Answer<F> {
     /// Status 200, and the file as the body.
     File(F),
-    /// A status alone.
+    /// A status without a body.
     Status(u16),
 }
 
-/// The server of one connection, with the files that are under way.
+/// The server of one connection, and the files under way.
 #[derive(Drop)]
 struct Files<F> {
     alloc: Global,
@@ -55,15 +56,16 @@ struct Files<F> {
     downloads: Vec<Download<F>>,
 }
 
-/// Answers each GET on a connection with a file, in parts, until the input ends; HEAD with the head
-/// alone. Each file in turn gets a part sent, so that a long one keeps no other back, and no input
-/// is read as long as a part can go. What is kept is bounded by the number of streams, of which a
-/// client may have 100 open: 16,384 octets for each, beside its file, and the output.
+/// Answers each GET on a connection with a file, in parts, and each HEAD with its head, until
+/// the input ends. The files take turns, a part each, so that no long one keeps the others
+/// waiting, and no input is read while a part can be sent. Memory is bounded by the number of
+/// streams, of which a client may have 100 open: 16,384 octets and the open file for each, and
+/// the output.
 ///
 /// # Errors
 ///
-/// The connection has failed, and its GOAWAY was written; or a read of `from`, a write or an
-/// allocation has failed, or the server refuses a call, as the 1,001st reset.
+/// The connection failed, and its GOAWAY was written; or a read of `from`, a write or an
+/// allocation failed; or the server refuses a call, such as the 1,001st reset.
 pub fn serve_files<R: Read, W: Write, O: Opener>(
     alloc: Global,
     from: &mut R,
@@ -81,8 +83,8 @@ pub fn serve_files<R: Read, W: Write, O: Opener>(
 }
 
 // calling: h2_ends parts
-/// Sends the next part of a file, whose length isn't known before its end. What the windows don't
-/// let go stays in the reader's buffer, and nothing is read while the output is full.
+/// Sends the next part of a file whose length isn't known before its end. What the windows
+/// don't allow stays in the reader's buffer, and nothing is read while the output is full.
 fn send_part<F: Read>(server: &mut Server, download: &mut Download<F>) -> Result<Part> {
     if server.is_full() {
         return Ok(Part::Waits);
@@ -108,8 +110,8 @@ fn send_part<F: Read>(server: &mut Server, download: &mut Download<F>) -> Result
 // end
 
 // calling: h2_ends failing
-/// Gives up a response that was begun and can't be ended: the client sees that it isn't whole, and
-/// other streams go on.
+/// Gives up a response that was begun and can't be ended: the client sees that it is
+/// incomplete, and other streams go on.
 fn give_up(server: &mut Server, id: u32) -> Result<Part> {
     match server.reset(id, Code::InternalError.number()) {
         Ok(()) | Err(Refusal::NoSuchStream) => Ok(Part::Over),
@@ -118,7 +120,7 @@ fn give_up(server: &mut Server, id: u32) -> Result<Part> {
 }
 // end
 
-/// What a request is answered with, by the fields of its head.
+/// Returns the answer to a request, by the fields of its head.
 fn answer_to<O: Opener>(head: &FieldList, opener: &mut O) -> Answer<O::File> {
     if names_user(head.value(b":authority").unwrap_or(b"")) {
         return Answer::Status(400); // section 8.3.1
@@ -157,8 +159,8 @@ impl<F: Read + Drop> Files<F> {
         Ok(())
     }
 
-    /// Takes what was read, and answers the requests whose heads are in it. A stream that the
-    /// client resets drops its file.
+    /// Takes what was read, and answers the requests whose heads are in it. Drops the file of a
+    /// stream that the client resets.
     fn take_piece<W: Write, O: Opener<File = F>>(
         &mut self,
         piece: &[u8],
@@ -184,7 +186,7 @@ impl<F: Read + Drop> Files<F> {
         self.release(to)
     }
 
-    /// Answers a request. A full output, which takes no answer, is written first.
+    /// Answers a request. Writes a full output first, which takes no response.
     fn answer<W: Write>(&mut self, id: u32, answer: Answer<F>, to: &mut W) -> Result<()> {
         if self.server.is_full() {
             self.write_out(to)?;
@@ -206,7 +208,7 @@ impl<F: Read + Drop> Files<F> {
         Ok(())
     }
 
-    /// Lets the client send as much again of bodies, which are dropped.
+    /// Returns all credit of bodies, which are dropped.
     fn release<W: Write>(&mut self, to: &mut W) -> Result<()> {
         if self.server.is_full() {
             self.write_out(to)?;
@@ -225,8 +227,8 @@ impl<F: Read + Drop> Files<F> {
         Ok(())
     }
 
-    /// Sends a part of each file, as long as the output takes it: then the next round goes on with
-    /// the file that is next.
+    /// Sends a part of each file while the output has room. The next round goes on with the
+    /// next file.
     fn send_parts(&mut self) -> Result<()> {
         let mut waiting = 0; // so many wait at the front, and keep their turn
         for _ in 0..self.downloads.len() {
@@ -242,7 +244,7 @@ impl<F: Read + Drop> Files<F> {
         Ok(())
     }
 
-    /// Writes all queued output, and returns how many octets that were.
+    /// Writes all queued output, and returns its number of octets.
     fn write_out<W: Write>(&mut self, to: &mut W) -> Result<usize> {
         self.output.clear();
         let count = self.server.put_out(usize::MAX, &mut self.output)?;

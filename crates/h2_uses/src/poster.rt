@@ -6,11 +6,11 @@ use anyhow::Result;
 use h2_engines::{Config, Fetched, Link, Message, fetch_link};
 use std::alloc::Global;
 
-/// Posts a body, and returns the response once it is complete.
+/// Posts a body, and returns the complete response.
 ///
 /// # Errors
 ///
-/// As [`fetch_link`], and where an allocation was refused.
+/// Those of [`fetch_link`]; also where an allocation was refused.
 pub fn post<L: Link>(
     alloc: Global,
     link: &mut L,

@@ -1,4 +1,5 @@
-//! A proxy in memory: one request of a client is passed on to another server, and the answer back.
+//! A proxy in memory: passes one request of a client on to another server, and the response
+//! back.
 
 use anyhow::Result;
 use h2_ends::{
@@ -6,32 +7,33 @@ use h2_ends::{
 };
 use std::alloc::Global;
 
-/// How many octets of output are put into a queue at most.
+/// The most octets of output that are put into a queue.
 const QUEUE: usize = 65_536;
 
 /// The octets between a relay and one of its peers.
 #[derive(Drop)]
 pub struct Wire {
-    /// Those that have come from the peer: a step takes all of them.
+    /// Octets from the peer; a step takes all of them.
     pub input: Vec<u8>,
-    /// Those that go to the peer, which takes them away as fast as it likes.
+    /// Octets for the peer, which takes them as fast as it likes.
     pub output: Vec<u8>,
 }
 
-/// How a message ends, as far as that has come.
+/// How a message ends, as far as that is known.
 #[derive(Drop)]
 enum Ending {
-    /// It isn't whole.
+    /// Not yet.
     Open,
     /// With its head or its body.
     Body,
     /// With trailers.
     Trailers(Vec<Field>),
-    /// It was passed on, whole.
+    /// It was passed on completely.
     Passed,
 }
 
-/// A message on its way from one end to the other: what has come of it and wasn't passed on.
+/// A message on its way from one end to the other: what was received of it and not yet passed
+/// on.
 #[derive(Drop)]
 struct Passage {
     head: Option<Vec<Field>>,
@@ -41,9 +43,9 @@ struct Passage {
     reset: Option<u32>,
 }
 
-/// A server towards a client, and a client towards another server: one request is passed on, in
-/// parts, and its response back. What one side doesn't take is kept, and the other side gets credit
-/// only for what was taken: so at most 65,535 octets of either body are kept.
+/// A server towards a client, and a client towards another server. One request is passed on, in
+/// parts, and its response back. What one side doesn't take is kept, and the other side gets
+/// credit only for what was taken: so at most 65,535 octets of either body are kept.
 #[derive(Drop)]
 pub struct Relay {
     alloc: Global,
@@ -71,13 +73,13 @@ trait Side {
     fn reset(&mut self, id: u32, code: u32) -> Result<(), Refusal>;
 }
 
-/// Takes what has come from both peers, passes on what can go, and puts out what the queues have
-/// room for. Returns whether anything has moved: else the next step is made once more has come, or
-/// a peer has taken some of its queue.
+/// Takes what has come from both peers, passes on what can go, and puts out as much as the
+/// queues have room for. Returns whether anything has moved. If not, make the next step once
+/// more has come, or a peer has taken some of its queue.
 ///
 /// # Errors
 ///
-/// A connection has failed, and its GOAWAY is in its queue; or an allocation or a call was refused.
+/// A connection failed, and its GOAWAY is in its queue; or an allocation or a call was refused.
 /// Both connections are then closed.
 pub fn relay_step(relay: &mut Relay, front: &mut Wire, back: &mut Wire) -> Result<bool> {
     let has_come = !front.input.is_empty() || !back.input.is_empty();
@@ -93,7 +95,7 @@ pub fn relay_step(relay: &mut Relay, front: &mut Wire, back: &mut Wire) -> Resul
 }
 
 impl Relay {
-    /// A relay of two new connections.
+    /// Returns a relay of two new connections.
     ///
     /// # Errors
     ///
@@ -112,7 +114,7 @@ impl Relay {
         })
     }
 
-    /// How many octets are kept here: of bodies, and of output that isn't put out.
+    /// Returns how many octets are kept: of bodies, and of output that is not yet put out.
     pub fn kept(&self) -> usize {
         let output = self.back.conn().waiting();
         let output = output.saturating_add(self.front.conn().waiting());
@@ -121,8 +123,9 @@ impl Relay {
             .saturating_add(self.response.body.len())
     }
 
-    /// Takes what has come, and passes on what can go. A reset of the request is passed on at once,
-    /// and one that follows a whole response once that was passed on (RFC 9113, section 8.1).
+    /// Takes what has come, and passes on what can go. A reset of the request is passed on at
+    /// once; one that follows a complete response, once that was passed on (RFC 9113, section
+    /// 8.1).
     fn pass(&mut self, from_front: &[u8], from_back: &[u8]) -> Result<()> {
         self.take_front(from_front)?;
         self.take_back(from_back)?;
@@ -139,8 +142,8 @@ impl Relay {
         }
     }
 
-    /// Takes octets of the client, and keeps what they add to the request, which is the only one:
-    /// later ones are ignored after GOAWAY, and may be made on another connection.
+    /// Takes octets of the client, and keeps what they add to the one request. Later requests
+    /// are ignored after GOAWAY, and may be made on another connection.
     fn take_front(&mut self, piece: &[u8]) -> Result<()> {
         let mut unused = piece;
         for _ in 0..u64::MAX {
@@ -176,7 +179,7 @@ impl Relay {
         Ok(())
     }
 
-    /// Passes on what can go of the request, and lets the client send as much again.
+    /// Passes on what can go of the request, and returns credit for it to the client.
     fn pass_request(&mut self) -> Result<()> {
         if let Some(head) = &self.request.head
             && !self.back.is_full()
@@ -193,7 +196,7 @@ impl Relay {
         Ok(())
     }
 
-    /// Passes on what can go of the response, and lets the other server send as much again.
+    /// Passes on what can go of the response, and returns credit for it to the other server.
     fn pass_response(&mut self) -> Result<()> {
         let (Some(front_id), Some(back_id)) = (self.front_id, self.back_id) else {
             return Ok(());
@@ -220,7 +223,7 @@ impl Passage {
         }
     }
 
-    /// Whether it is whole and wasn't passed on.
+    /// Returns whether the message is complete and not yet passed on.
     fn is_held(&self) -> bool {
         matches!(self.ending, Ending::Body | Ending::Trailers(_))
     }
@@ -253,7 +256,8 @@ impl Passage {
         Ok(())
     }
 
-    /// Keeps the code of a reset, after which nothing more comes: what isn't whole is dropped.
+    /// Keeps the code of a reset, after which nothing more comes, and drops a message that is
+    /// incomplete.
     fn stop(&mut self, code: u32) {
         self.reset = Some(code);
         if !self.is_held() {
@@ -262,7 +266,7 @@ impl Passage {
         }
     }
 
-    /// Passes on what the windows and the output let go of its body, and then its end.
+    /// Passes on what the windows and the output allow of its body, and then its end.
     fn pass_on<S: Side>(&mut self, to: &mut S, id: u32) -> Result<(), EndRefusal> {
         if self.head.is_some() || to.is_full() {
             return Ok(());
@@ -286,8 +290,8 @@ impl Passage {
         Ok(())
     }
 
-    /// Gives the side where it comes from credit for what was passed on: all that is owed, with the
-    /// padding of DATA, but what is kept.
+    /// Returns credit to the side that sends the message: all that is owed, padding of DATA
+    /// included, except for what is kept.
     fn release<S: Side>(&self, from: &mut S, id: u32) -> Result<(), Refusal> {
         let kept = u32::try_from(self.body.len()).unwrap_or(u32::MAX);
         let passed = from.conn().owed(id).saturating_sub(kept);
@@ -299,8 +303,8 @@ impl Passage {
 }
 
 // calling: h2_ends trailers
-/// Ends a message with trailers, whose body has gone. Returns whether that is done: where the
-/// output is full it is written, and the call made again.
+/// Ends a message, whose body was sent, with trailers. Returns whether that is done: if the
+/// output is full, write it and make the call again.
 fn end_with<S: Side>(to: &mut S, id: u32, trailers: &[Field]) -> Result<bool, EndRefusal> {
     match to.send_trailers(id, trailers) {
         Ok(()) => Ok(true),
@@ -310,7 +314,8 @@ fn end_with<S: Side>(to: &mut S, id: u32, trailers: &[Field]) -> Result<bool, En
 }
 // end
 
-/// Resets a stream, if there is one and it isn't over; where the output is full, at the next step.
+/// Resets a stream, if there is one and it isn't closed; at the next step if the output is
+/// full.
 fn reset<S: Side>(end: &mut S, id: Option<u32>, code: u32) -> Result<()> {
     let Some(id) = id else {
         return Ok(());

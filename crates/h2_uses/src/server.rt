@@ -9,18 +9,18 @@ use std::io::{Read, Write};
 
 /// How requests are answered.
 pub trait Handler {
-    /// The response to a request, by the fields of its head. A response that breaks a rule resets
-    /// its stream, and an error ends the connection.
+    /// Returns the response to a request, by the fields of its head. A response that breaks a
+    /// rule resets its stream, and an error ends the connection.
     fn answer(&mut self, alloc: Global, head: &FieldList) -> Result<Message>;
 }
 
-/// Answers each request on a connection, until its input ends; one whose authority names a user
-/// gets status 400 (RFC 9113, section 8.3.1).
+/// Answers each request on a connection, until its input ends; a request whose authority names
+/// a user gets status 400 (RFC 9113, section 8.3.1).
 ///
 /// # Errors
 ///
-/// The connection has failed, and its GOAWAY was written; or a read, a write, an allocation or the
-/// handler has failed, or an end refuses a call, as the 1,001st reset.
+/// The connection failed, and its GOAWAY was written; or a read, a write, an allocation or the
+/// handler failed; or the server refuses a call, such as the 1,001st reset.
 pub fn serve<R: Read, W: Write, H: Handler>(
     alloc: Global,
     from: &mut R,
@@ -33,7 +33,7 @@ pub fn serve<R: Read, W: Write, H: Handler>(
 }
 
 // calling: h2_ends loop
-/// Takes what is read, a piece at a time, and sends what there is to send after each.
+/// Takes what is read, a piece at a time, and sends what can go after each.
 fn serve_input<R: Read, W: Write, H: Handler>(
     alloc: Global,
     server: &mut Server,
@@ -83,7 +83,8 @@ fn take_piece<W: Write, H: Handler>(
 }
 // end
 
-/// The response to a request: the handler's, unless the authority names a user (section 8.3.1).
+/// Returns the response to a request: the handler's, unless the authority names a user (section
+/// 8.3.1).
 fn message_for<H: Handler>(alloc: Global, head: &FieldList, handler: &mut H) -> Result<Message> {
     if names_user(head.value(b":authority").unwrap_or(b"")) {
         return Ok(Message::response(alloc, 400)?);
@@ -112,7 +113,7 @@ fn answer<W: Write>(
     }
 }
 
-/// Lets the client send as much again. A full output is sent first: then there is room for all.
+/// Returns all credit. A full output is sent first, so that there is room for it.
 fn release<W: Write>(alloc: Global, server: &mut Server, to: &mut W) -> Result<()> {
     match server.release_all() {
         Err(EndRefusal::Conn(Refusal::OutputFull)) => {
@@ -125,7 +126,7 @@ fn release<W: Write>(alloc: Global, server: &mut Server, to: &mut W) -> Result<(
 // end
 
 // calling: h2_ends pump
-/// Sends what windows let through, and writes all queued output.
+/// Sends what windows allow, and writes all queued output.
 fn send<W: Write>(alloc: Global, server: &mut Server, to: &mut W) -> Result<()> {
     let mut output = Vec::new(alloc);
     send_into(server, &mut output, to)
@@ -143,7 +144,7 @@ fn send_into<W: Write>(server: &mut Server, output: &mut Vec<u8>, to: &mut W) ->
     Ok(())
 }
 
-/// Writes all queued output, and returns how many octets that were.
+/// Writes all queued output, and returns its number of octets.
 fn write_out<W: Write>(server: &mut Server, output: &mut Vec<u8>, to: &mut W) -> Result<usize> {
     output.clear();
     let count = server.put_out(usize::MAX, output)?;

@@ -5,28 +5,28 @@ use h2_ends::{Client, Code, Config, EndEvent, FieldList, Message, Refusal};
 use std::alloc::Global;
 use std::io::{BufRead, BufReader, Read, Write};
 
-/// How many octets of the source are kept at most.
+/// The most octets of the source that are kept.
 const PART: usize = 16_384;
 
-/// What a server has answered to an upload.
+/// The server's response to an upload.
 #[derive(Drop)]
 pub struct Uploaded {
-    /// The status, as `200`.
+    /// The status, such as `200`.
     pub status: Vec<u8>,
     /// The octets of the body.
     pub body: Vec<u8>,
 }
 
-/// An answer, as far as it has come.
+/// The part of a response that has come so far.
 #[derive(Drop)]
 struct Coming {
     uploaded: Uploaded,
-    /// How many octets the rest of the body may have.
+    /// How many more octets the body may have.
     room: usize,
     is_whole: bool,
 }
 
-/// An upload under way: what was read of its source and isn't sent is in the reader's buffer.
+/// An upload under way. The reader's buffer holds what was read of its source and not yet sent.
 #[derive(Drop)]
 struct Sending<S> {
     client: Client,
@@ -37,16 +37,16 @@ struct Sending<S> {
     coming: Coming,
 }
 
-/// Posts what a source gives, whose length need not be known, on a new connection, and returns the
-/// answer, whose body has at most `limit` octets. The source is read no faster than the server
-/// takes it, and what comes is read where nothing can go. A server may answer before it has read
-/// all (RFC 9113, section 8.1): then the rest is not sent.
+/// Posts what a source gives, whose length need not be known, on a new connection. Returns the
+/// response, whose body has at most `limit` octets. The source is read no faster than the
+/// server takes it, and input is read where nothing can be sent. A server may respond before it
+/// has read all (RFC 9113, section 8.1): then the rest is not sent.
 ///
 /// # Errors
 ///
-/// The connection has failed, the stream was reset or not processed, the input has ended before the
-/// answer, the answer is too long, or a read, a write or an allocation has failed. The server is
-/// told by a reset, where it can be.
+/// The connection failed; the stream was reset or not processed; the input ended before the
+/// response; the response is too long; or a read, a write or an allocation failed. The stream
+/// is reset, where it can be.
 pub fn upload<R: Read, W: Write, S: Read + Drop>(
     alloc: Global,
     from: &mut R,
@@ -71,7 +71,7 @@ pub fn upload<R: Read, W: Write, S: Read + Drop>(
     Ok(sending.coming.uploaded)
 }
 
-/// A client that has begun the request, and the number of its stream.
+/// Makes a client and begins the request; returns the client and the stream.
 fn begun(alloc: Global, authority: &[u8], path: &[u8]) -> Result<(Client, u32)> {
     let request = Message::request(alloc, b"POST", authority, path)?;
     let mut client = Client::new(alloc, Config::default())?;
@@ -115,8 +115,8 @@ impl Coming {
 }
 
 impl<S: Read + Drop> Sending<S> {
-    /// Sends and reads until the answer is whole, and then lets the server know that no more is
-    /// wanted; so too where the upload has failed.
+    /// Sends and reads until the response is complete or the upload fails. Then resets the
+    /// stream, unless both sides have ended it.
     fn run<R: Read, W: Write>(&mut self, from: &mut R, to: &mut W, input: &mut [u8]) -> Result<()> {
         match self.exchange(from, to, input) {
             Ok(()) => self.leave(to, Code::NoError),
@@ -127,7 +127,7 @@ impl<S: Read + Drop> Sending<S> {
         }
     }
 
-    /// Sends and reads in turns, until the answer is whole.
+    /// Sends and reads in turn, until the response is complete.
     fn exchange<R: Read, W: Write>(
         &mut self,
         from: &mut R,
@@ -157,7 +157,7 @@ impl<S: Read + Drop> Sending<S> {
         Ok(())
     }
 
-    /// Sends the next octets of the body, or its end, as far as the windows let them go.
+    /// Sends the next octets of the body, or its end, as far as the windows allow.
     fn send_part(&mut self) -> Result<()> {
         if !self.is_sent {
             let octets = self.source.fill_buf()?;
@@ -169,7 +169,7 @@ impl<S: Read + Drop> Sending<S> {
         Ok(())
     }
 
-    /// Takes what was read, up to the end of the answer, and lets the server send as much again.
+    /// Takes what was read, up to the end of the response, and returns credit.
     fn take_piece(&mut self, piece: &[u8]) -> Result<()> {
         let mut unused = piece;
         for _ in 0..u64::MAX {
@@ -197,7 +197,7 @@ impl<S: Read + Drop> Sending<S> {
         Ok(())
     }
 
-    /// Writes all queued output, and returns how many octets that were.
+    /// Writes all queued output, and returns its number of octets.
     fn write_out<W: Write>(&mut self, to: &mut W) -> Result<usize> {
         self.output.clear();
         let count = self.client.put_out(usize::MAX, &mut self.output)?;
