@@ -55,7 +55,7 @@ impl Client {
         Ok(Client { end })
     }
 
-    /// Returns the connection, whose readers tell its state.
+    /// Returns the connection, to query its state.
     pub fn conn(&self) -> &Conn
         ensures { result.now ≡ self.now.end.conn }
     {
@@ -109,9 +109,9 @@ impl Client {
     // contract: 8.1 (own) A part of a message is sent where one was begun, and is checked
     /// Sends octets of the body of a message that was begun, and returns how many: as many as
     /// both windows allow, at most 65,536 a call (see [`Conn::data`]), perhaps none. With
-    /// `end`, END_STREAM goes with the last of them once all are sent. None is kept: give the
-    /// unsent octets again, once output was written and, where [`Conn::room`] of the stream or
-    /// of the connection (0) is 0 or less, once [`Client::take`] has received credit.
+    /// `end`, END_STREAM goes with the last of them once all are sent. None of them is kept:
+    /// give the unsent octets again, once output was written and, where [`Conn::room`] of the
+    /// stream or of the connection (0) is 0 or less, once [`Client::take`] has received credit.
     ///
     /// # Errors
     ///
@@ -198,7 +198,7 @@ impl Client {
 
     // contract: 8.1 What was sent on a stream is a prefix of its message
     /// Returns how many octets of the body that was given for a stream wait for
-    /// [`Client::pump`] or [`Client::pump_some`]. 0 where the stream isn't active, where
+    /// [`Client::pump`] or [`Client::pump_some`]. It is 0 where the stream isn't active, where
     /// trailers alone wait, and for a message that was begun, of which nothing waits.
     pub fn unsent(&self, id: u32) -> usize
         ensures { (values : Values) (end : EndLog) → EndRepresents values self.now.end end
@@ -232,8 +232,8 @@ impl Client {
     }
 
     // contract: 6.9 (own) release_all releases what is owed on each active stream
-    /// Returns all credit that is owed to the server (RFC 9113, section 6.9), streams in rising
-    /// order.
+    /// Returns all flow-control credit that is owed to the server (WINDOW_UPDATE; RFC 9113,
+    /// section 6.9), streams in rising order.
     ///
     /// # Errors
     ///

@@ -17,9 +17,9 @@ ghost use Rattle.h2_ends.specs.Turns.{ComesBefore, HasRoomFor, IsNotStopped, Get
 ghost use Rattle.h2_ends.specs.Turns.{Meanwhile, Pass, turn_after};
 
 // contract: 8.1 (own) What has come of a message that breaks no rule can be read
-/// The parts received of a message can be read, where the message breaks no rule as it is sent
-/// (for one that is given in parts: none so far). The body may come in any number of DATA
-/// frames, if none is empty without END_STREAM (RFC 9113, section 8.1).
+/// The parts received of a message can be read if the message breaks no rule as it is sent (if
+/// it is sent in parts: none so far). Its body may come in any number of DATA frames, as long
+/// as none is empty without END_STREAM (RFC 9113, section 8.1).
 pub fn sent_parts_are_readable()
     ensures { (reads : Reads) (said : Said) (parts : List (Part × Bool)) → IsSoundSaid reads said
         → AllByRecursion IsNoEmptyPart parts

@@ -14,7 +14,8 @@
 //! - `pump`, `put_out` and a write, repeated until `put_out` returns 0, since `pump` stops once
 //!   65,536 octets of output wait.
 //!
-//! A call that is refused with [`Refusal::OutputFull`] (C7) succeeds once output was written.
+//! Make a call that was refused with [`Refusal::OutputFull`] (C7) again once output was
+//! written.
 #![tactic(auto)]
 
 mod body;

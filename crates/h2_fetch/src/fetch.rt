@@ -88,8 +88,8 @@ impl PartFetch {
         }
     }
 
-    /// Returns the connection, which knows why it has failed ([`Conn::why`]). It takes no
-    /// memory.
+    /// Returns the connection, to query its state, such as why it has failed ([`Conn::why`]).
+    /// It takes no memory.
     pub fn conn(&self) -> &Conn
         ensures { result.now ≡ self.now.client.end.conn }
     {
@@ -98,9 +98,9 @@ impl PartFetch {
 
     // contract: engines (own) A response in parts is what is handed out, in order
     // rule: engines (own) A response in parts is what is handed out, in order
-    /// Returns the next part of the response. If none was received yet, returns all credit that
-    /// is owed, writes what waits, and then reads the link. Don't call it after the part that
-    /// ends the response, nor with a link that has failed.
+    /// Returns the next part of the response. If no further part has come yet, sends
+    /// WINDOW_UPDATE for all credit that is owed, writes what waits, and then reads the link.
+    /// Don't call it after the part that ends the response, nor with a link that has failed.
     ///
     /// # Errors
     ///

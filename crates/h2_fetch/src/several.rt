@@ -103,8 +103,8 @@ impl SeveralFetch {
         &self.ids
     }
 
-    /// Returns the connection, which knows why it has failed ([`Conn::why`]). It takes no
-    /// memory.
+    /// Returns the connection, to query its state, such as why it has failed ([`Conn::why`]).
+    /// It takes no memory.
     pub fn conn(&self) -> &Conn
         ensures { result.now ≡ self.now.client.end.conn }
     {
@@ -114,9 +114,9 @@ impl SeveralFetch {
     // contract: engines (own) Responses of several requests are what is handed out, each in order
     // rule: engines (own) Responses of several requests are what is handed out, each in order
     /// Returns what came next on a stream of [`SeveralFetch::streams`]. If nothing is kept of
-    /// it, returns the credit that is owed on that stream, writes what waits, and then reads
-    /// the link. Don't call it after the part that ends the response, after [`Came::Dropped`],
-    /// nor with a link that has failed.
+    /// it, sends WINDOW_UPDATE for the credit that is owed on that stream, writes what waits,
+    /// and then reads the link. Don't call it after the part that ends the response, after
+    /// [`Came::Dropped`], nor with a link that has failed.
     ///
     /// # Errors
     ///

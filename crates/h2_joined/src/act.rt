@@ -138,17 +138,15 @@ pub enum Acted {
     /// A Respond, BeginResponse, SendTrailers, ReleaseAll, Release, Reset, Ping, GoAway, Fail or
     /// ChangeSettings was done.
     Done,
-    /// The end refused the call. A Deliver is never refused so.
+    /// The end refused the call. A Deliver is never refused.
     Refused(EndRefusal),
     /// The end failed with this code as a Deliver gave it octets, or had failed before.
     Failed(Code),
-    /// Memory was refused.
-    ///
-    /// - A Request, Respond, Begin, BeginResponse, SendBody or SendTrailers could not copy what
-    ///   it is given. Nothing has changed.
-    /// - A Deliver could not make room for the event of one more call of `take`, and stopped
-    ///   before that call. The octets that were used are off the pipe, their events are kept,
-    ///   and the same Deliver, made again, continues from there. (It would also stop after 2^64
-    ///   - 1 calls of `take`, which is not expected.)
+    /// Memory was refused: for a Request, Respond, Begin, BeginResponse, SendBody or
+    /// SendTrailers to copy what it is given, so that nothing has changed; for a Deliver to
+    /// make room for the event of one more call of `take`, before which it stopped. Then the
+    /// octets that were used are off the pipe, their events are kept, and the same Deliver,
+    /// made again, continues from there. A Deliver would also stop after 2^64 - 1 calls of
+    /// `take`, which is not expected.
     Memory,
 }

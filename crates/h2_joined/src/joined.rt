@@ -62,10 +62,10 @@ impl Joined {
     /// did before it was refused.
     ///
     /// A delivery makes room for the largest event that a call of `take` can return, and then
-    /// calls it. If memory for that is refused, it stops before the call and returns
-    /// [`Acted::Memory`]: the octets that were used are off the pipe, their events are kept,
-    /// and the same act continues from there. All octets of a delivery during which the end
-    /// fails are off the pipe; to an end that has failed none are delivered.
+    /// calls it. If memory for that is refused, it stops before the call, with
+    /// [`Acted::Memory`] as its result. Then the octets that were used are off the pipe, their
+    /// events are kept, and the same act continues from there. All octets of a delivery during
+    /// which the end fails are off the pipe; to an end that has failed none are delivered.
     pub fn act(&mut self, act: &JointAct) -> Acted
         ensures { MakesAct self.old (made_of act.now result) self.new }
     {

@@ -14,16 +14,12 @@ use h2_ends::{Config, EndRefusal, Refusal};
 use std::alloc::{AllocError, Global};
 
 // contract: joined (own) What one end has handed out is a prefix of what the other accepted
-/// The main law of this library, whatever acts were made:
-///
-/// - What each of two joined ends has handed out on a stream is a prefix of what the other has
-///   accepted for it.
-/// - Where memory was not refused to a connection and no [`JointAct::Fail`] was made, neither
-///   end reports a fault.
-/// - No DATA of either end has passed its windows, as `h2_laws_end::no_data_passes_windows`
-///   says of one end.
-/// - Once both ends are quiet, all that was accepted was handed out, on every stream that was
-///   not reset.
+/// What each of two joined ends has handed out on a stream is a prefix of what the other has
+/// accepted for it, whatever acts were made: the main law of this library. Where memory was not
+/// refused to a connection and no [`JointAct::Fail`] was made, neither end reports a fault. No
+/// DATA of either end has passed its windows, as `h2_laws_end::no_data_passes_windows` says of
+/// one end. Once both ends are quiet, all that was accepted was handed out, on every stream
+/// that was not reset.
 ///
 /// For any other peer, the contracts of [`Conn::take`](h2_ends::Conn::take),
 /// [`Client::take`](h2_ends::Client::take) and [`Server::take`](h2_ends::Server::take) say what

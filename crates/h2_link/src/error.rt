@@ -15,8 +15,8 @@ pub enum LinkError {
     /// N1: a read or a write of the link failed.
     #[error("N1 Device")]
     Device,
-    /// N2: the connection failed with this code (RFC 9113, section 7); or 1,000 streams were
-    /// reset, so that no more can be, with ENHANCE_YOUR_CALM.
+    /// N2: the connection failed with this code (RFC 9113, section 7); or, with
+    /// ENHANCE_YOUR_CALM, 1,000 streams were reset, so that no more can be.
     #[error("N2 Stream {0}")]
     Stream(u32),
     /// N3: out of memory.

@@ -37,13 +37,13 @@ pub struct Settled {
 /// first ([`JointAct::Deliver`](h2_joined::JointAct::Deliver)). A `ReleaseAll` that is refused
 /// because the output is full does not end the round.
 ///
-/// Two bounds hold for the number of rounds, so with a greater `most`, such as `u64::MAX`, it
-/// stops for one of the three reasons:
+/// Two bounds hold for the number of rounds, so with a `most` above either of them, such as
+/// `u64::MAX`, it stops for one of the three reasons:
 ///
 /// - 10, and two for each share and each piece that waits at the start (`most_rounds` of
-///   `h2_laws_quiet`). A share is 65,535 octets of the bodies that wait at an end, all
-///   together, or the initial window that the reader has sent last, if that is less. A piece is
-///   a body, a list of trailers or an end.
+///   `h2_laws_quiet`). All octets of bodies that wait at an end, together, are cut into shares
+///   of 65,535 octets, or of the initial window that the reader has sent last, if that is less.
+///   A piece is a body, a list of trailers or an end.
 /// - One more than the work left at the start (`work_left`): 3 for each octet, list of trailers
 ///   and end that waits, 2 for each octet of credit that is not returned, and what is under
 ///   way.
