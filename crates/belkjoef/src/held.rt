@@ -212,7 +212,8 @@ impl Held {
         }
     }
 
-    /// Returns whether nothing waits and no stream is active.
+    /// Returns whether no output waits and either no stream is active or the connection has
+    /// failed.
     pub(crate) fn is_drained(&self) -> bool
         ensures { AnswersLog IsDrained (held_end self.now) result }
     {

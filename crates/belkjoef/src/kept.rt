@@ -17,8 +17,8 @@ const MOST_FIELDS: usize = 64;
 const MOST_OCTETS: usize = 8192;
 
 /// The copies that a call has made, kept for the next one, which copies only what differs. No
-/// result depends on them, so contracts say only their bounds: at most 64 fields of at most
-/// 8,192 octets together, where each field counts 32 more.
+/// call shows what is kept, so contracts say only its bounds: at most 64 fields of at most 8,192
+/// octets together, where each field counts 32 more.
 #[derive(Drop)]
 pub(crate) struct KeptFields {
     fields: Vec<Field>,

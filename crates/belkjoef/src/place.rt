@@ -1,4 +1,4 @@
-//! A place of C's that holds an end, or nothing.
+//! A place that C owns, which holds an end or nothing.
 
 ghost use Rattle.std.specs.Prelude.{◌≡◌, Option, None, Some, IsSome, MatchOption};
 ghost use Rattle.std.specs.Option.{is_some};

@@ -21,7 +21,8 @@ pub(crate) struct Body {
 /// How the octets are kept.
 #[derive(Debug, Drop)]
 pub(crate) enum Kept {
-    /// Fewer than 4,096 octets: copied into the output when sent.
+    /// Fewer than 4,096 octets, or more if memory to share them was refused: copied into the
+    /// output when sent.
     Own(Vec<u8>),
     /// 4,096 octets or more: lent to the output.
     Shared(Bytes<Global>),
