@@ -1,4 +1,4 @@
-//! A decoder of field blocks (RFC 7541), in a place of C's.
+//! A decoder of field blocks (RFC 7541), in a place that C owns.
 
 ghost use Rattle.std.specs.Prelude.{◌≡◌, Option, None, Some, IsSome, MatchOption};
 ghost use Rattle.std.specs.Prelude.{[], drop, slice_get};

@@ -1,4 +1,4 @@
-//! An encoder of field blocks (RFC 7541), in a place of C's.
+//! An encoder of field blocks (RFC 7541), in a place that C owns.
 
 ghost use Rattle.std.specs.Prelude.{◌≡◌, Option, None, Some, IsSome, MatchOption};
 ghost use Rattle.std.specs.Option.{is_some};
