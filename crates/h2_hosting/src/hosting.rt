@@ -269,8 +269,9 @@ fn hint_of(error: &io::Error) -> Option<Hint> {
 
 // contract: hosts (own) The hint of a host is of its port, and never of its log
 // rule: hosts (own) The hint of a host is of its port, and never of its log
-/// The hint for an error of this kind that ends the host. An error of one connection ends only that
-/// connection, so ConnectionReset is the log's reader that went away, and has no hint of the port.
+/// The hint for an error of this kind that ends the host: that of its port. Errors of one
+/// connection end only that connection; a `ConnectionReset` that ends the host is that of the
+/// log's output, and has no hint.
 fn hint_of_port(kind: ErrorKind) -> Option<Hint>
     ensures { result ≡ port_hint kind }
 {

@@ -1,4 +1,4 @@
-//! Serves a folder, or echoes requests, on many connections: `h2 host`.
+//! Serves a folder, or echoes requests, on many connections, as `h2 host` does.
 //!
 //! [`host_port`] runs a [`Driver`](h2_mio::Driver) whose connections are [`Guest`]s: each is a
 //! [`Seat`](h2_seat::Seat) with a handler, a [`Site`] or an echo, that is [`Logged`].

@@ -52,7 +52,7 @@ where
     serve(rt, alloc, settings, makes, &journal, &mut out)
 }
 
-/// As [`host_handlers`], and writes the lines of a journal as they come.
+/// As [`host_handlers`], and writes the lines of a journal.
 pub(crate) fn serve<R, V, H, M, W>(
     rt: &R,
     alloc: Global,

@@ -10,9 +10,9 @@ use h2_fetch::ResponsePart;
 use h2_handlers::HandlerFault;
 use std::alloc::Global;
 
-/// Receives the response to one request part by part, as it arrives. The server sends more than
-/// the flow-control window allows only once the handler has returned (RFC 9113, section 6.9), so
-/// a slow handler slows the server down.
+/// Receives the response to one request part by part, as it arrives. Credit for octets of the
+/// body is returned only after the call (RFC 9113, section 6.9), so a slow handler slows the
+/// server down.
 ///
 /// An implementor may state its behaviour by the `ghost` relations between the state before a
 /// call, the arguments, the result, and the state after it. The defaults always hold.

@@ -144,7 +144,7 @@ impl<W: Drop, H: Handler<Work = W>> Seat<H, W> {
         may && !self.handled.is_full()
     }
 
-    /// Fails the connection with a code, if it is up.
+    /// Fails the connection with a code, unless it has failed before, and begins to close it.
     pub(crate) fn fail(&mut self, code: Code, why: Why)
         ensures handles { SeatHandles (relations H.heads H.bodies H.trails H.gives H.ends) self.old
             self.new }

@@ -28,7 +28,8 @@ impl<W: Drop, H: Handler<Work = W>> Seat<H, W> {
     // contract: hosts (own) A connection ends for what is above its budget
     // contract: hosts (own) A connection that ends goes on as long as bodies move
     // contract: hosts (own) A connection that is refused is over and holds none
-    /// Makes a step and what follows from it. A closed connection makes none.
+    /// Makes a step, then checks the flood budget and whether the output is drained. A closed
+    /// connection makes none.
     pub(crate) fn act(&mut self, own: Own, octets: &[u8], room: &mut [u8])
         ensures handles { SeatHandles (relations H.heads H.bodies H.trails H.gives H.ends) self.old
             self.new }
