@@ -13,19 +13,20 @@ use h2_follow::FollowOptions;
 use h2_frame::limits::LEAST_MAX_FRAME;
 use std::alloc::{AllocError, Global};
 
-/// What the words after `show` ask for, one of which is `--follow`.
+/// The options of `show --follow`.
 #[derive(Clone, Copy, Debug, PartialEq, Eq)]
 pub struct FollowWords<'a> {
     /// How the text is shown.
     pub options: FollowOptions,
-    /// The file that a page is written to, in place of the lines.
+    /// The file to which a page is written instead of lines.
     pub page: Option<&'a str>,
 }
 
 const FOLLOW: &str = "follow";
 
 const FOLLOW_HELP: &str = r"Show both sides of a connection from the text printed by
-tshark; takes only --max-frame and --page";
+tshark; takes only --max-frame, and --page FILE to write
+an HTML page instead of lines";
 
 const PAGE: &str = "page";
 
@@ -77,7 +78,7 @@ pub(super) fn follow_arg<'a>(alloc: Global) -> Arg<'a>
         .help(FOLLOW_HELP)
 }
 
-/// What the help of the words says.
+/// The texts of the help.
 const TEXT: CommandText<'static> = CommandText {
     called: "h2 show",
     about: "Show both sides of a connection from the output of tshark",

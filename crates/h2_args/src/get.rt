@@ -18,27 +18,27 @@ use std::alloc::{AllocError, Global};
 /// The options of `get`.
 #[derive(Debug, Drop)]
 pub struct GetOptions<'a> {
-    /// The URL, which isn't read yet.
+    /// The URL, not yet parsed.
     pub url: &'a str,
-    /// Whether the fields of the response are printed too.
+    /// Whether the fields of the response are printed.
     pub include: bool,
-    /// The fields of the request, each as NAME:VALUE, which isn't read yet.
+    /// The fields of the request, each NAME:VALUE, not yet parsed.
     pub fields: Vec<&'a str>,
-    /// The method, where one is given.
+    /// The method, if given.
     pub method: Option<&'a str>,
-    /// The body of the request, where one is given.
+    /// The body of the request, if given.
     pub body: Option<&'a str>,
     /// Whether a response of status 400 or above is a failure.
     pub fail: bool,
-    /// The port where the URL names none, from 1 to 65,535.
+    /// The port to use if the URL has none, from 1 to 65,535.
     pub port: Option<u16>,
-    /// The file that the body goes into as it comes, where one is named.
+    /// The file to which the body is written as it arrives, if given.
     pub output: Option<&'a str>,
-    /// Whether the body is printed as it comes.
+    /// Whether the body is printed as it arrives.
     pub stream: bool,
-    /// In how many seconds all is to be done, from 1 to 65,535, where it is given.
+    /// The seconds after which the command gives up, from 1 to 65,535, if given.
     pub timeout: Option<u16>,
-    /// Whether the frames of both sides are printed on standard error as they come.
+    /// Whether the frames of both sides are printed on standard error.
     pub verbose: bool,
     /// More URLs after the first one.
     pub others: Vec<&'a str>,
@@ -99,7 +99,7 @@ fn options_of<'a>(alloc: Global, matches: &ArgMatches<'a>) -> Result<GetOptions<
     })
 }
 
-// The values of an option, of all its uses.
+// The values of all uses of an option.
 fn texts_of<'a>(
     alloc: Global,
     matches: &ArgMatches<'a>,
@@ -160,7 +160,7 @@ of to standard output";
 
 const STREAM: &str = "stream";
 
-const STREAM_HELP: &str = "Print the body as it arrives, and keep none of it";
+const STREAM_HELP: &str = "Print the body as it arrives";
 
 const TIMEOUT: &str = "timeout";
 
@@ -333,7 +333,7 @@ fn fetching_command<'a>(alloc: Global) -> Result<Command<'a>, AllocError>
         .arg(header_arg(alloc))
 }
 
-// The command with what is asked for.
+// The command with the options of the request.
 fn asking_command<'a>(alloc: Global) -> Result<Command<'a>, AllocError>
     ensures { IfOk result (λ command. app_of command ≡ asking_app) }
 {
@@ -344,7 +344,7 @@ fn asking_command<'a>(alloc: Global) -> Result<Command<'a>, AllocError>
         .arg(number_option(alloc, AT_PORT, "N", AT_PORT_HELP))
 }
 
-// The command with how the body is printed.
+// The command with the options of the output.
 fn streaming_command<'a>(alloc: Global) -> Result<Command<'a>, AllocError>
     ensures { IfOk result (λ command. app_of command ≡ streaming_app) }
 {

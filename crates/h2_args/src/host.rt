@@ -17,18 +17,18 @@ use std::alloc::{AllocError, Global};
 pub struct HostWords<'a> {
     /// The port, from 1 to 65,535.
     pub port: u16,
-    /// The folder whose files are served, where one is named.
+    /// The folder to serve, if given.
     pub root: Option<&'a str>,
-    /// The address, where one is given, which isn't read yet.
+    /// The address, if given, not yet parsed.
     pub address: Option<&'a str>,
-    /// How many connections there are at most, from 1 to 1,048,576, where that is given.
+    /// The maximum number of connections, from 1 to 1,048,576, if given.
     pub connections: Option<u32>,
-    /// After how many seconds without a request a connection ends, from 0 to 86,400, where that is
+    /// The seconds without a request after which a connection is closed, from 0 to 86,400, if
     /// given.
     pub idle: Option<u32>,
-    /// Whether a line a request is printed.
+    /// Whether a line is printed for each request.
     pub log: bool,
-    /// Whether the host ends once standard input is closed.
+    /// Whether the host shuts down once standard input is closed.
     pub until_closed: bool,
 }
 
@@ -105,31 +105,41 @@ its own body.
 With --root, GET and HEAD are answered with a file below that folder, of any
 size, with its type, length, `etag`, `last-modified` and `date`. Conditional
 requests and single ranges are supported (RFC 9110, sections 13 and 14). A path
-that ends with a slash is the `index.html` of that folder. Errors have a short
-text: 404 for what does not exist, for names that begin with a dot, and for
-folders without a trailing slash; 403 for symbolic links and anything below them,
-for files that are not regular, and for files that may not be read; 405 for
-other methods. Symbolic links are not followed: the file and the folders on its
-path are checked before and after it is opened. Someone who can write below the
-folder could still swap a link in and out again between the two checks. If a
-file shrinks while it is sent, the stream is reset with code 2.
+that ends with a slash is the `index.html` of that folder. The body of an error
+is its status and phrase:
+  400, 414  the path cannot be decoded, or has more than 4096 octets
+  403       a symbolic link or anything below one, a file that is not regular,
+            or one that may not be read
+  404       the file does not exist, a name begins with a dot, or the path is a
+            folder without a trailing slash
+  405       another method than GET or HEAD
+  412, 416  a condition is false, or the range is beyond the file
+  500, 503  the file system failed, or memory or file descriptors ran out
+Symbolic links are not followed: the file and the folders on its path are
+checked before and after it is opened. Someone who can write below the folder
+could still swap a link in and out again between the two checks. If a file
+shrinks while it is sent, the stream is reset with code 2.
 
-A connection is closed with GOAWAY if its first frame takes more than
-10 seconds, a later frame or 1024 octets of a request body more than 30, or the
-next octet of a response more than 60; after --idle seconds without a request,
-it is closed gracefully. A connection that sends more than 500 resets, 500 empty
-frames, 50 malformed requests, or PING and SETTINGS worth 32768 octets of
-replies in 10 seconds is closed with code 11. One connection holds at most
-16 MiB of memory, all of them 256 MiB.
+A connection is closed with GOAWAY if its first frame takes 10 seconds, a later
+frame, a field block of several frames or 1024 octets of a request body 30, or
+the next octet of output or of a response 60; after --idle seconds without a
+request, it is closed gracefully. It is closed with code 11 if, within 10
+seconds, the client sends more than 500 RST_STREAM frames or 500 empty frames,
+the host resets more than 50 streams for stream errors (malformed requests are
+such) or its limits of streams and fields, or the replies to PING and SETTINGS
+exceed 32768 octets. One connection holds at most 16 MiB of memory, all of them
+256 MiB.
 
 With --until-closed, GOAWAY is sent on all connections once standard input is
 closed, and pending requests are answered, as long as 65536 octets of bodies are
-sent or received every 5 seconds; the exit status is then 0. A --log line is
-  127.0.0.1 - - [28/Nov/2026:04:20:00 +0000] `GET / HTTP/2.0` 200 6
-with double quotes for the backquotes; between them, quotes, backslashes and
-octets outside printable ASCII are written as `\x00`.
+sent or received every 5 seconds; the exit status is then 0.
 
-Exit status, with the line on standard error:
+A --log line has the address of the client, `- -`, the time, the request line in
+double quotes, the status, and the number of octets of the body. In the request
+line, quotes, backslashes and octets outside printable ASCII are escaped, a
+quote as `\x22`.
+
+Exit status (lines in backquotes go to standard error):
   0  with --until-closed, standard input was closed, and all connections have
      ended
   2  invalid arguments, or `error: not an IP address: ADDR`

@@ -1,9 +1,10 @@
-//! The command line of `h2`: the options that its words give.
+//! The command line of `h2`.
 //!
-//! Each command has a function that reads the words after its name: [`show_args`], [`replay_args`],
-//! [`serve_args`], [`get_args`], [`loop_args`] and [`host_args`], and [`follow_args`] where [`asks_follow`] says
-//! so. [`asks_messages`] says of the words after `replay` which end they ask for. [`no_command`]
-//! reads words that begin with no command's name. An error is clap's, and its text is for the user.
+//! Each command has a function that reads the words after its name: [`show_args`],
+//! [`replay_args`], [`serve_args`], [`get_args`], [`loop_args`] and [`host_args`], and
+//! [`follow_args`] if [`asks_follow`] says so. [`asks_messages`] says whether `replay` is given
+//! `--messages`. [`no_command`] reads words that do not begin with a command's name. Errors are
+//! clap's; their texts are for the user.
 #![tactic(auto)]
 
 mod follow;

@@ -45,7 +45,7 @@ fn with_help<'a>(command: Command<'a>, text: CommandText<'a>) -> Command<'a>
         .after_help(text.more)
 }
 
-/// The name of the flag: the input is hexadecimal text.
+/// The name of the flag for hexadecimal input.
 pub(super) const HEX: &str = "hex";
 
 const HEX_HELP: &str = r"Read the input as hexadecimal text; spaces, tabs and line
@@ -73,7 +73,7 @@ pub(super) fn flag_arg<'a>(alloc: Global, name: &'a str, help: &'a str) -> Arg<'
         .help(help)
 }
 
-/// An option that names a side, with the name that it has where it isn't given.
+/// An option that names a side, with its default.
 pub(super) fn side_arg<'a>(alloc: Global, name: &'a str, default: &'a str, help: &'a str) -> Arg<'a>
     ensures rule { IsSideRule name.entry.now default.entry.now (rule_of result) }
     ensures local { result.global ≡ false }

@@ -1,4 +1,4 @@
-//! Words that begin with no command's name.
+//! Words that do not begin with a command's name.
 
 ghost use Rattle.std.specs.Prelude.{◌≡◌, IfErr, IfOk, Ok, OnOk, map, string_bytes};
 ghost use Rattle.clap.specs.Words.{AddsSubcommand, app_of};
@@ -15,11 +15,12 @@ use std::alloc::{AllocError, Global};
 
 // contract: show (own) The words choose the end and hexadecimal
 // rule: show (own) The words choose the end and hexadecimal
-/// Reads words that begin with no command's name. They ask for help or the version, or are wrong.
+/// Reads words that do not begin with a command's name: they ask for help or the version, or are
+/// wrong.
 ///
 /// # Errors
 ///
-/// Those of [`crate::show_args`], and `DisplayVersion` where the version is asked for.
+/// Those of [`crate::show_args`], and `DisplayVersion` if the version is asked for.
 pub fn no_command(alloc: Global, words: &[String]) -> Result<(), Error>
     ensures ok { OnOk result (ProgramWordsPass (map string_bytes words.now)) }
     ensures err { IfErr result (ProgramWordsFail (map string_bytes words.now)) }
@@ -66,7 +67,7 @@ fn bare_program<'a>(alloc: Global) -> Result<Command<'a>, AllocError>
     Ok(program)
 }
 
-// The program, which any words may follow.
+// The program, without constraints on its words.
 fn named_program<'a>(alloc: Global) -> Result<Command<'a>, AllocError>
     ensures { IfOk result (λ command. app_of command ≡ named_program) }
 {

@@ -112,8 +112,8 @@ A hint gives the reason for a fault, unless there is another hint.
 Exit status (lines in backquotes go to standard error):
   0  the connection has not failed, wherever the input ends
   1  a fault
-  2  invalid arguments; or `bad hex`: the input is not hexadecimal text, and
-     none of it is used
+  2  invalid arguments
+     `bad hex`: the input is not hexadecimal text, and none of it is used
   3  `N1 Device`: a read or a write failed
   4  `N3 Memory`: out of memory
 

@@ -18,16 +18,16 @@ use h2_frame::limits::{LEAST_MAX_FRAME, MOST_MAX_FRAME};
 use h2_show::{ShowOptions, Side, Style, TextStyle};
 use std::alloc::{AllocError, Global};
 
-/// What the words after `show` ask for.
+/// The options of `show`.
 #[derive(Clone, Copy, Debug, PartialEq, Eq)]
 pub struct ShowWords<'a> {
     /// How the input is shown.
     pub options: ShowOptions,
-    /// The file that has the input; none for standard input.
+    /// The file to read; `None` for standard input.
     pub file: Option<&'a str>,
-    /// The file that has the octets of the client, where both sides are shown.
+    /// The file with the client's octets, if both sides are shown.
     pub client: Option<&'a str>,
-    /// The file that has those of the server.
+    /// The file with the server's octets.
     pub server: Option<&'a str>,
 }
 
@@ -43,8 +43,8 @@ pub struct ShowWords<'a> {
 ///
 /// # Errors
 ///
-/// The kind is `DisplayHelp` where help is asked for, `OutOfMemory` when out of memory, and another
-/// one where a word is wrong. The error's text is for the user.
+/// The kind is `DisplayHelp` if help is asked for, `OutOfMemory` if out of memory, and another
+/// one if a word is wrong. The error's text is for the user.
 pub fn show_args<'a>(
     alloc: Global,
     words: &'a [String],
@@ -129,7 +129,7 @@ fn style_of(json: bool, names: bool, places: bool, colors: bool) -> Style
 }
 
 // rule: show (own) With --file the input is that of a file
-// The file that is read, where the matches of `show` name one.
+// The file to read, if the matches of `show` name one.
 fn file_of<'a>(matches: &ArgMatches<'a>) -> Option<&'a str>
     ensures { option_map (λ file. file.now) result
         ≡ file_of (first_of (codes "file") (rows_of (found_of matches.now))) }
@@ -175,7 +175,7 @@ const COLOR: &str = "color";
 
 const COLOR_HELP: &str = r"Print types bold, fields faint and faults red: always,
 never, or auto (if standard output is a terminal and
-NO_COLOR is not set) [default: never]";
+NO_COLOR is unset or empty) [default: never]";
 
 const JSON: &str = "json";
 
@@ -226,7 +226,8 @@ options.
 of its own: first all lines of the client, prefixed with `> `, then those of the
 server, prefixed with `< `. With --json, each object begins with its side. How
 the two sides interleaved is not known, so neither is checked against the
-SETTINGS of the other, and --max-frame limits both. --from has no effect.
+SETTINGS of the other, and --max-frame limits both. --from has no effect, and
+--file is refused.
 
 The rules of connections, which `h2 replay` checks, and those of messages
 (RFC 9113, section 8) are not checked.
@@ -234,9 +235,10 @@ The rules of connections, which `h2 replay` checks, and those of messages
 Exit status (lines in backquotes go to standard error):
   0  the input is complete frames and field blocks, or empty
   1  a fault, or the input ends inside the preface, a frame or a field block
-  2  invalid arguments; or `bad hex`: the input is not hexadecimal text, and
-     none of it is shown, or, with --follow, a line is not tshark's, and nothing
-     after it is shown
+  2  invalid arguments
+     `bad hex`: the input is not hexadecimal text, and none of it is shown
+     `bad hex`, with --follow: a line is not tshark's, and nothing after it is
+     shown
   3  `N1 Device`: a read or a write failed, or the file cannot be opened
   4  `N3 Memory`: out of memory
 
@@ -278,7 +280,7 @@ pub(super) const MAX_FRAME: &str = "max-frame";
 const MAX_FRAME_HELP: &str = r"Maximum length of a frame's payload, 16384 to 1048576
 [default: 16384]";
 
-// The limits of payloads that are taken.
+// The range of `--max-frame`.
 fn max_frames<'a>() -> ValueParser<'a>
     ensures { result ≡ ValueParser.Signed (pos 16384) (pos 1048576) }
 {

@@ -13,15 +13,15 @@ use clap::{Arg, ArgAction, Command, Error, value_parser};
 use h2_frame::limits::GREATEST_BODY;
 use std::alloc::{AllocError, Global};
 
-/// The most octets that `loop` posts.
+/// The maximum number of octets that `loop` posts.
 pub const MOST_POSTED: u32 = GREATEST_BODY as u32;
 
 /// The options of `serve`.
 #[derive(Clone, Copy, Debug, PartialEq, Eq)]
 pub struct ServeOptions {
-    /// The port of 127.0.0.1, from 1 to 65,535.
+    /// The port on 127.0.0.1, from 1 to 65,535.
     pub port: u16,
-    /// The number of connections that are served, from 1 to 65,535.
+    /// The number of connections to serve, from 1 to 65,535.
     pub count: u16,
 }
 
@@ -111,8 +111,10 @@ served one at a time and without timeouts: a client that stays idle keeps others
 waiting, and so does one that leaves a failed connection open. The command exits
 after COUNT connections, and prints nothing on standard output.
 
-A connection that ends early has a line on standard error, and the next one is
-served. Exit status, that of the first such connection, with its line:
+If a connection ends early, its line is printed on standard error and the next
+one is served. The exit status is that of the first such connection.
+
+Exit status (lines in backquotes go to standard error):
   0  every connection was served until its client ended it
   1  `N2 Stream CODE`: the connection failed with this code (RFC 9113,
      section 7), or with 11 if a stream had to be reset after 1000 others
@@ -139,9 +141,9 @@ const LOOPED_AND_STATUSES: &str =
 251. The server answers as `h2 serve` does. The two take turns: each writes at
 most 4096 octets, which the other then reads.
 
-Exit status; each line but that of 0 goes to standard error:
-  0  the response is complete, and `sent N got M status 200` is printed, with
-     M = N + 7; with --each-way, a line on standard error follows:
+Exit status (lines in backquotes go to standard error, except `sent`):
+  0  the response is complete: `sent N got M status 200` on standard output,
+     with M = N + 7; with --each-way, also a line such as
      `0.070000 MB posted, 0.070007 MB got, 0.004321 s` (1 MB is 10^6 octets)
   1  `N4 CutOff`: the response is incomplete, and neither side writes any more
      `N2 Stream CODE` and `N6 Reset CODE`: as for `h2 get`

@@ -20,14 +20,14 @@ pub enum Failure {
     /// Out of memory.
     #[error("N3 Memory")]
     Memory,
-    /// The input isn't hexadecimal.
+    /// The input is not hexadecimal.
     #[error("bad hex")]
     BadHex,
 }
 
 impl Failure {
     // rule: show (own) Hexadecimal is read without its blanks; other text is refused
-    /// The status of a command that fails so.
+    /// Returns the exit status for this failure.
     pub fn status(self) -> Status
         ensures { result ≡ failure_status self }
     {

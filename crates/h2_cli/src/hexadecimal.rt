@@ -10,10 +10,10 @@ use hex::FromHexError;
 use std::alloc::{AllocError, Global};
 use thiserror::Error;
 
-/// Why a text isn't read as hexadecimal.
+/// Why a text is not read as hexadecimal.
 #[derive(Clone, Copy, Debug, PartialEq, Eq, Hash, Error)]
 pub enum HexError {
-    /// Besides blanks it has an octet that is no hexadecimal digit, or an odd number of digits.
+    /// It has an octet that is neither a blank nor a hexadecimal digit, or an odd number of digits.
     #[error("bad hex")]
     BadHex,
     /// Out of memory.
@@ -41,13 +41,13 @@ impl From<FromHexError> for HexError {
 }
 
 // rule: show (own) Hexadecimal is read without its blanks; other text is refused
-/// The octets that a text gives in hexadecimal, two digits each, in upper or lower case. Blanks
-/// are dropped wherever they are: spaces, tabs, line feeds and carriage returns.
+/// Decodes hexadecimal text, two digits an octet, in upper or lower case. Blanks are ignored:
+/// spaces, tabs, line feeds and carriage returns.
 ///
 /// # Errors
 ///
-/// [`HexError::BadHex`] where the text without blanks isn't hexadecimal, and
-/// [`HexError::Memory`] when out of memory.
+/// [`HexError::BadHex`] if the text without blanks is not hexadecimal, and [`HexError::Memory`]
+/// if out of memory.
 pub fn from_hex(alloc: Global, text: &[u8]) -> Result<Vec<u8>, HexError>
     ensures { MatchResult result
         (λ octets. decode_of (without_blanks text.now) ≡ Ok octets.items)

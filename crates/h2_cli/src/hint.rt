@@ -10,26 +10,26 @@ use h2_frame::Code;
 use std::fmt;
 use std::io::{self, ErrorKind, Write};
 
-/// What is likely the cause of a failure. Its text is that of a line, after `hint: `.
+/// The likely cause of a failure. Its text is that of the line, after `hint: `.
 #[derive(Clone, Copy, Debug, PartialEq, Eq)]
 pub enum Hint {
-    /// The input is a capture of packets, and not octets of HTTP/2.
+    /// The input is a packet capture, not octets of HTTP/2.
     Capture,
     /// The server speaks HTTP/1.1.
     Http1Server,
     /// The client speaks HTTP/1.1.
     Http1Client,
-    /// The connection has failed with this code.
+    /// The connection failed with this code.
     ErrorCode(Code),
-    /// Nothing listens at the port.
+    /// Nothing listens on the port.
     ConnectionRefused,
-    /// The peer has reset the TCP connection.
+    /// The peer reset the TCP connection.
     ConnectionReset,
-    /// There is no route to the host, or it doesn't answer.
+    /// There is no route to the host, or it does not respond.
     HostUnreachable,
-    /// Another program listens at the port.
+    /// Another program listens on the port.
     PortInUse,
-    /// Not every user may listen at the port.
+    /// Listening on the port needs privileges.
     PortForbidden,
     /// The host's name has no address.
     UnknownHost,
@@ -61,8 +61,8 @@ impl fmt::Display for Hint {
 }
 
 // rule: engines (own) A hint after the line names the likely cause of N1 and N2
-/// The hint at a client whose connection has failed with the code of this number, by the first
-/// octets that the server sent: that it speaks HTTP/1.1, or else the code's name.
+/// Returns the hint of a client whose connection failed with this error code, by the first
+/// octets received: that the server speaks HTTP/1.1, or else the code's name.
 pub fn hint_at_client(number: u32, first: &[u8]) -> Option<Hint>
     ensures { IsDueAtClient number first.now result }
 {
@@ -72,8 +72,8 @@ pub fn hint_at_client(number: u32, first: &[u8]) -> Option<Hint>
     hint_of_code(number)
 }
 
-/// The hint at a server whose connection has failed with the code of this number, by the first
-/// octets that the client sent: that it speaks HTTP/1.1, or else the code's name.
+/// Returns the hint of a server whose connection failed with this error code, by the first
+/// octets received: that the client speaks HTTP/1.1, or else the code's name.
 pub fn hint_at_server(number: u32, first: &[u8]) -> Option<Hint>
     ensures { IsDueAtServer number first.now result }
 {
@@ -83,14 +83,14 @@ pub fn hint_at_server(number: u32, first: &[u8]) -> Option<Hint>
     hint_of_code(number)
 }
 
-// The hint that names the code of this number, if there is one.
+// The hint that names this error code, if it has a name.
 fn hint_of_code(number: u32) -> Option<Hint>
     ensures { NamesCode number result }
 {
     Code::from_number(number).map(Hint::ErrorCode)
 }
 
-/// The hint for a call of a socket that has failed with an error of this kind, if there is one.
+/// Returns the hint for a socket call that failed with this kind of error, if there is one.
 pub fn hint_of_device(kind: ErrorKind) -> Option<Hint>
     ensures { result ≡ device_hint kind }
 {
@@ -108,8 +108,8 @@ pub fn hint_of_device(kind: ErrorKind) -> Option<Hint>
     }
 }
 
-/// The hint where a host can't be connected to, for an error of this kind: as [`hint_of_device`],
-/// or that the host is unknown, which has no kind of its own.
+/// Returns the hint for a failed connect: as [`hint_of_device`], or that the host is unknown,
+/// which has no kind of its own.
 pub fn hint_of_connecting(kind: ErrorKind) -> Option<Hint>
     ensures { result ≡ connect_hint kind }
 {

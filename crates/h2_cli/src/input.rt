@@ -1,4 +1,4 @@
-//! Reading an input, in pieces or as hexadecimal text.
+//! Reads an input, in pieces or as hexadecimal text.
 
 ghost use Rattle.std.specs.Prelude.{◌≡◌, ◌<◌, ◌≤◌, [], length, take, vec_len, Ok, Err, IfOk};
 ghost use Rattle.std.specs.Prelude.{IfSome};
@@ -13,14 +13,14 @@ use h2_link::read_some;
 use std::alloc::{AllocError, Global};
 use std::io::{self, BufWriter, Read, Write};
 
-/// The number of octets that are read at once, and buffered before they are written.
+/// The number of octets per read, and of the output buffer.
 pub const PIECE: usize = 65_536;
 
-/// A buffer for a piece: [`PIECE`] zeros.
+/// Returns a buffer for a piece: [`PIECE`] zeros.
 ///
 /// # Errors
 ///
-/// [`AllocError`] when out of memory.
+/// [`AllocError`] if out of memory.
 pub fn new_buffer(alloc: Global) -> Result<Vec<u8>, AllocError>
     ensures { IfOk result (λ octets. vec_len octets ≡ 65536) }
 {
@@ -29,8 +29,8 @@ pub fn new_buffer(alloc: Global) -> Result<Vec<u8>, AllocError>
 
 // contract: show (own) Lines are written before the next read and before the end
 // rule: show (own) Lines are written before the next read and before the end
-/// The same where lines are printed of what was read: all of them have been written. So nothing is
-/// held back while a read waits.
+/// Reads the next piece. All lines printed so far must have been written, so that none is held
+/// back while a read waits.
 ///
 /// # Errors
 ///
@@ -52,12 +52,12 @@ pub fn read_next<R: Read, W: Write + Drop>(
 }
 
 // rule: show (own) Hexadecimal is read without its blanks; other text is refused
-/// Reads text to its end, and returns the octets that it gives in hexadecimal.
+/// Reads hexadecimal text to its end, and returns its octets.
 ///
 /// # Errors
 ///
-/// [`Failure::BadHex`] where the text isn't hexadecimal, [`Failure::Device`] where a read failed,
-/// and [`Failure::Memory`] when out of memory.
+/// [`Failure::BadHex`] if the text is not hexadecimal, [`Failure::Device`] if a read failed, and
+/// [`Failure::Memory`] if out of memory.
 pub fn read_hex<R: Read>(alloc: Global, input: &mut R) -> Result<Vec<u8>, Failure>
     ensures octets { IfOk result (λ octets. IfSome (R.remaining input.old)
         (λ text. decode_of (without_blanks text) ≡ Ok octets.items)) }

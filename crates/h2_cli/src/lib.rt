@@ -1,9 +1,8 @@
-//! What commands of a program share that read an input, print lines and end with a status.
+//! What the commands share that read an input, print lines and end with a status.
 //!
-//! A [`Hint`] is what is likely the cause of a failure. A command prints it on standard error after
-//! the line of its failure; it changes neither that line nor the status. A [`Status`] is how a
-//! command ends, a [`Failure`] why it fails. [`read_hex`] reads hexadecimal, and [`read_next`] the
-//! next piece of an input of which lines are printed.
+//! A [`Hint`] is the likely cause of a failure, printed on standard error after the failure's line;
+//! it changes neither that line nor the status. A [`Status`] is how a command ends, a [`Failure`]
+//! why it fails. [`read_hex`] reads hexadecimal, and [`read_next`] the next piece of an input.
 #![tactic(auto)]
 
 mod failure;

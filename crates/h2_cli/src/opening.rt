@@ -1,9 +1,9 @@
-//! What the first octets of an input or a connection are.
+//! Recognizes the first octets of an input or a connection.
 
 ghost use Rattle.std.specs.Prelude.{◌≡◌};
 ghost use Rattle.h2_cli.specs.Hints.{answers_http1, asks_http1, is_capture, is_pcap};
 
-/// Whether octets begin as a capture of packets does, in the format pcap or pcapng.
+/// Whether octets begin like a packet capture in the format pcap or pcapng.
 pub fn is_capture(octets: &[u8]) -> bool
     ensures { result ≡ is_capture octets.now }
 {
@@ -20,15 +20,14 @@ fn is_pcap(octets: &[u8]) -> bool
         || octets.starts_with(b"\xa1\xb2\x3c\x4d")
 }
 
-/// Whether octets begin as a response of HTTP/1.1 does (RFC 9112, section 4).
+/// Whether octets begin like an HTTP/1.1 response (RFC 9112, section 4).
 pub fn answers_http1(octets: &[u8]) -> bool
     ensures { result ≡ answers_http1 octets.now }
 {
     octets.starts_with(b"HTTP/1")
 }
 
-/// Whether octets begin as a request of HTTP/1.1 does (RFC 9112, section 3): with a method and a
-/// space.
+/// Whether octets begin like an HTTP/1.1 request (RFC 9112, section 3): with a method and a space.
 pub fn asks_http1(octets: &[u8]) -> bool
     ensures { result ≡ asks_http1 octets.now }
 {

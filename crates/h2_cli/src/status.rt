@@ -6,12 +6,11 @@ ghost use Rattle.h2_cli.specs.Status.{exit_code_of};
 /// How a command ends.
 #[derive(Clone, Copy, Debug, PartialEq, Eq, Hash)]
 pub enum Status {
-    /// The input was used to its end, without fault, or help was printed.
+    /// The input was used to its end without a fault, or help was printed.
     Good,
-    /// The stream is at fault; or it is shown, and ends inside the preface, a frame or a field
-    /// block.
+    /// A fault of the stream, or the input ends inside the preface, a frame or a field block.
     Fault,
-    /// The words of the command line are wrong, or the input isn't the hexadecimal text announced.
+    /// Invalid arguments, or the input is not the hexadecimal text announced.
     Usage,
     /// A read or a write failed.
     Device,
@@ -20,7 +19,7 @@ pub enum Status {
 }
 
 impl Status {
-    /// The number with which the program ends, 0 to 4.
+    /// Returns the exit code, 0 to 4.
     pub fn code(self) -> u8
         ensures { result ≡ exit_code_of self }
     {

@@ -1,9 +1,9 @@
-//! An input of one end of a connection, as lines of text: a line for each event, the fault that
-//! ends the connection, and the octets that the end puts out.
+//! Prints what one endpoint makes of its peer's octets as lines of text: a line for each event,
+//! the fault that ends the connection, and the octets that the endpoint sends.
 //!
-//! [`replay_input`] reads from any reader and prints to any writer, so tests run it in memory;
-//! [`write_event`] prints the lines of one event, and [`Opening`] knows what is likely wrong with an
-//! input whose first octets are at fault.
+//! [`replay_input`] reads from any reader and prints to any writer, so tests run in memory;
+//! [`write_event`] prints the lines of one event, and [`Opening`] gives hints for an input whose
+//! first octets are at fault.
 #![tactic(auto)]
 
 mod lines;

@@ -1,4 +1,4 @@
-//! Events, and the octets that an end puts out, as lines of text.
+//! Prints events, and the octets that an endpoint sends, as lines of text.
 
 ghost use Rattle.std.specs.Prelude.{◌≢◌, Err, Some, flat_map, OnOk};
 ghost use Rattle.std.specs.Io.KnownBytes.{Appends};
@@ -17,8 +17,8 @@ use std::io::{self, Write};
 
 // rule: replay (own) The line of an event has its type, stream and more
 /// Prints the line of an event, and then a line for each of its fields, as
-/// [`write_field`](h2_show::write_field) does. The words are divided by one space, and numbers are
-/// decimal; each octet of a PING is two hexadecimal digits in lower case.
+/// [`write_field`](h2_show::write_field) does. Words are separated by one space, and numbers are
+/// decimal; the octets of a PING are hexadecimal in lower case.
 ///
 /// # Errors
 ///
@@ -53,7 +53,7 @@ pub fn write_event<W: Write>(event: Event<&FieldList, &[u8]>, out: &mut W) -> io
     }
 }
 
-/// A space and the word for END_STREAM, where it is set.
+/// A space and the word for END_STREAM, if it is set.
 #[derive(Clone, Copy)]
 struct End(bool);
 
@@ -95,7 +95,7 @@ fn write_pong<W: Write>(octets: [u8; 8], out: &mut W) -> io::Result<()>
 }
 
 // rule (contract): replay (own) Each event has a line, written with its piece
-/// Prints the line of all queued output, which is put out a piece at a time.
+/// Prints the line of all queued output, taking it in pieces.
 pub(crate) fn write_out<W: Write>(
     alloc: Global,
     conn: &mut Conn,

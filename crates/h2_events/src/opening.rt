@@ -1,19 +1,19 @@
-//! What is still to come of the client's preface.
+//! Tracks the client's preface.
 
 use h2_conn::Role;
 use h2_show::Hint;
 use h2_wire::PREFACE;
 
-/// What is still to come of the preface that an end expects.
+/// The part of the expected preface that has not arrived.
 #[derive(Clone, Copy, Debug)]
 pub struct Opening {
     left: &'static [u8],
-    /// Whether no octet has come.
+    /// Whether no octet has arrived.
     is_new: bool,
 }
 
 impl Opening {
-    /// Before the first octet: a server expects the preface, a client nothing.
+    /// Creates one before the first octet: a server expects the preface, a client nothing.
     pub fn new(role: Role) -> Opening {
         match role {
             Role::Server => Opening {
@@ -27,7 +27,7 @@ impl Opening {
         }
     }
 
-    /// After a piece that was taken.
+    /// Notes a piece that was accepted.
     pub fn advance(&mut self, piece: &[u8]) {
         let count = piece.len().min(self.left.len());
         self.left = &self.left[count..];
@@ -35,9 +35,9 @@ impl Opening {
     }
 
     // rule: replay (own) The words of replay choose the end and hexadecimal
-    /// What is likely wrong with the options or the input, where the connection fails in this
-    /// piece: none unless it is the first one and its beginning says what it is, or it isn't what
-    /// is still to come of the preface.
+    /// Returns what is likely wrong with the options or the input if the connection fails in
+    /// this piece: none unless the piece is the first and shows what the input is, or does not
+    /// continue the preface.
     pub fn hint(&self, piece: &[u8]) -> Option<Hint> {
         let of_input = if self.is_new {
             Hint::for_input(piece, !self.left.is_empty())

@@ -7,6 +7,6 @@ use h2_conn::Role;
 pub struct ReplayOptions {
     /// Whether the input is hexadecimal text.
     pub hex: bool,
-    /// The end that takes the octets, which are its peer's.
+    /// The endpoint that receives the input.
     pub role: Role,
 }

@@ -1,4 +1,4 @@
-//! An input, replayed to its end.
+//! Replays an input to its end.
 
 ghost use Rattle.std.specs.Prelude.{◌≡◌, ◌≢◌, ◌<◌, ◌++◌, length, [], None, true, Err, codes};
 ghost use Rattle.std.specs.Prelude.{IfOk, OnOk, IfErr, IfSome};
@@ -24,30 +24,29 @@ use std::io::{BufWriter, Read, Write};
 /// How an input ended.
 #[derive(Clone, Copy, Debug)]
 struct Ended {
-    /// The code with which the connection failed, for a fault of the peer.
+    /// The error code of a fault of the peer.
     fault: Option<Code>,
-    /// What is likely wrong with the options or the input, where that shows.
+    /// What is likely wrong with the options or the input, if known.
     hint: Option<Hint>,
 }
 
 // contract: replay (own) The status is 0 only where an end took the whole input
 // rule: replay (own) The status is 0 only where an end took the whole input
 // contract: replay (own) The status is 1 only where that end has failed
-/// Replays the input: hands its octets to one end of a connection, which is new and has the
-/// default configuration, and prints a line for each event, the fields of a block under its line;
-/// then a line for the fault with which the connection fails, if it does; and then its output,
-/// which is put out once the input is used.
+/// Feeds the input to one endpoint of a new connection with the default configuration. Prints a
+/// line for each event, with the fields of a block under its line, then a line for the fault
+/// with which the connection fails, if it does, and then the output of the endpoint.
 ///
-/// Of a reader whose octets are known, in whatever pieces it gives them, [`Status::Good`] comes
-/// only where the end took all of them and hasn't failed; and [`Status::Fault`] only where it has
-/// failed in them, with a code other than INTERNAL_ERROR, which says that memory ran out.
+/// Returns [`Status::Good`] only if the endpoint took the whole input and has not failed, and
+/// [`Status::Fault`] only if it failed with a code other than INTERNAL_ERROR, which means out of
+/// memory. The pieces that the reader gives do not matter.
 ///
 /// # Errors
 ///
-/// [`Failure::Device`] where a read or a write has failed, [`Failure::Memory`] when out of memory, and
-/// [`Failure::BadHex`] where the input isn't the hexadecimal text that was announced. What was
-/// printed by then is written in any case, unless the writer itself fails: where it does so at the
-/// end, that is [`Failure::Device`], whatever its error.
+/// [`Failure::Device`] if a read or a write failed, [`Failure::Memory`] if out of memory, and
+/// [`Failure::BadHex`] if the input is not the hexadecimal text announced. What was printed
+/// before is written in any case, unless a write fails; if the last write fails, the error is
+/// [`Failure::Device`].
 pub fn replay_input<R: Read, W: Write>(
     alloc: Global,
     options: ReplayOptions,
@@ -61,12 +60,12 @@ pub fn replay_input<R: Read, W: Write>(
 {
     let mut lines = BufWriter::with_capacity(alloc, PIECE, out)?;
     let shown = replay_lines(alloc, options, input, &mut lines);
-    // Only a failed write has left something, which isn't written again.
+    // Only a failed write leaves something, and it is not written again.
     let _ = lines.into_parts();
     shown
 }
 
-// Replays the input, and writes what is buffered at its end.
+// Replays the input, and flushes the buffer at its end.
 fn replay_lines<R: Read, W: Write + Drop>(
     alloc: Global,
     options: ReplayOptions,
@@ -79,7 +78,7 @@ fn replay_lines<R: Read, W: Write + Drop>(
     ensures bad_hex { result ≡ Err Failure.BadHex
         → (options.hex ≡ true) × IfSome (R.remaining input.old) IsBadHex }
 
-    // Whatever else it ends with, what was printed is written.
+    // What was printed is written, unless a write failed.
     ensures written { result ≢ Err Failure.Device → writer_buffer lines.new ≡ [] }
 {
     let shown = if options.hex {
@@ -96,7 +95,7 @@ fn replay_lines<R: Read, W: Write + Drop>(
     shown
 }
 
-// Replays octets as they come.
+// Replays binary input as it arrives.
 fn replay_octets<R: Read, W: Write + Drop>(
     alloc: Global,
     role: Role,
@@ -171,7 +170,7 @@ fn write_piece<W: Write + Drop>(
     Ok(lines.flush()?)
 }
 
-// Replays octets in hexadecimal, whose text is read to its end first.
+// Replays hexadecimal input, after its text was read to the end.
 fn replay_hex<R: Read, W: Write>(
     alloc: Global,
     role: Role,
@@ -186,7 +185,7 @@ fn replay_hex<R: Read, W: Write>(
     replay_all(alloc, role, &octets, out)
 }
 
-// Replays octets all at once.
+// Replays the octets of an input all at once.
 fn replay_all<W: Write>(
     alloc: Global,
     role: Role,

@@ -1,4 +1,4 @@
-//! One end, and the lines of what it reports.
+//! One endpoint, and the lines of its events.
 
 ghost use Rattle.std.specs.Prelude.{◌≡◌, [], None, OnOk, IfOk, IfErr};
 ghost use Rattle.h2_events.specs.Replayer.{EndReplays, HandsPiece, ReportsCode, ReplayErrorReports};
@@ -11,12 +11,12 @@ use h2_frame::Code;
 use std::alloc::Global;
 use std::io::{self, Write};
 
-/// Why an end takes no more of an input.
+/// Why an endpoint takes no more input.
 #[derive(Clone, Copy, Debug)]
 pub(crate) enum ReplayError {
-    /// The connection has failed with this code, for a fault of the peer.
+    /// The connection failed with this code, for a fault of the peer.
     Fault(Code),
-    /// A line wasn't printed, or out of memory.
+    /// A write failed, or out of memory.
     Failed(Failure),
 }
 
@@ -25,7 +25,7 @@ impl From<ConnFault> for ReplayError {
 
     fn from(fault: ConnFault) -> ReplayError {
         match fault.code {
-            // Nothing that a peer sends is answered with this code.
+            // Nothing that a peer sends causes this code.
             Code::InternalError => ReplayError::Failed(Failure::Memory),
             code => ReplayError::Fault(code),
         }
@@ -40,11 +40,11 @@ impl From<io::Error> for ReplayError {
     }
 }
 
-/// A new end, with the first values of its settings.
+/// Creates an endpoint with the default settings.
 ///
 /// # Errors
 ///
-/// [`Failure::Memory`] when out of memory.
+/// [`Failure::Memory`] if out of memory.
 pub(crate) fn new_end(alloc: Global, role: Role) -> Result<Conn, Failure>
     ensures ok { IfOk result (EndReplays role []) }
     ensures err { IfErr result (λ failure. failure ≡ Failure.Memory) }
@@ -59,12 +59,13 @@ pub(crate) fn new_end(alloc: Global, role: Role) -> Result<Conn, Failure>
 // rule: replay (own) The status is 0 only where an end took the whole input
 // contract: replay (own) The status is 1 only where that end has failed
 // rule (contract): replay (own) Each event has a line, written with its piece
-/// Hands the piece to the end until it is used and nothing more is reported, and prints the events.
+/// Feeds a piece to the endpoint until it is used up and there are no more events, and prints
+/// the events.
 ///
 /// # Errors
 ///
-/// [`ReplayError::Fault`] where the connection fails, and [`ReplayError::Failed`] where a line
-/// wasn't printed or memory ran out.
+/// [`ReplayError::Fault`] if the connection fails, and [`ReplayError::Failed`] if a write failed
+/// or memory ran out.
 pub(crate) fn take_piece<W: Write>(
     conn: &mut Conn,
     piece: &[u8],

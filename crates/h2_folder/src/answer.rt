@@ -1,4 +1,4 @@
-//! How a folder answers a request.
+//! Answers requests with the files of a folder.
 
 ghost use Rattle.std.specs.Prelude.{◌≡◌, ◌≢◌, IfOk, IfSome, Ok, Some, drop, false};
 ghost use Rattle.std.specs.Prelude.{length, option_copied, take, true};
@@ -40,27 +40,27 @@ pub struct Folder<'a, R> {
     pub rt: &'a R,
     /// The path of the folder.
     pub root: &'a str,
-    /// Small files of this folder that were read in this second; none: the file system is asked for
+    /// A cache of the folder's small files for one second; `None` to read the file system for
     /// each request.
     pub recent: Option<&'a Recent>,
 }
 
-/// How a request is answered.
+/// The answer to a request.
 #[derive(Drop)]
 pub enum Answered<F> {
-    /// With a whole message.
+    /// A complete message.
     Whole(Message),
-    /// With a head, and octets of a file, one at least.
+    /// A head, and one or more octets of a file.
     Parts(Vec<Field>, Sending<F>),
 }
 
 impl<'a, R: Files + Clock> Folder<'a, R> {
     // contract: files (own) What is not there has 404, and what may not be read has 403
-    /// How a request with this head is answered.
+    /// Returns the answer to a request with this head.
     ///
     /// # Errors
     ///
-    /// [`AllocError`] where an allocation was refused.
+    /// [`AllocError`] if an allocation was refused.
     pub fn answer(&self, alloc: Global, list: &FieldList) -> Result<Answered<R::File>, AllocError>
         ensures { IfOk result (AnswersRequest list.now) }
     {
@@ -80,7 +80,7 @@ impl<'a, R: Files + Clock> Folder<'a, R> {
         }
     }
 
-    /// How a request for the file with these names is answered, at a second.
+    /// The answer to a request for the file with these names, at a second.
     fn answer_named(
         &self,
         alloc: Global,
@@ -108,8 +108,8 @@ impl<'a, R: Files + Clock> Folder<'a, R> {
 }
 
 // contract: files (own) What a small file had in a second is answered in that second alone
-/// How a GET without conditions is answered, of a small file that was read in this second; none for
-/// another request, and where the file isn't kept.
+/// The answer to a GET without conditions for a small file read in this second; none for any
+/// other request, and if the file is not cached.
 fn kept_answer<F>(
     alloc: Global,
     method: Method,
@@ -131,8 +131,8 @@ fn kept_answer<F>(
     Some(Answered::Whole(message))
 }
 
-/// The head of the answer to a GET without conditions, at a second, of a small file with these names
-/// and octets, which was modified in a second.
+/// The head of the answer to a GET without conditions, at `second`, for a small file with these
+/// names and octets, last modified at `modified`.
 pub(crate) fn plain_head(
     alloc: Global,
     names: &[String],
@@ -153,7 +153,7 @@ pub(crate) fn plain_head(
     file_head(alloc, Answer::Whole, &version, about)
 }
 
-/// How a request for a file that is there is answered, at a second with this date.
+/// The answer to a request for an existing file, at a second with this date.
 fn answer_at<F: Read + Seek + Drop>(
     alloc: Global,
     method: Method,
@@ -176,7 +176,7 @@ fn answer_at<F: Read + Seek + Drop>(
     answer_found(alloc, method, list, found, &version, about)
 }
 
-/// How a request for a file that is there is answered, of this version, with these dates.
+/// The answer to a request for an existing file of this version, with these dates.
 fn answer_found<F: Read + Seek + Drop>(
     alloc: Global,
     method: Method,
@@ -209,7 +209,7 @@ fn answer_found<F: Read + Seek + Drop>(
 
 // contract: HTTP 9.3.2 (own) A folder answers HEAD as GET, without the octets
 // rule: HTTP 9.3.2 (own) A folder answers HEAD as GET, without the octets
-/// An answer about a file: its head, and its octets, if the answer has some.
+/// The answer for a file: the head, and the octets, if it has some.
 fn send_found<F: Read + Seek + Drop>(
     alloc: Global,
     method: Method,
@@ -246,8 +246,7 @@ fn send_found<F: Read + Seek + Drop>(
 
 // contract: files (own) A file's octets are sent from the one that the answer's head states
 // rule: files (own) A file's octets are sent from the one that the answer's head states
-/// So many octets of all of a file's, from the one with this number on, which is counted from 0;
-/// as many as there are.
+/// Up to `count` of a file's octets, from octet number `first` on, counted from 0.
 fn part_of(alloc: Global, octets: Vec<u8>, first: u64, count: u64) -> Result<Vec<u8>, AllocError>
     ensures { IfOk result (λ part. part.items ≡ take count (drop first octets.items)) }
 {
@@ -263,8 +262,8 @@ fn part_of(alloc: Global, octets: Vec<u8>, first: u64, count: u64) -> Result<Vec
     }
 }
 
-/// An answer with a head, and so many octets of a file that was opened, from the one with this
-/// number on; or 500 where the file can't be read from there.
+/// An answer with a head and `count` octets of an open file, from octet number `first` on; or
+/// 500 if the file cannot be read from there.
 fn send_parts<F: Read + Seek + Drop>(
     alloc: Global,
     file: F,
@@ -294,7 +293,7 @@ fn first_octet_of(answer: Answer) -> u64
     }
 }
 
-/// How many octets of a file an answer has.
+/// The number of a file's octets that an answer has.
 fn octets_of_file(answer: Answer, length: u64) -> u64
     ensures { result ≡ octets_of_file answer length }
 {
@@ -305,7 +304,7 @@ fn octets_of_file(answer: Answer, length: u64) -> u64
     }
 }
 
-/// Whether an answer to this method, about so many octets, has none of them.
+/// Whether an answer to this method for `count` octets has no content.
 fn has_no_octets(method: Method, count: u64) -> bool
     ensures none { result ≡ true → HasNoOctets method count }
     ensures some { result ≡ false → (method ≡ Method.Get) × (count ≢ 0) }
@@ -316,7 +315,7 @@ fn has_no_octets(method: Method, count: u64) -> bool
     }
 }
 
-/// Whether an answer has a content.
+/// Whether an answer has content.
 fn has_content(method: Method) -> bool
     ensures { result ≡ has_content method }
 {
@@ -336,7 +335,7 @@ fn value_of<'a>(list: &'a FieldList, name: &[u8]) -> Option<&'a [u8]>
     }
 }
 
-/// The value of a field that each request has; nothing where it has none.
+/// Returns the value of a field that each request has, or an empty one.
 pub fn value_in<'a>(list: &'a FieldList, name: &[u8]) -> &'a [u8]
     ensures { result.now ≡ value_in name.now list.entry.now }
 {
@@ -346,7 +345,7 @@ pub fn value_in<'a>(list: &'a FieldList, name: &[u8]) -> &'a [u8]
     }
 }
 
-/// The version of a file that was found at a time.
+/// The version of a file found at this time.
 fn version_of<F>(alloc: Global, found: &Found<F>, now: u64) -> Result<Version, AllocError>
     ensures { IfOk result (λ version. validators_of version
         ≡ validators (found_length found.now) (found_modified found.now)
@@ -356,8 +355,8 @@ fn version_of<F>(alloc: Global, found: &Found<F>, now: u64) -> Result<Version, A
     Version::new(alloc, found.length(), modified, is_weak(modified, now))
 }
 
-/// Whether a file may change once more in the second in which it was modified: clocks of file
-/// systems may be a little late.
+/// Whether a file may still change in the second in which it was modified. Clocks of file
+/// systems may be slightly late.
 fn is_weak(modified: u64, now: u64) -> bool
     ensures { result ≡ is_weak_at modified now }
 {
@@ -374,7 +373,7 @@ fn kind_of(names: &[String]) -> &'static str
     }
 }
 
-/// The time, in seconds after 1970; 0 where it is not known.
+/// The time in seconds since 1970; 0 if it is unknown.
 fn seconds_now<R: Clock>(clock: &R) -> u64 {
     match clock.since_1970() {
         Ok(time) => time.as_secs(),
@@ -382,7 +381,7 @@ fn seconds_now<R: Clock>(clock: &R) -> u64 {
     }
 }
 
-/// The field `date` of a time that is known.
+/// The field `date`, if the time is known.
 fn date_in(now: u64) -> Option<[u8; 29]>
     ensures { IsDateOf now result }
 {
@@ -394,7 +393,7 @@ fn date_in(now: u64) -> Option<[u8; 29]>
 
 // contract: HTTP 8.8.2.1 `last-modified` is never later than `date`
 // rule: HTTP 8.8.2.1 `last-modified` is never later than `date`
-/// The field `last-modified` of a file that was modified in a second, in an answer of another one.
+/// The field `last-modified` of a file modified in one second, in an answer of another.
 fn modified_of(modified: u64, now: u64) -> Option<[u8; 29]>
     ensures { IsLastModified (stated_second modified now) result }
 {
@@ -406,7 +405,7 @@ fn modified_of(modified: u64, now: u64) -> Option<[u8; 29]>
     date_of(stated)
 }
 
-/// The date of a second after 1970 (RFC 9110, section 5.6.7); none from the year 10000 on.
+/// The date of a second since 1970 (RFC 9110, section 5.6.7); none from the year 10000 on.
 fn date_of(second: u64) -> Option<[u8; 29]>
     ensures { IsLastModified second result }
 {

@@ -1,4 +1,4 @@
-//! Which file the names of a path mean, and that it lies in the folder.
+//! Finds the file that a path names, within the folder.
 
 ghost use Rattle.std.specs.Prelude.{◌≡◌, ◌≤◌, IfOk, IfSome};
 ghost use Rattle.h2_files.specs.Paths.{texts};
@@ -15,8 +15,7 @@ use std::fs::{self, Files, Metadata, OpenFile};
 use std::io::{self, ErrorKind, Read};
 use std::os::unix::fs::MetadataExt;
 
-/// The error of the system where a process has no descriptor left (EMFILE), which no
-/// [`ErrorKind`] names.
+/// EMFILE: the process has no file descriptor left; no [`ErrorKind`] names it.
 const NO_DESCRIPTOR: i32 = 24;
 
 /// ENFILE: the system has no file descriptor left.
@@ -25,11 +24,12 @@ const NO_DESCRIPTOR_OF_ALL: i32 = 23;
 /// Why a path has no file that is served.
 #[derive(Clone, Copy, Debug, PartialEq, Eq, Hash)]
 pub enum Missing {
-    /// There is none: 404.
+    /// There is no such file: 404.
     NotFound,
-    /// It is a link, or lies below one; or it is no regular file, or may not be read: 403.
+    /// A symbolic link or anything below one, a file that is not regular, or one that may not be
+    /// read: 403.
     Forbidden,
-    /// The file system has failed: 500.
+    /// The file system failed: 500.
     Failed,
     /// Out of memory, or out of descriptors: 503.
     Busy,
@@ -63,26 +63,26 @@ impl From<AllocError> for Missing {
 /// A file that was found.
 #[derive(Drop)]
 pub(crate) enum Found<F> {
-    /// A small one, which was read.
+    /// A small file, which was read.
     Small {
         /// Its octets.
         octets: Vec<u8>,
-        /// When it was modified, in seconds after 1970.
+        /// The time of its last modification, in seconds since 1970.
         modified: u64,
     },
-    /// One that was opened.
+    /// A file that was opened.
     Open {
         /// The file.
         file: F,
-        /// How many octets it has.
+        /// The number of its octets.
         length: u64,
-        /// When it was modified, in seconds after 1970.
+        /// The time of its last modification, in seconds since 1970.
         modified: u64,
     },
 }
 
 impl<F> Found<F> {
-    /// How many octets it has.
+    /// The number of its octets.
     pub(crate) fn length(&self) -> u64
         ensures { result ≡ found_length self.now }
     {
@@ -92,7 +92,7 @@ impl<F> Found<F> {
         }
     }
 
-    /// When it was modified, in seconds after 1970.
+    /// The time of its last modification, in seconds since 1970.
     pub(crate) fn modified(&self) -> u64
         ensures { result ≡ found_modified self.now }
     {
@@ -103,8 +103,8 @@ impl<F> Found<F> {
     }
 }
 
-/// Finds the file that names mean below a root: a small one among those that were read in this
-/// second, if they are kept, or else in the file system. A small one is read, and kept.
+/// Finds the file with these names below a root: a small one in the cache, if there is one, or
+/// else in the file system; a small one is then read and cached.
 pub(crate) fn find<R: Files>(
     files: &R,
     alloc: Global,
@@ -115,7 +115,7 @@ pub(crate) fn find<R: Files>(
 ) -> Result<Found<R::File>, Missing>
     ensures { IfOk result IsSmallIfRead }
 {
-    // Where the time isn't known, nothing is kept.
+    // Nothing is cached if the time is unknown.
     let Some(recent) = recent_at(recent, now) else {
         return read_new(files, alloc, root, names);
     };
@@ -129,14 +129,13 @@ pub(crate) fn find<R: Files>(
     Ok(found)
 }
 
-/// What was read in a second; none where the time isn't known.
+/// The cache; none if the time is unknown.
 pub(crate) fn recent_at<'a>(recent: Option<&'a Recent>, now: u64) -> Option<&'a Recent> {
     if now == 0 { None } else { recent }
 }
 
 // contract: files (own) What a small file had in a second is answered in that second alone
-/// A copy of a small file with these names, which was read in a second; none where memory is
-/// missing.
+/// A copy of a small file with these names, read in this second; none if memory is refused.
 fn copy_of<F>(alloc: Global, names: &[String], second: u64, found: &Found<F>) -> Option<RecentFile>
     ensures { IfSome result (λ file. IsCopyOf found.now (texts names.now) second file) }
 {
@@ -149,7 +148,7 @@ fn copy_of<F>(alloc: Global, names: &[String], second: u64, found: &Found<F>) ->
 }
 
 // contract: files (own) What a small file had in a second is answered in that second alone
-/// A small file that was read in a second, with copies of its names and of its octets.
+/// A small file read in this second, with copies of its names and octets.
 fn kept_file(
     alloc: Global,
     names: &[String],
@@ -183,7 +182,7 @@ fn copy_names(alloc: Global, names: &[String]) -> Result<Vec<String>, AllocError
     Ok(copies)
 }
 
-/// Opens the file that names mean below a root, and reads it, if it is small.
+/// Opens the file with these names below a root, and reads it if it is small.
 fn read_new<R: Files>(
     files: &R,
     alloc: Global,
@@ -202,13 +201,13 @@ fn read_new<R: Files>(
 struct Opened<F> {
     file: F,
     length: u64,
-    /// When it was modified, in seconds after 1970.
+    /// The time of its last modification, in seconds since 1970.
     modified: u64,
 }
 
-/// Opens the file that names mean below a root, which has this path. Neither it nor a folder on its
-/// way is a link, as far as two looks tell, one before and one after it was opened: the second one
-/// sees the file that was opened.
+/// Opens the file with these names below a root, at this path. Neither it nor a folder on its
+/// path may be a symbolic link, which is checked before and after it is opened: the second check
+/// is of the file that was opened.
 fn open<R: Files>(
     files: &R,
     alloc: Global,
@@ -233,7 +232,7 @@ fn open<R: Files>(
     })
 }
 
-/// Reads a file that was opened, if it is small.
+/// Reads an open file if it is small.
 fn read_small<F: Read + Drop>(alloc: Global, opened: Opened<F>) -> Result<Found<F>, Missing>
     ensures { IfOk result IsSmallIfRead }
 {
@@ -253,7 +252,7 @@ fn read_small<F: Read + Drop>(alloc: Global, opened: Opened<F>) -> Result<Found<
     Ok(Found::Small { octets, modified })
 }
 
-/// The next octets of a file, so many: [`Missing::Failed`] where it is shorter than it was.
+/// The next `count` octets of a file; [`Missing::Failed`] if it has become shorter.
 fn read_octets<F: Read>(alloc: Global, file: &mut F, count: u64) -> Result<Vec<u8>, Missing>
     requires { count ≤ most_at_once }
     ensures { IfOk result (λ octets. ReadsOctets (F.remaining file.old) (F.remaining file.new)
@@ -266,8 +265,8 @@ fn read_octets<F: Read>(alloc: Global, file: &mut F, count: u64) -> Result<Vec<u
     }
 }
 
-/// What is known of the file that names mean below a root, where each name before the last is a
-/// folder, and the last one a regular file.
+/// The metadata of the file with these names below a root; each name but the last must be a
+/// folder, and the last a regular file.
 fn walk<R: Files>(
     files: &R,
     alloc: Global,
@@ -290,7 +289,7 @@ fn walk<R: Files>(
     Ok(known)
 }
 
-/// Why nothing lies below what is no folder.
+/// Why there is nothing below something that is not a folder.
 fn not_folder(known: &Metadata) -> Missing {
     if known.is_symlink() {
         Missing::Forbidden
@@ -299,7 +298,7 @@ fn not_folder(known: &Metadata) -> Missing {
     }
 }
 
-/// What is known of what names mean; of a link itself.
+/// The metadata of these names, without following a link.
 fn look<R: Files>(
     files: &R,
     alloc: Global,
@@ -310,7 +309,7 @@ fn look<R: Files>(
     about(fs::symlink_metadata(files, path.as_str()))
 }
 
-/// What is known of a file, or why it is not served.
+/// The metadata of a file, or why it is not served.
 fn about(known: io::Result<Metadata>) -> Result<Metadata, Missing> {
     match known {
         Ok(known) => Ok(known),
@@ -318,7 +317,7 @@ fn about(known: io::Result<Metadata>) -> Result<Metadata, Missing> {
     }
 }
 
-/// Why a path has no file, by an error: [`Missing::Busy`] where no descriptor is left.
+/// Why a path has no file, by an error: [`Missing::Busy`] if no descriptor is left.
 fn missing_by(error: &io::Error) -> Missing {
     match error.raw_os_error() {
         Some(NO_DESCRIPTOR | NO_DESCRIPTOR_OF_ALL) => Missing::Busy,
@@ -326,7 +325,7 @@ fn missing_by(error: &io::Error) -> Missing {
     }
 }
 
-/// Whether two are of one file.
+/// Whether both are of the same file.
 fn is_same(one: &Metadata, other: &Metadata) -> bool {
     one.ino() == other.ino() && one.dev() == other.dev()
 }

@@ -1,10 +1,9 @@
-//! A folder that is served over HTTP: its files, in parts, of any size (RFC 9110).
+//! Serves the files of a folder over HTTP, of any size (RFC 9110).
 //!
-//! [`Folder::answer`] says how a request is answered: with the head of a file's answer, and a
-//! [`Sending`] that gives the octets part by part; or with a whole message, as for a file that is
-//! not there. Which file a path means, which of 200, 206, 304, 412 and 416 an answer has, and what
-//! its validators are, is for [`h2_files`]. [`log_line`] is a request's line in the common log
-//! format.
+//! [`Folder::answer`] returns the answer to a request: the head of a file and a [`Sending`] that
+//! gives its octets part by part, or a complete message, such as 404. Which file a path names,
+//! its validators, and the choice among 200, 206, 304, 412 and 416 are those of [`h2_files`].
+//! [`log_line`] is a request's line in the common log format.
 #![tactic(auto)]
 
 mod answer;

@@ -9,7 +9,7 @@ use h2_files::Conditions;
 use h2_message::FieldList;
 use std::alloc::{AllocError, Global};
 
-/// The fields of a request that decide which answer it has: their values, if they are there.
+/// The values of a request's conditional and range fields, if there are any.
 #[derive(Drop)]
 pub(crate) struct Lines {
     if_match: Option<Vec<u8>>,
@@ -21,11 +21,11 @@ pub(crate) struct Lines {
 }
 
 impl Lines {
-    /// Those of a request. It takes memory only for fields that are there.
+    /// Collects those of a request. Needs memory only for fields that are there.
     ///
     /// # Errors
     ///
-    /// [`AllocError`] where an allocation was refused.
+    /// [`AllocError`] if an allocation was refused.
     pub(crate) fn of(alloc: Global, list: &FieldList) -> Result<Lines, AllocError>
         ensures { IfOk result (λ lines. asked_by_lines lines ≡ asked_in list.now) }
     {
@@ -39,7 +39,7 @@ impl Lines {
         })
     }
 
-    /// The conditions that they are.
+    /// Returns them as conditions.
     pub(crate) fn conditions(&self) -> Conditions<'_>
         ensures { asked_of result ≡ asked_by_lines self.entry.now }
     {
@@ -55,7 +55,7 @@ impl Lines {
 }
 
 // contract: files (own) What a small file had in a second is answered in that second alone
-/// Whether a request has none of the fields that decide which answer it has.
+/// Whether a request has no conditional and no range field.
 pub(crate) fn is_plain(list: &FieldList) -> bool
     ensures { result ≡ true → asked_in list.now ≡ no_asked }
 {
@@ -68,7 +68,7 @@ pub(crate) fn is_plain(list: &FieldList) -> bool
 }
 
 // rule: files (own) What a small file had in a second is answered in that second alone
-/// Whether a field with this name decides which answer a request has.
+/// Whether this is the name of a conditional or a range field.
 fn is_condition(name: &[u8]) -> bool
     ensures { result ≡ is_condition name.now }
 {
@@ -80,7 +80,7 @@ fn is_condition(name: &[u8]) -> bool
         || name == b"if-range".as_slice()
 }
 
-/// A value, lent.
+/// Borrows a value.
 fn lent(value: &Option<Vec<u8>>) -> Option<&[u8]>
     ensures { option_copied result ≡ option_map (λ value. value.items) value.entry.now }
 {
@@ -92,7 +92,7 @@ fn lent(value: &Option<Vec<u8>>) -> Option<&[u8]>
 
 // contract: HTTP 5.3 A field in several lines has their values, joined by commas
 // rule: HTTP 5.3 A field in several lines has their values, joined by commas
-/// The values of the fields with a name, in order, joined by commas; none where there is none
+/// The values of the fields with this name, in order, joined by commas; none if there is none
 /// (RFC 9110, section 5.3).
 fn joined_value(alloc: Global, list: &FieldList, name: &[u8]) -> Result<Option<Vec<u8>>, AllocError>
     ensures { IfOk result (λ value.

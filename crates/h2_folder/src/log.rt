@@ -1,4 +1,4 @@
-//! The common log format: a line a request.
+//! The common log format: one line for each request.
 
 ghost use Rattle.std.specs.Prelude.{◌≡◌, ◌<◌, ◌++◌, IfOk, OnOk};
 ghost use Rattle.h2_folder.specs.LogLines.{IsLogLine, IsLogTime, is_log_plain, log_answer};
@@ -8,32 +8,32 @@ ghost use Rattle.h2_folder.specs.LogLines.{status_or_dash};
 use httpdate::HttpDate;
 use std::alloc::{AllocError, Global};
 
-/// What the line of a request says.
+/// What a request's line says.
 #[derive(Clone, Copy, Debug)]
 pub struct LogEntry<'a> {
     /// The peer's address.
     pub peer: &'a str,
-    /// When the request was over, in seconds after 1970.
+    /// The end of the request, in seconds since 1970.
     pub time: u64,
     /// Its method.
     pub method: &'a [u8],
     /// Its path.
     pub path: &'a [u8],
-    /// The status of its answer; none where it had none.
+    /// The status of the response, if there was one.
     pub status: Option<u16>,
-    /// How many octets of the answer's body were given.
+    /// The octets of the response's body that were given to the connection.
     pub octets: u64,
 }
 
 // contract: hosts (own) What a request says can't end its quotes in a log, nor its line
 // contract: hosts (own) A line of the log has the peer, the time, the request and its answer
 // rule: hosts (own) A line of the log has the peer, the time, the request and its answer
-/// The line of a request: the peer, two dashes, the time, the request in quotes, the status, and
-/// how many octets its body had.
+/// Returns the line of a request: the peer, two dashes, the time, the request in quotes, the
+/// status, and the number of octets of the body.
 ///
 /// # Errors
 ///
-/// [`AllocError`] where an allocation was refused.
+/// [`AllocError`] if an allocation was refused.
 pub fn log_line(alloc: Global, entry: LogEntry<'_>) -> Result<Vec<u8>, AllocError>
     ensures { IfOk result (λ line. IsLogLine entry.entry line.items) }
 {
@@ -60,7 +60,7 @@ fn time_text(alloc: Global, time: u64) -> Result<Vec<u8>, AllocError>
     }
 }
 
-/// A time, of the text of its date, which is as `Sun, 06 Nov 1994 08:49:37 GMT`.
+/// A time, made of the text of its date, such as `Sun, 06 Nov 1994 08:49:37 GMT`.
 fn stamp_of(alloc: Global, date: &[u8; 29]) -> Result<Vec<u8>, AllocError>
     ensures { IfOk result (λ text. text.items ≡ log_time date.now) }
 {
@@ -98,7 +98,7 @@ fn answer_text(alloc: Global, status: Option<u16>, octets: u64) -> Result<Vec<u8
     Ok(text)
 }
 
-/// A status, or a dash where there was no answer.
+/// A status, or a dash if there was no response.
 fn status_text(alloc: Global, status: Option<u16>) -> Result<Vec<u8>, AllocError>
     ensures { IfOk result (λ text. text.items ≡ status_or_dash status) }
 {
@@ -108,8 +108,8 @@ fn status_text(alloc: Global, status: Option<u16>) -> Result<Vec<u8>, AllocError
     }
 }
 
-/// Adds octets, of which quotes, backslashes and what is no printable ASCII are escaped, so that
-/// nothing in a request ends its quotes, or its line.
+/// Adds octets, with quotes, backslashes and octets outside printable ASCII escaped, so that
+/// nothing in a request ends its quotes or its line.
 fn add_escaped(line: &mut Vec<u8>, octets: &[u8]) -> Result<(), AllocError>
     ensures { OnOk result (line.new.items ≡ line.old.items ++ log_octets octets.now) }
 {
@@ -120,7 +120,7 @@ fn add_escaped(line: &mut Vec<u8>, octets: &[u8]) -> Result<(), AllocError>
 }
 
 // rule: hosts (own) What a request says can't end its quotes in a log, nor its line
-/// Adds an octet, escaped as `\x` and two digits where it has to be.
+/// Adds an octet, escaped as `\x` and two digits if needed.
 fn add_one(line: &mut Vec<u8>, octet: u8) -> Result<(), AllocError>
     ensures { OnOk result (line.new.items ≡ line.old.items ++ log_octet octet) }
 {
@@ -134,7 +134,7 @@ fn add_one(line: &mut Vec<u8>, octet: u8) -> Result<(), AllocError>
     Ok(())
 }
 
-/// Whether an octet stands for itself in quotes.
+/// Whether an octet is not escaped in quotes.
 fn is_plain(octet: u8) -> bool
     ensures { result ≡ is_log_plain octet }
 {

@@ -1,4 +1,4 @@
-//! The heads of answers, and answers that are a short text.
+//! The heads of answers, and returns that are a short text.
 
 ghost use Rattle.std.specs.Prelude.{◌≡◌, IfOk, OnOk, [], codes, decimal};
 ghost use Rattle.std.specs.Prelude.{if◌then◌else◌, option_map};
@@ -17,7 +17,7 @@ use h2_message::{Field, Message, Octets};
 use http::StatusCode;
 use std::alloc::{AllocError, Global};
 
-/// What the head of a file's answer says besides its validators.
+/// The fields of a file's answer besides its status and validators.
 #[derive(Clone, Copy)]
 pub struct About<'a> {
     /// The field `content-type`.
@@ -30,12 +30,12 @@ pub struct About<'a> {
 
 // contract: HTTP 14.4 An answer with a part of a file says which part it is
 // rule: HTTP 14.4 An answer with a part of a file says which part it is
-/// The head of an answer about a file: of the whole file, of a part of it, or that it was not
-/// modified (RFC 9110, sections 15.3.1, 15.3.7 and 15.4.5).
+/// Returns the head of an answer for a file: 200, 206 or 304 (RFC 9110, sections 15.3.1, 15.3.7
+/// and 15.4.5).
 ///
 /// # Errors
 ///
-/// [`AllocError`] where an allocation was refused.
+/// [`AllocError`] if an allocation was refused.
 pub fn file_head(
     alloc: Global,
     answer: Answer,
@@ -51,7 +51,7 @@ pub fn file_head(
     Ok(head)
 }
 
-/// Adds what a head says of the content.
+/// Adds the fields of the content.
 fn add_part(
     alloc: Global,
     head: &mut Vec<Field>,
@@ -73,7 +73,7 @@ fn add_part(
     Ok(())
 }
 
-/// Adds which part of a file the content is.
+/// Adds `content-range`.
 fn add_range(
     alloc: Global,
     head: &mut Vec<Field>,
@@ -96,11 +96,11 @@ pub(crate) fn octets_of_part(first: u64, last: u64) -> u64
     last.saturating_sub(first).saturating_add(1)
 }
 
-/// An answer with a status and its phrase as a short text, which an answer to HEAD leaves out.
+/// Returns an answer with a status and its phrase as a short text, which an answer to HEAD omits.
 ///
 /// # Errors
 ///
-/// [`AllocError`] where an allocation was refused.
+/// [`AllocError`] if an allocation was refused.
 pub fn short_message(
     alloc: Global,
     status: u16,
@@ -115,8 +115,7 @@ pub fn short_message(
     Ok(message)
 }
 
-/// An answer with 405, as [`short_message`], which names the methods that are served (RFC 9110,
-/// section 15.5.6).
+/// An answer with 405, as [`short_message`], with the allowed methods (RFC 9110, section 15.5.6).
 pub(crate) fn method_message(alloc: Global, date: Option<[u8; 29]>) -> Result<Message, AllocError>
     ensures { IfOk result (λ message. message_value message ≡ method_message date) }
 {
@@ -126,7 +125,7 @@ pub(crate) fn method_message(alloc: Global, date: Option<[u8; 29]>) -> Result<Me
     Ok(message)
 }
 
-/// An answer with 416, as [`short_message`], which says how long the file is (RFC 9110, section
+/// An answer with 416, as [`short_message`], with the length of the file (RFC 9110, section
 /// 15.5.17).
 pub(crate) fn unsatisfied_message(
     alloc: Global,
@@ -141,7 +140,7 @@ pub(crate) fn unsatisfied_message(
     Ok(message)
 }
 
-/// Adds how long a file is.
+/// Adds the length of a file in `content-range`.
 fn add_unsatisfied(alloc: Global, head: &mut Vec<Field>, length: u64) -> Result<(), AllocError>
     ensures { OnOk result (head.new.items
         ≡ head_and_field (codes "content-range") (unsatisfied_range length) head.old.items) }
@@ -172,7 +171,7 @@ fn text_message(
     })
 }
 
-/// A text, or nothing of it.
+/// A text, or an empty one.
 fn body_if(text: Vec<u8>, has_body: bool) -> Vec<u8>
     ensures { result.items ≡ (if has_body then text.items else []) }
 {
@@ -212,7 +211,7 @@ fn reason_of(status: u16) -> Option<&'static str>
     }
 }
 
-/// A head with a status, and a date where it is known.
+/// A head with a status, and a date if it is known.
 fn head_with(alloc: Global, status: u16, date: Option<[u8; 29]>) -> Result<Vec<Field>, AllocError>
     ensures { IfOk result (λ head. head.items ≡ head_with status date) }
 {
@@ -265,7 +264,7 @@ fn add_kind(alloc: Global, head: &mut Vec<Field>, kind: &str) -> Result<(), Allo
     Ok(())
 }
 
-/// Adds what a version is known by, and that ranges are served.
+/// Adds the validators of a version, and `accept-ranges`.
 fn add_validators(
     alloc: Global,
     head: &mut Vec<Field>,
@@ -282,7 +281,7 @@ fn add_validators(
     Ok(())
 }
 
-/// Adds a date, where it is known.
+/// Adds a date, if it is known.
 fn add_date(
     alloc: Global,
     head: &mut Vec<Field>,

@@ -1,4 +1,4 @@
-//! Small files, as they were read in a second.
+//! A cache of small files, each for one second.
 
 ghost use Rattle.std.specs.Prelude.{◌≡◌, ◌≤◌, ◌⊎◌, ℕ, Contains, IfOk, IfSome, Some, length, true};
 ghost use Rattle.h2_files.specs.Paths.{texts};
@@ -11,16 +11,16 @@ use std::alloc::{AllocError, Global};
 use std::cell::RefCell;
 use std::marker::Model;
 
-/// A file of so many octets at most is read, and answered, at once.
+/// The maximum length of a file that is read and sent at once.
 pub(crate) const MOST_AT_ONCE: u64 = 16_384;
 
-/// So many files are kept at most.
+/// The maximum number of cached files.
 const PLACES: usize = 256;
 
-/// What a hash of no octets is (FNV-1a, of 64 bits).
+/// The hash of no octets (FNV-1a, 64 bits).
 const FNV_BASIS: u64 = 0xcbf2_9ce4_8422_2325;
 
-/// What a hash is multiplied by at each octet.
+/// The factor by which the hash is multiplied at each octet.
 const FNV_PRIME: u64 = 0x0000_0100_0000_01b3;
 
 /// A small file, as it was read in a second.
@@ -28,9 +28,9 @@ const FNV_PRIME: u64 = 0x0000_0100_0000_01b3;
 pub struct RecentFile {
     /// The names of its path below its folder.
     pub(crate) names: Vec<String>,
-    /// The second after 1970 in which it was read.
+    /// The second since 1970 in which it was read.
     pub(crate) second: u64,
-    /// When it was modified, in seconds after 1970.
+    /// The time of its last modification, in seconds since 1970.
     pub(crate) modified: u64,
     /// Its octets.
     pub(crate) octets: Vec<u8>,
@@ -58,7 +58,7 @@ impl Model for RecentFile {
 
 impl RecentFile {
     // rule: files (own) What a small file had in a second is answered in that second alone
-    /// Whether it has these names, and was read in this second.
+    /// Whether it has these names and was read in this second.
     fn is_of(&self, names: &[String], second: u64) -> bool
         ensures names { result ≡ true → self.now.names ≡ texts names.now }
         ensures second { result ≡ true → self.now.second ≡ second }
@@ -71,14 +71,14 @@ impl RecentFile {
         place_of(&self.names)
     }
 
-    /// When it was modified, in seconds after 1970.
+    /// The time of its last modification, in seconds since 1970.
     fn modified(&self) -> u64
         ensures { result ≡ self.now.modified }
     {
         self.modified
     }
 
-    /// A copy of its octets; none where memory is missing.
+    /// A copy of its octets; none if memory is refused.
     fn copy(&self, alloc: Global) -> Option<Vec<u8>>
         ensures same { IfSome result (λ octets. octets.items ≡ self.now.octets) }
         ensures few { IfSome result (λ octets. length octets.items ≤ most_at_once) }
@@ -89,8 +89,8 @@ impl RecentFile {
         Vec::from_slice(alloc, &self.octets).ok()
     }
 
-    /// A copy of the answer to a GET of it without conditions; none where it has no octets, or
-    /// memory is missing.
+    /// A copy of the answer to a GET without conditions; none if the file is empty or memory is
+    /// refused.
     fn answer(&self, alloc: Global) -> Option<Message>
         ensures { IfSome result (IsPlainAnswer self.now.names self.now.second self.now.modified) }
     {
@@ -117,17 +117,17 @@ fn copy_fields(alloc: Global, fields: &[Field]) -> Result<Vec<Field>, AllocError
     Ok(copies)
 }
 
-/// Files, each in the place of its names, where it takes the place of the one before.
+/// Cached files, each in the slot of its names, where it replaces the one before.
 #[derive(Drop)]
 pub(crate) struct RecentFiles {
-    /// The places; none before a file is kept.
+    /// The slots; empty before the first file is cached.
     places: Vec<Option<RecentFile>>,
 }
 
 impl RecentFiles {
     // contract: files (own) What a small file had in a second is answered in that second alone
     // rule: files (own) What a small file had in a second is answered in that second alone
-    /// The file with these names that was read in a second, if it is kept.
+    /// The file with these names that was read in this second, if it is cached.
     fn at(&self, names: &[String], second: u64) -> Option<&RecentFile>
         ensures { IfSome result (λ file. IsKeptFile self.entry.now.places.items
             (texts names.now) second file.now) }
@@ -138,8 +138,8 @@ impl RecentFiles {
         }
     }
 
-    /// A copy of the octets of the file with these names that was read in a second, and when it was
-    /// modified; none where it isn't kept, or memory is missing.
+    /// A copy of the octets of the file with these names that was read in this second, and the
+    /// time of its last modification; none if it is not cached, or memory is refused.
     fn copy_at(&self, alloc: Global, names: &[String], second: u64) -> Option<(Vec<u8>, u64)>
         ensures kept { IfSome result (λ found. GivesKept self.now.places.items (texts names.now)
             second found.0.items found.1) }
@@ -151,8 +151,8 @@ impl RecentFiles {
     }
 
     // contract: files (own) What a small file had in a second is answered in that second alone
-    /// The answer to a GET without conditions of the file with these names that was read in a
-    /// second; none where it isn't kept, has no octets, or memory is missing.
+    /// The answer to a GET without conditions for the file with these names that was read in
+    /// this second; none if it is not cached, is empty, or memory is refused.
     fn answer_at(&self, alloc: Global, names: &[String], second: u64) -> Option<Message>
         ensures { IfSome result (λ message. (modified : ℕ)
             × IsPlainAnswer (texts names.now) second modified message) }
@@ -162,7 +162,7 @@ impl RecentFiles {
     }
 
     // contract: files (own) What a small file had in a second is answered in that second alone
-    /// Keeps a file in the place of its names; where memory is missing nothing is kept.
+    /// Caches a file in the slot of its names, unless memory is refused.
     fn keep(&mut self, alloc: Global, file: RecentFile)
         ensures { (one : KeptFile) → Contains self.new.places.items (Some one)
             → (one ≡ file) ⊎ Contains self.old.places.items (Some one) }
@@ -179,7 +179,7 @@ impl RecentFiles {
     }
 }
 
-/// The places, each of them empty.
+/// Empty slots.
 fn empty_places(alloc: Global) -> Result<Vec<Option<RecentFile>>, AllocError>
     ensures { IfOk result (λ places. (one : KeptFile) → Contains places.items (Some one) → ⊥) }
 {
@@ -222,19 +222,17 @@ fn hash_on(hash: u64, octet: u8) -> u64 {
     (hash ^ u64::from(octet)).wrapping_mul(FNV_PRIME)
 }
 
-/// Small files of one folder, as they were read, so that the file system isn't asked for one again
-/// within a second, nor the head of its answer made again.
+/// A cache of the small files of one folder and the heads of their answers, each for one second.
 ///
-/// It holds 256 files at most, each of 16,384 octets at most: 4 MiB. A file that changes within a
-/// second is seen in the next one. That a file isn't there (404), or may not be read (403), is not
-/// kept.
+/// It holds at most 256 files of at most 16,384 octets each: 4 MiB. A file that changes is seen
+/// in the next second. 404 and 403 are not cached.
 #[derive(Drop)]
 pub struct Recent {
     files: RefCell<RecentFiles>,
 }
 
 impl Recent {
-    /// No files.
+    /// Creates an empty cache.
     pub fn new(alloc: Global) -> Recent {
         Recent {
             files: RefCell::new(RecentFiles {
@@ -243,8 +241,8 @@ impl Recent {
         }
     }
 
-    /// A copy of the octets of the file with these names that was read in a second, and when it was
-    /// modified; none where it isn't kept, or memory is missing.
+    /// A copy of the octets of the file with these names that was read in this second, and the
+    /// time of its last modification; none if it is not cached, or memory is refused.
     pub(crate) fn get(&self, alloc: Global, names: &[String], second: u64) -> Option<(Vec<u8>, u64)>
         ensures { IfSome result (λ found. length found.0.items ≤ most_at_once) }
     {
@@ -255,8 +253,8 @@ impl Recent {
     }
 
     // contract: files (own) What a small file had in a second is answered in that second alone
-    /// The answer to a GET without conditions of the file with these names that was read in a
-    /// second; none where it isn't kept, has no octets, or memory is missing.
+    /// The answer to a GET without conditions for the file with these names that was read in
+    /// this second; none if it is not cached, is empty, or memory is refused.
     pub(crate) fn answer(&self, alloc: Global, names: &[String], second: u64) -> Option<Message>
         ensures { IfSome result (λ message. (modified : ℕ)
             × IsPlainAnswer (texts names.now) second modified message) }
@@ -267,7 +265,7 @@ impl Recent {
         }
     }
 
-    /// Keeps a file; where memory is missing nothing is kept.
+    /// Caches a file, unless memory is refused.
     pub(crate) fn keep(&self, alloc: Global, file: RecentFile) {
         if let Ok(mut files) = self.files.try_borrow_mut() {
             files.keep(alloc, file);

@@ -1,15 +1,15 @@
-//! A file under way: its octets, part by part.
+//! A file that is being sent, part by part.
 
 ghost use Rattle.std.specs.Prelude.{◌≡◌, ◌≢◌, ◌==◌, IfSome, MatchOption, length};
 ghost use Rattle.h2_folder.specs.Parting.{BeginsAt, GivesPart};
 
 use std::io::{Read, Seek, SeekFrom};
 
-/// So many octets of a file that are to be sent, from where it was read.
+/// The rest of a range of a file that is being sent.
 #[derive(Drop)]
 pub struct Sending<F> {
     file: F,
-    /// The number of the octet that it began with, counted from 0.
+    /// The number of the first octet, counted from 0.
     first: u64,
     left: u64,
 }
@@ -17,8 +17,8 @@ pub struct Sending<F> {
 impl<F: Read + Seek + Drop> Sending<F> {
     // contract: files (own) A file's octets are sent from the one that the answer's head states
     // rule: files (own) A file's octets are sent from the one that the answer's head states
-    /// So many octets of a file that was just opened, from the first of them on, which is counted
-    /// from 0; none where the file can't be read from there.
+    /// Creates a sender of `count` octets of a file that was just opened, from octet number
+    /// `first` on, counted from 0; `None` if the file cannot be read from there.
     pub fn new(file: F, first: u64, count: u64) -> Option<Sending<F>>
         ensures { MatchOption result (first ≢ 0) (λ sending. (sending.first ≡ first)
             × (sending.left ≡ count)
@@ -37,7 +37,7 @@ impl<F: Read + Seek + Drop> Sending<F> {
 }
 
 impl<F: Read> Sending<F> {
-    /// Whether nothing is left.
+    /// Whether nothing is left to send.
     pub fn is_done(&self) -> bool
         ensures { result ≡ (self.now.left == 0) }
     {
@@ -46,8 +46,8 @@ impl<F: Read> Sending<F> {
 
     // contract: hosts (own) A file is sent in parts, as many octets as its head says
     // rule: hosts (own) A file is sent in parts, as many octets as its head says
-    /// Puts the next octets to the front of a room, and answers how many: none only where the room
-    /// is empty or nothing is left. `None` where the file can't be read, or is shorter than it was.
+    /// Writes the next octets to the start of `room`, and returns how many: 0 only if `room` is
+    /// empty or nothing is left. Returns `None` if the file cannot be read, or has become shorter.
     pub fn next_part(&mut self, room: &mut [u8]) -> Option<usize>
         ensures part { IfSome result (GivesPart (F.remaining self.old.file)
             (F.remaining self.new.file) self.old.left self.new.left room.new) }

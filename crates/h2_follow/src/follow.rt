@@ -1,4 +1,4 @@
-//! The text of both directions of a connection, shown to its end.
+//! Shows tshark's text of both directions of a connection to its end.
 
 ghost use Rattle.std.specs.Prelude.{◌≡◌, ◌≢◌, ℕ, List, [], Some, IfOk, IfErr, IfSome};
 ghost use Rattle.std.specs.Io.KnownBytes.{Appends};
@@ -17,8 +17,8 @@ use std::io::{self, BufRead, BufReader, ErrorKind, Read, Write};
 /// How a text is shown.
 #[derive(Clone, Copy, Debug, PartialEq, Eq)]
 pub struct FollowOptions {
-    /// The most octets of a frame's payload that either side may send whatever the SETTINGS of the
-    /// other say; a frame with more is a fault where these don't allow it.
+    /// The payload length that is always accepted, whatever the SETTINGS of the other side say.
+    /// A longer frame is a fault unless they allow it.
     pub max_frame: u32,
 }
 
@@ -31,12 +31,12 @@ pub struct Followed {
     pub hint: Option<FollowHint>,
 }
 
-/// Why a text isn't shown to its end.
+/// Why a text is not shown to its end.
 #[derive(Clone, Copy, Debug, PartialEq, Eq)]
 pub struct Unfollowed {
     /// Why the command fails.
     pub failure: Failure,
-    /// What is wrong with the text, where that is the cause.
+    /// What is wrong with the text, if that is the cause.
     pub hint: Option<FollowHint>,
 }
 
@@ -79,22 +79,20 @@ impl From<AllocError> for Unfollowed {
 // contract: follow (own) A side's fault ends that side, while the other goes on
 // contract: follow (own) The status is 0 only where both sides are good to their ends
 // contract: follow (own) A line that is not of tshark's text ends all, with its number
-/// Shows both sides of the text, each line of the client's octets after `> `, and each of the
-/// server's after `< `, in the order in which the octets came; then each side's end, the client's
-/// first.
+/// Shows both sides of the text, each line of the client after `> ` and each of the server after `<
+/// `, in the order in which the octets arrived; then the end of each side, the client's first.
 ///
-/// Of a reader whose octets are known, the lines of each side are those that `h2 show` prints of
-/// its octets, within the limits of payloads and of tables that the SETTINGS of the other side set,
-/// and [`Status::Good`] comes only where both sides are good to their ends. A side's
-/// fault ends that side alone. The text is read a line at a time: one line is kept, with its
-/// octets and their lines, and no other.
+/// The lines of each side are those that `h2 show` prints, within the limits that the SETTINGS
+/// of the other side set. Returns [`Status::Good`] only if both sides are valid and complete. A
+/// fault of a side ends that side alone. One line of the text is kept at a time, with its octets
+/// and their lines.
 ///
 /// # Errors
 ///
-/// [`Failure::BadHex`] where a line isn't of the text that tshark prints, with its number: what the
-/// lines before it give is written then, and nothing of the sides' ends. [`Failure::Device`] where
-/// a read or a write has failed, and [`Failure::Memory`] when out of memory, which a line of any length
-/// may need. What was printed by then is written, unless the writer itself fails.
+/// [`Failure::BadHex`] if a line is not tshark's, with its number: the lines of the text before
+/// it are written then, but not the sides' ends. [`Failure::Device`] if a read or a write
+/// failed, and [`Failure::Memory`] if out of memory, since a line may be of any length. What was
+/// printed before is written, unless a write fails.
 pub fn follow_input<R: Read, W: Write>(
     alloc: Global,
     options: FollowOptions,
@@ -171,7 +169,7 @@ fn bad_line(number: u64, line: &[u8]) -> Unfollowed
     }
 }
 
-// Whether the line with this number is one of a capture of packets.
+// Whether the line with this number is part of a packet capture.
 fn is_capture_line(number: u64, line: &[u8]) -> bool
     ensures { result ≡ is_capture_line number line.now }
 {

@@ -1,4 +1,4 @@
-//! Both sides of a connection, shown as their octets come.
+//! Shows both sides of a connection as their octets arrive.
 
 ghost use Rattle.std.specs.Prelude.{◌≡◌, ◌<◌, ◌≤◌, ◌≢◌, ℕ, false, List, [], ◌∷◌, ◌++◌, length};
 ghost use Rattle.std.specs.Prelude.{OnOk, IfOk};
@@ -33,27 +33,27 @@ pub(crate) struct Follower {
     client_bound: InForce,
     // What the server may send.
     server_bound: InForce,
-    // Whether a line has said that the side isn't checked in whole.
+    // Whether the line `not checked` of the side was printed.
     is_client_noted: bool,
     is_server_noted: bool,
-    // The most octets of a payload that a side may send whatever SETTINGS say.
+    // The payload length that is always accepted.
     least: u32,
-    // The client's node, once octets have come.
+    // The client's node, once there were octets.
     client: Option<Node>,
-    // What the octets say of the capture, if they do.
+    // What the octets show about the capture, if anything.
     notice: Option<FollowHint>,
-    // The lines of a part.
+    // The lines of one part.
     text: Vec<u8>,
-    // Those of a piece, each after its mark.
+    // The lines of a piece, each after its mark.
     lines: Vec<u8>,
 }
 
 impl Follower {
-    /// No octets have come.
+    /// Creates a follower, before the first octets.
     ///
     /// # Errors
     ///
-    /// [`AllocError`] when out of memory.
+    /// [`AllocError`] if out of memory.
     pub(crate) fn new(alloc: Global, least: u32) -> Result<Follower, AllocError>
         ensures { IfOk result (λ follower. FollowerShows follower least [] []) }
     {
@@ -74,12 +74,12 @@ impl Follower {
 
     // contract: follow (own) A line stands where the last octet of its frame came
     // rule: follow (own) A line stands where the last octet of its frame came
-    /// Shows the octets that the line with this number gives, if it does.
+    /// Shows the octets of the line with this number, if it has any.
     ///
     /// # Errors
     ///
-    /// `OutOfMemory` for that, and those of the writer. What was printed by then is written, unless
-    /// the writer itself fails.
+    /// `OutOfMemory`, and those of the writer. What was printed before is written, unless a
+    /// write fails.
     pub(crate) fn take_line<W: Write>(
         &mut self,
         number: u64,
@@ -97,7 +97,7 @@ impl Follower {
     }
 
     // rule: follow (own) A line stands where the last octet of its frame came
-    // Shows octets that came together, those of the line with this number.
+    // Shows the octets of the line with this number.
     fn take<W: Write>(&mut self, number: u64, read: &Read, out: &mut W) -> io::Result<()>
         ensures { OnOk result ((newer : Stretches)
             × Appends (W.contents out.old) (W.contents out.new) (output_of newer)
@@ -110,7 +110,7 @@ impl Follower {
     }
 
     // rule (tested): follow (own) A hint says why a side may be at fault, or which line is bad
-    // What the octets say of the capture, those of the line with this number with them.
+    // What the octets show about the capture, including those of this line.
     fn notice_with(&self, number: u64, octets: &[u8]) -> Option<FollowHint> {
         if self.notice.is_some() {
             return self.notice;
@@ -125,7 +125,7 @@ impl Follower {
     }
 
     // rule: follow (own) The client is whose octets come first as the preface, or else the other
-    // The client, as it is known or by these octets.
+    // The client's node, as known or by these octets.
     fn client_with(&self, read: &Read) -> Node
         ensures { ChoosesClient self.now.client (read.now.node, read.now.octets.items) result }
     {
@@ -189,7 +189,7 @@ impl Follower {
 
     // contract: follow (own) Where SETTINGS allow a side more than is read, a line says so once
     // rule: follow (own) Where SETTINGS allow a side more than is read, a line says so once
-    // Adds the line that a side isn't checked in whole to the text, where that begins.
+    // Adds the line `not checked` of a side to the text, where it first applies.
     fn note_unchecked(&mut self, side: Side) -> Result<(), AllocError>
         ensures { OnOk result (NotesUnchecked side self.old self.new) }
     {
@@ -246,11 +246,11 @@ impl Follower {
 
     // contract: follow (own) The status is 0 only where both sides are good to their ends
     // rule: follow (own) The status is 0 only where both sides are good to their ends
-    /// Shows the end of both sides' octets, the client's first.
+    /// Shows the ends of both sides, the client's first.
     ///
     /// # Errors
     ///
-    /// `OutOfMemory` for that, and those of the writer.
+    /// `OutOfMemory`, and those of the writer.
     pub(crate) fn end<W: Write>(&mut self, out: &mut W) -> io::Result<Status>
         ensures { IfOk result (λ status. (client : End) × (server : End) × (one : List ℕ) × (two : List ℕ)
             × (status ≡ status_of_both client server)
@@ -268,8 +268,8 @@ impl Follower {
     }
 
     // rule (tested): follow (own) A hint says why a side may be at fault, or which line is bad
-    /// What is likely wrong with the text or the capture: that there are no octets, what they say of
-    /// it, or else the cause of a side's fault, the client's first.
+    /// What is likely wrong with the text or the capture: there are no octets, what they show,
+    /// or else the cause of a side's fault, the client's first.
     pub(crate) fn hint(&self) -> Option<FollowHint> {
         if self.client.is_none() {
             return Some(FollowHint::NoOctets);
@@ -277,7 +277,7 @@ impl Follower {
         let client = hint_with(self.client_side.hint(), self.is_client_noted);
         let server = hint_with(self.server_side.hint(), self.is_server_noted);
         match client {
-            // A fault says more.
+            // A fault is more specific.
             Some(FollowHint::CutOff | FollowHint::NotChecked) => {
                 self.notice.or(server).or(client)
             }
@@ -288,7 +288,7 @@ impl Follower {
 
 // contract: follow (own) Where SETTINGS allow a side more than is read, a line says so once
 // rule: follow (own) Where SETTINGS allow a side more than is read, a line says so once
-// Adds the line that a side isn't checked in whole, unless it was printed before.
+// Adds the line `not checked` of a side, unless it was printed before.
 fn add_unchecked(bound: &InForce, is_noted: &mut bool, text: &mut Vec<u8>) -> Result<(), AllocError>
     ensures noted { OnOk result (is_noted.new ≡ noted_with is_noted.old (bound_of bound.now)) }
     ensures text { OnOk result (text.new.items
@@ -302,7 +302,7 @@ fn add_unchecked(bound: &InForce, is_noted: &mut bool, text: &mut Vec<u8>) -> Re
 }
 
 // rule (tested): follow (own) A hint says why a side may be at fault, or which line is bad
-// The hint for a side, with a line that it isn't checked in whole: a fault of it may be none.
+// The hint for a side; after the line `not checked` a fault of it may not be one.
 fn hint_with(hint: Option<FollowHint>, is_noted: bool) -> Option<FollowHint> {
     match hint {
         Some(FollowHint::CutOff) => hint,

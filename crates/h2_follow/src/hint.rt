@@ -1,25 +1,25 @@
-//! What is likely wrong with the text, or with the capture.
+//! Hints about the text or the capture.
 
-/// What is likely wrong with the text, or with the capture that it is of.
+/// What is likely wrong with the text or the capture.
 #[derive(Clone, Copy, Debug, PartialEq, Eq, Hash)]
 pub enum FollowHint {
-    /// The input is a capture of packets, and no text.
+    /// The input is a packet capture, not text.
     Capture,
-    /// The line of this number, counted from 1, isn't of the text that tshark prints.
+    /// This line, counted from 1, is not tshark's.
     BadLine(u64),
     /// The text has no octets.
     NoOctets,
-    /// The line of this number, counted from 1, says that the capture lacks octets.
+    /// This line, counted from 1, says that the capture lacks octets.
     LostSegment(u64),
     /// The first octets are a request of HTTP/1.1.
     Http1,
-    /// The client's octets don't begin with the preface.
+    /// The client's octets do not begin with the preface.
     NoPreface,
     /// A frame is longer than the limit, and a greater one can be given.
     LongFrame,
-    /// SETTINGS allow a side more than is read, so that a fault of it may be none.
+    /// SETTINGS allow a side more than this program supports, so a fault of it may not be one.
     NotChecked,
-    /// A block leaves a greater table than the SETTINGS of the other side allow.
+    /// A block leaves a larger table than the SETTINGS of the other side allow.
     Table,
     /// A side is at fault.
     Fault,

@@ -9,28 +9,28 @@ use h2_frame::limits::{FIRST_TABLE, LEAST_MAX_FRAME, MOST_MAX_FRAME};
 use std::alloc::{AllocError, Global};
 use std::collections::VecDeque;
 
-/// The greatest table that is kept.
+/// The maximum size of a table that is kept.
 const MOST_TABLE: u32 = 65_536;
 
 /// The settings of a side that limit what the other sends.
 #[derive(Clone, Copy, Debug, PartialEq, Eq)]
 pub(crate) struct Values {
-    /// SETTINGS_MAX_FRAME_SIZE: the most octets of a payload.
+    /// SETTINGS_MAX_FRAME_SIZE: the maximum payload length.
     pub(crate) max_frame: u32,
-    /// SETTINGS_HEADER_TABLE_SIZE: the greatest table of the other's encoder.
+    /// SETTINGS_HEADER_TABLE_SIZE: the maximum table size of the other's encoder.
     pub(crate) table: u32,
 }
 
 /// What the SETTINGS of the other side allow a side (RFC 9113, section 6.5.3).
 #[derive(Debug, Drop)]
 pub(crate) struct InForce {
-    /// The values that the side acknowledged last, or the first ones.
+    /// The values that the side acknowledged last, or the initial ones.
     pub(crate) acknowledged: Values,
-    /// The values of the SETTINGS that it hasn't acknowledged, in order.
+    /// The values of the SETTINGS that it has not acknowledged, in order.
     pub(crate) waiting: VecDeque<Values>,
     /// The values of the last SETTINGS.
     pub(crate) newest: Values,
-    // The peaks of the values that wait, so that the greatest is known however many do.
+    // The peaks of the unacknowledged values, so that the greatest is known at once.
     frames: VecDeque<u32>,
     tables: VecDeque<u32>,
     ghost frame_peaks: { frames.items ≡ peaks_of (map (λ values. values.max_frame) waiting.items) },
@@ -60,7 +60,7 @@ impl InForce {
     ghost use Rattle.h2_follow.specs.InForce.{bound_of, first_bound, frame_bound, table_bound};
     ghost use Rattle.h2_follow.specs.Unchecked.{allows_unread};
 
-    /// No SETTINGS have come.
+    /// Creates one before any SETTINGS.
     pub(crate) fn new(alloc: Global) -> InForce
         ensures { bound_of result ≡ first_bound }
     {
@@ -79,7 +79,7 @@ impl InForce {
 
     // contract: follow (own) What a side may send follows the other's SETTINGS, and its own ACK
     // rule: follow (own) What a side may send follows the other's SETTINGS, and its own ACK
-    // The other side has sent SETTINGS with these pairs.
+    // Notes SETTINGS of the other side.
     pub(crate) fn announce(&mut self, pairs: Pairs<'_>) -> Result<(), AllocError>
         ensures { OnOk result (bound_of self.new
             ≡ announced (lent_pairs pairs.entry) (bound_of self.old)) }
@@ -100,7 +100,7 @@ impl InForce {
 
     // contract: follow (own) What a side may send follows the other's SETTINGS, and its own ACK
     // rule: follow (own) What a side may send follows the other's SETTINGS, and its own ACK
-    // The side has acknowledged the first of the SETTINGS that wait.
+    // Notes the acknowledgment of the first unacknowledged SETTINGS.
     pub(crate) fn acknowledge(&mut self)
         ensures { bound_of self.new ≡ acknowledged (bound_of self.old) }
     {
@@ -113,7 +113,7 @@ impl InForce {
 
     // contract: follow (own) What a side may send follows the other's SETTINGS, and its own ACK
     // rule: follow (own) What a side may send follows the other's SETTINGS, and its own ACK
-    /// The most octets of a payload that the side may send, and `least` at least.
+    /// The maximum payload length that the side may send, at least `least`.
     pub(crate) fn max_frame(&self, least: u32) -> u32
         ensures { result ≡ frame_bound least (bound_of self.now) }
     {
@@ -122,7 +122,7 @@ impl InForce {
 
     // contract: follow (own) What a side may send follows the other's SETTINGS, and its own ACK
     // rule: follow (own) What a side may send follows the other's SETTINGS, and its own ACK
-    /// The greatest table that the side's encoder may use.
+    /// The maximum table size that the side's encoder may use.
     pub(crate) fn table(&self) -> u32
         ensures { result ≡ table_bound (bound_of self.now) }
     {
@@ -130,7 +130,7 @@ impl InForce {
     }
     // contract: follow (own) Where SETTINGS allow a side more than is read, a line says so once
     // rule: follow (own) Where SETTINGS allow a side more than is read, a line says so once
-    /// Whether the side may use a greater table than is kept, or send longer frames than are taken.
+    /// Whether the side may use a larger table, or send longer frames, than this program supports.
     pub(crate) fn allows_unread(&self) -> bool
         ensures { result ≡ allows_unread (bound_of self.now) }
     {

@@ -1,8 +1,8 @@
-//! Both directions of a connection as lines of text, of what tshark prints of a capture.
+//! Prints both directions of a connection as lines of text, from what tshark prints of a capture.
 //!
-//! [`follow_input`] reads the text of `tshark -q -z follow,tcp,raw,N` from any reader and prints to
-//! any writer, so tests run it in memory. Each direction is shown as `h2_show` shows one stream.
-//! [`show_sides`] shows both sides of two inputs, each with the octets of one.
+//! [`follow_input`] reads the text of `tshark -q -z follow,tcp,raw,N` from any reader and prints
+//! to any writer, so tests run in memory. Each direction is shown as `h2_show` shows one stream.
+//! [`show_sides`] shows both sides from two inputs, one for each.
 #![tactic(auto)]
 
 mod follow;

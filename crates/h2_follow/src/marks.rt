@@ -1,4 +1,4 @@
-//! Lines of a side, after its mark.
+//! Lines of a side, each after its mark.
 
 ghost use Rattle.std.specs.Prelude.{◌≡◌, ◌++◌, true, OnOk};
 ghost use Rattle.h2_follow.specs.Follows.{marked, mark_of};
@@ -12,7 +12,7 @@ use std::alloc::AllocError;
 ///
 /// # Errors
 ///
-/// [`AllocError`] when out of memory.
+/// [`AllocError`] if out of memory.
 pub fn mark_lines(text: &[u8], mark: &[u8], lines: &mut Vec<u8>) -> Result<(), AllocError>
     ensures { OnOk result (lines.new.items ≡ lines.old.items ++ marked mark.now true text.now) }
 {
@@ -28,7 +28,7 @@ pub fn mark_lines(text: &[u8], mark: &[u8], lines: &mut Vec<u8>) -> Result<(), A
 }
 
 // rule: follow (own) Each side has the lines that show prints of it, after its mark
-/// The mark of a side's lines.
+/// Returns the mark of a side's lines.
 pub fn mark_of<'a>(side: Side) -> &'a [u8]
     ensures { result.now ≡ mark_of side }
 {

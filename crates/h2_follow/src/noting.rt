@@ -1,4 +1,4 @@
-//! Frames, noted in what they allow.
+//! Notes what frames allow.
 
 ghost use Rattle.std.specs.Prelude.{◌≡◌, OnOk};
 ghost use Rattle.h2_frame.specs.Frames.{frame_of};
@@ -10,11 +10,12 @@ use std::alloc::AllocError;
 
 // contract: follow (own) What a side may send follows the other's SETTINGS, and its own ACK
 // rule: follow (own) What a side may send follows the other's SETTINGS, and its own ACK
-/// Notes a frame of a side, in what the other side allows it, and in what it allows the other.
+/// Notes what a frame of a side changes: an ACK in what the other side allows it, SETTINGS in
+/// what it allows the other.
 ///
 /// # Errors
 ///
-/// [`AllocError`] when out of memory.
+/// [`AllocError`] if out of memory.
 pub(crate) fn note_frame(
     frame: FrameRef<'_>,
     own: &mut InForce,

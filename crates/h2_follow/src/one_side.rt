@@ -1,4 +1,4 @@
-//! One side of a connection, shown part by part.
+//! Shows one side of a connection part by part.
 
 ghost use Rattle.std.specs.Prelude.{◌≡◌, ◌≢◌, ℕ, true, false, List, [], ◌++◌, length, take, OnOk};
 ghost use Rattle.std.specs.Prelude.{IfOk};
@@ -31,31 +31,31 @@ use std::io::{self, ErrorKind, Write};
 #[derive(Debug, Drop)]
 pub(crate) struct OneSide {
     viewer: Viewer,
-    // Cuts the same octets, for the frames that say what both sides may send.
+    // Cuts the same octets, for the SETTINGS of both sides.
     scanner: Cutter,
-    // The most octets of a payload that it may send, as the last frames say.
+    // The maximum payload length that it may send, as of the last frames.
     allowed: u32,
     // Whether a fault has ended it.
     is_over: bool,
-    // What is likely the cause of that.
+    // The likely cause of the fault.
     hint: Option<FollowHint>,
 }
 
 /// Octets that were read together.
 #[derive(Clone, Copy, Debug, PartialEq, Eq)]
 pub(crate) struct Scanned {
-    /// How many they are.
+    /// The number of octets.
     pub(crate) used: usize,
     /// Whether they end a block.
     pub(crate) ends_block: bool,
 }
 
 impl OneSide {
-    /// Begins with the first octet that the side sends.
+    /// Creates a side, before its first octet.
     ///
     /// # Errors
     ///
-    /// [`AllocError`] when out of memory.
+    /// [`AllocError`] if out of memory.
     pub(crate) fn new(alloc: Global, side: Side) -> Result<OneSide, AllocError>
         ensures { IfOk result (λ one. SideShows one side []) }
     {
@@ -85,13 +85,13 @@ impl OneSide {
     // rule: follow (own) A side's fault ends that side, while the other goes on
     // contract: follow (own) What a side may send follows the other's SETTINGS, and its own ACK
     // rule: follow (own) What a side may send follows the other's SETTINGS, and its own ACK
-    /// Reads octets of a side that no fault has ended, up to the end of a frame or all of them, and
-    /// adds their lines to the text, and that of their fault. `own` is what the side may send, and
-    /// `others` what the other may.
+    /// Reads octets of a side that has no fault, up to the end of a frame or all of them, and
+    /// adds their lines and that of their fault to the text. `own` is what the side may send,
+    /// and `others` what the other side may send.
     ///
     /// # Errors
     ///
-    /// `OutOfMemory` for that.
+    /// `OutOfMemory`.
     pub(crate) fn show(
         &mut self,
         least: u32,
@@ -167,7 +167,7 @@ impl OneSide {
             return Err(io::Error::from(ErrorKind::OutOfMemory));
         }
         match self.viewer.show_piece(octets, text) {
-            // The scanner has found a fault, and the viewer finds the same.
+            // Unreachable: the viewer finds the scanner's fault too.
             Ok(()) => Err(io::Error::from(ErrorKind::Other)),
             Err(error) => self.end_with(error, text),
         }
@@ -190,11 +190,11 @@ impl OneSide {
 
     // contract: follow (own) The status is 0 only where both sides are good to their ends
     // rule: follow (own) The status is 0 only where both sides are good to their ends
-    /// Adds what the end of the octets leaves unfinished, unless a fault has ended the side.
+    /// Adds what the end of the octets leaves unfinished, unless the side has a fault.
     ///
     /// # Errors
     ///
-    /// `OutOfMemory` for that.
+    /// `OutOfMemory`.
     pub(crate) fn end(&self, text: &mut Vec<u8>) -> io::Result<Status>
         ensures { IfOk result (λ status. (printed : List ℕ)
             × (text.new.items ≡ text.old.items ++ printed)
@@ -207,8 +207,7 @@ impl OneSide {
     }
 
     // rule (tested): follow (own) A hint says why a side may be at fault, or which line is bad
-    /// What is likely the cause of the side's fault, where one has ended it, or that its octets end
-    /// inside the preface or inside a frame.
+    /// The likely cause of the side's fault, or that it ends inside the preface or a frame.
     pub(crate) fn hint(&self) -> Option<FollowHint> {
         if !self.is_over && self.scanner.held() != 0 {
             return Some(FollowHint::CutOff);
@@ -275,7 +274,7 @@ fn ends_block(frame: FrameRef<'_>) -> bool
 }
 
 // rule (tested): follow (own) A hint says why a side may be at fault, or which line is bad
-// What is likely the cause of a fault of a side that may send such payloads.
+// The likely cause of a fault of a side that may send payloads of this length.
 fn hint_of(error: &ShowError, allowed: u32) -> FollowHint {
     match error {
         ShowError::Wire(WireFault::BadPreface) => FollowHint::NoPreface,
@@ -284,7 +283,7 @@ fn hint_of(error: &ShowError, allowed: u32) -> FollowHint {
     }
 }
 
-// The same of a length above the limit.
+// The likely cause of a length above the limit.
 fn hint_of_length(allowed: u32) -> FollowHint {
     if allowed < MOST_MAX_FRAME {
         FollowHint::LongFrame

@@ -1,4 +1,4 @@
-//! The peaks of a queue of numbers, by which the greatest of them costs the same however many wait.
+//! The peaks of a queue of numbers, with which finding the greatest takes constant time.
 
 ghost use Rattle.std.specs.Prelude.{◌≡◌, ◌<◌, ℕ, List, [], ◌∷◌, ◌++◌};
 ghost use Rattle.std.specs.VecDeque.{deque_capacity, deque_len};
@@ -7,7 +7,7 @@ ghost use Rattle.h2_follow.specs.Peaks.{ends_below, greatest_of, is_first, peaks
 use std::collections::VecDeque;
 
 // rule: follow (own) What a side may send follows the other's SETTINGS, and its own ACK
-/// Keeps the peaks of a queue at the end of which a number is put.
+/// Updates the peaks when a number is added at the end of the queue.
 pub(crate) fn push_peak(peaks: &mut VecDeque<u32>, number: u32)
     requires { deque_len peaks.old < deque_capacity peaks.old }
     ensures { (numbers : List ℕ) → peaks.old.items ≡ peaks_of numbers
@@ -30,7 +30,7 @@ fn ends_below(peaks: &VecDeque<u32>, number: u32) -> bool
 }
 
 // rule: follow (own) What a side may send follows the other's SETTINGS, and its own ACK
-/// Keeps the peaks of a queue from the front of which this number is taken.
+/// Updates the peaks when this number is removed from the start of the queue.
 pub(crate) fn pop_peak(peaks: &mut VecDeque<u32>, number: u32)
     ensures { (numbers : List ℕ) → peaks.old.items ≡ peaks_of (number ∷ numbers)
         → peaks.new.items ≡ peaks_of numbers }
@@ -51,7 +51,7 @@ fn is_first(peaks: &VecDeque<u32>, number: u32) -> bool
 }
 
 // rule: follow (own) What a side may send follows the other's SETTINGS, and its own ACK
-/// The greatest of the numbers of a queue with these peaks, and of `least`.
+/// The greatest number of a queue with these peaks, at least `least`.
 pub(crate) fn greatest(peaks: &VecDeque<u32>, least: u32) -> u32
     ensures { (numbers : List ℕ) → peaks.now.items ≡ peaks_of numbers
         → result ≡ greatest_of least numbers }

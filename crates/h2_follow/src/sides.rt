@@ -1,4 +1,4 @@
-//! The octets of both sides of a connection, each of an input of its own.
+//! Shows both sides of a connection from two inputs.
 
 ghost use Rattle.std.specs.Prelude.{◌≡◌, ◌++◌, ℕ, List, true, Err, IfOk, IfSome, OnOk};
 ghost use Rattle.std.specs.Io.KnownBytes.{Appends};
@@ -18,19 +18,18 @@ use std::io::{self, Read, Write};
 // contract: sides (own) The client's input is shown whole, and then the server's
 // rule: sides (own) The client's input is shown whole, and then the server's
 // contract: sides (own) Each line has its side: a mark, or with --json the first key
-/// Shows the inputs of both sides as `h2 show` shows one, each line with its side: the client's
-/// whole, and then the server's. `from` of the options says nothing.
+/// Shows the inputs of both sides as `h2 show` shows one, each line with its side: first all
+/// lines of the client, then those of the server. `from` of the options is ignored.
 ///
-/// Of readers whose octets are known, the lines of each are those that [`h2_show::show_input`]
-/// prints, and [`Status::Good`] comes only where both are good to their ends. The hint is that of
-/// the client's input, or else of the server's. All lines are kept in memory until both inputs
-/// have ended.
+/// The lines of each are those of [`h2_show::show_input`]. Returns [`Status::Good`] only if both
+/// inputs are valid and complete, and the hint of the client's input, or else of the server's.
+/// All lines are kept in memory until both inputs have ended.
 ///
 /// # Errors
 ///
-/// [`Failure::BadHex`] where one of the inputs isn't the hexadecimal text that was announced, and
-/// [`Failure::Device`] where a read failed: nothing is written then. [`Failure::Device`] where a
-/// write failed, and [`Failure::Memory`] when out of memory.
+/// [`Failure::BadHex`] if an input is not the hexadecimal text announced, or [`Failure::Device`]
+/// if a read failed: then nothing is written. [`Failure::Device`] also if a write failed, and
+/// [`Failure::Memory`] if out of memory.
 pub fn show_sides<C: Read, S: Read, W: Write>(
     alloc: Global,
     options: ShowOptions,
@@ -105,7 +104,7 @@ fn add_text(style: Style, side: Side, text: &[u8], lines: &mut Vec<u8>) -> Resul
 }
 
 // rule: sides (own) Each line has its side: a mark, or with --json the first key
-// Adds lines that are objects, each of which begins so in place of its first octet.
+// Adds lines that are objects, with `mark` in place of the first octet of each.
 fn mark_objects(text: &[u8], mark: &[u8], lines: &mut Vec<u8>) -> Result<(), AllocError>
     ensures { OnOk result (lines.new.items ≡ lines.old.items ++ objects_with mark.now true text.now) }
 {

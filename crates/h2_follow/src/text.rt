@@ -1,4 +1,4 @@
-//! Lines of the text that tshark prints of both directions of a connection.
+//! Reads the lines that tshark prints of both directions of a connection.
 
 ghost use Rattle.std.specs.Prelude.{◌≡◌, List, [], ◌∷◌, ◌++◌, IfOk, Err};
 ghost use Rattle.h2_cli.specs.declared.hexadecimal.HexError.TheVariants.{BadHex};
@@ -11,7 +11,7 @@ use h2_cli::{HexError, from_hex, is_blank};
 use h2_show::Side;
 use std::alloc::Global;
 
-/// The octets with which a client's begin, of its preface (RFC 9113, section 3.4).
+/// The first octets of the client's preface (RFC 9113, section 3.4).
 const PREFACE: &[u8] = b"PRI * HTTP/2.0";
 
 /// An end of the connection, by its number in the text.
@@ -23,7 +23,7 @@ pub(crate) enum Node {
     One,
 }
 
-/// Where in the text a line stands.
+/// The part of the text that a line is in.
 #[derive(Clone, Copy, Debug, PartialEq, Eq)]
 pub(crate) enum Part {
     /// Before the first line of octets.
@@ -34,7 +34,7 @@ pub(crate) enum Part {
     Last,
 }
 
-/// Octets that came together.
+/// The octets of one line.
 #[derive(Debug, Drop)]
 pub(crate) struct Read {
     /// The node that sent them.
@@ -48,7 +48,7 @@ pub(crate) struct Read {
 pub(crate) struct LineRead {
     /// The part of the text that it ends.
     pub(crate) part: Part,
-    /// The octets that it gives, if it does.
+    /// The octets that it gives, if any.
     pub(crate) read: Option<Read>,
 }
 
@@ -64,7 +64,7 @@ impl Part {
         }
     }
 
-    // The part that such a line is of.
+    // The part of such a line.
     fn after(self) -> Part
         ensures { result ≡ part_after self }
     {
@@ -79,11 +79,11 @@ impl Part {
 // rule: follow (own) Both sides are read of the text that tshark prints of them
 // contract: follow (own) A line that is not of tshark's text ends all, with its number
 // rule: follow (own) A line that is not of tshark's text ends all, with its number
-/// Reads the next line of the text, after lines that end in this part.
+/// Reads the next line of the text, after lines that end in `part`.
 ///
 /// # Errors
 ///
-/// [`HexError::BadHex`] where such a line can't follow, and [`HexError::Memory`] when out of memory.
+/// [`HexError::BadHex`] if such a line cannot follow, and [`HexError::Memory`] if out of memory.
 pub(crate) fn read_line(alloc: Global, part: Part, line: &[u8]) -> Result<LineRead, HexError>
     ensures ok { IfOk result (λ next. (lines : List Line) (pieces : List Piece)
         → LinesSoFar part lines pieces
@@ -135,14 +135,14 @@ fn is_last_line(line: &[u8]) -> bool
     is_empty_line(line) || line.starts_with(b"====")
 }
 
-// Whether a line is one of blanks alone.
+// Whether a line has only blanks.
 fn is_empty_line(line: &[u8]) -> bool
     ensures { result ≡ is_empty_line line.now }
 {
     line.iter().all(|octet| is_blank(*octet))
 }
 
-// Whether a line says what is followed: octets as they are, of TCP or within TLS.
+// Whether a line says that raw octets of TCP or TLS follow.
 fn is_label(line: &[u8]) -> bool
     ensures { result ≡ is_label line.now }
 {
@@ -169,7 +169,7 @@ pub(crate) fn client_by(read: &Read) -> Node
 }
 
 // rule: follow (own) The client is whose octets come first as the preface, or else the other
-// Whether octets begin as the preface does, as far as they go.
+// Whether octets are a beginning of the preface, or begin with it.
 fn begins_as_preface(octets: &[u8]) -> bool
     ensures { result ≡ begins_as_preface octets.now }
 {
@@ -187,7 +187,7 @@ pub(crate) fn side_of(client: Node, node: Node) -> Side
 }
 
 // rule (tested): follow (own) A hint says why a side may be at fault, or which line is bad
-/// Whether octets are those that tshark puts in the place of a segment that the capture lacks.
+/// Whether octets are those that tshark prints for a segment missing in the capture.
 pub(crate) fn is_lost_segment(octets: &[u8]) -> bool {
     octets.starts_with(b"[") && octets.ends_with(b" bytes missing in capture file]\x00")
 }

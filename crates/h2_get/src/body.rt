@@ -1,4 +1,4 @@
-//! The body of the request that the words after `get` ask for.
+//! The body of the request of `get`.
 
 ghost use Rattle.std.specs.Prelude.{◌≡◌, IfErr, IfOk, IfSome, codes, false, true};
 ghost use Rattle.std.specs.Str.{bytes_eq};
@@ -11,12 +11,12 @@ use std::alloc::Global;
 use std::fs::{File, Files};
 use std::io::{ErrorKind, Read};
 
-/// Why the body of a request can't be had.
+/// Why the body of a request is not available.
 #[derive(Clone, Copy, Debug, PartialEq, Eq)]
 pub enum BodyFault {
-    /// Standard input can't be read.
+    /// Standard input cannot be read.
     Input,
-    /// The file can't be read, with an error of this kind.
+    /// The file cannot be read, with this kind of error.
     File(ErrorKind),
     /// Out of memory.
     Memory,
@@ -24,8 +24,8 @@ pub enum BodyFault {
 
 // contract: engines (own) The words of get make its request and say what is printed
 // rule: engines (own) The words of get make its request and say what is printed
-/// The body that the options give: what standard input gives, where the word is `@-`; what a file
-/// gives, where the word is `@` and the file's name; or else the word. Nothing else is read.
+/// Returns the body that the options give: standard input for `@-`, a file for `@` and its name,
+/// or else the word itself. Nothing else is read.
 ///
 /// # Errors
 ///
@@ -55,7 +55,7 @@ pub fn body_of<F: Files, R: Read>(
     }
 }
 
-/// The word that gives the body, which is empty where the options give none.
+/// The word that gives the body, or an empty one.
 fn body_word<'a>(options: &GetOptions<'a>) -> &'a str
     ensures { result.now ≡ body_word (asked_by options.now) }
 {
@@ -65,7 +65,7 @@ fn body_word<'a>(options: &GetOptions<'a>) -> &'a str
     }
 }
 
-/// Whether the body is that of standard input.
+/// Whether the body is standard input.
 fn reads_input(options: &GetOptions<'_>) -> bool
     ensures { result ≡ reads_input (asked_by options.now) }
 {
@@ -82,7 +82,7 @@ fn begins_with_at(octets: &[u8]) -> bool
     }
 }
 
-/// What standard input gives, to its end.
+/// Reads standard input to its end.
 fn read_input<R: Read>(alloc: Global, input: &mut R) -> Result<Vec<u8>, BodyFault>
     ensures { IfOk result (λ body.
         IfSome (R.remaining input.old) (λ given. body.items ≡ given)) }
@@ -97,7 +97,7 @@ fn read_input<R: Read>(alloc: Global, input: &mut R) -> Result<Vec<u8>, BodyFaul
     }
 }
 
-/// What the file of this path gives, to its end.
+/// Reads this file to its end.
 fn read_file<F: Files>(files: &F, alloc: Global, path: &str) -> Result<Vec<u8>, BodyFault> {
     let mut file = match File::open(files, path) {
         Ok(file) => file,

@@ -1,4 +1,4 @@
-//! The link of a response that comes in parts.
+//! The link of a response that is fetched in parts.
 
 ghost use Rattle.std.specs.Prelude.{◌≡◌, ◌⊎◌, ◌<◌, ◌-◌, ◌^◌, IfErr, IfOk};
 
@@ -9,13 +9,12 @@ use std::io::Read;
 use std::net::{Net, OpenStream, TcpStream};
 
 // rule: engines (own) A hint after the line names the likely cause of N1 and N2
-/// A link over a new connection to the host and the port of a location. A host's name is looked up
-/// by the network.
+/// Connects to the host and the port of a location. The network resolves the host's name.
 ///
 /// # Errors
 ///
-/// [`LinkError::Device`] (N1) where no connection can be made, [`LinkError::Memory`] (N3) where an
-/// allocation was refused. The hint says what is likely the cause.
+/// [`LinkError::Device`] (N1) if no connection can be made, [`LinkError::Memory`] (N3) if an
+/// allocation was refused. The hint names the likely cause.
 pub(crate) fn connect_to<N: Net>(
     net: &N,
     alloc: Global,
@@ -41,8 +40,8 @@ where
 }
 
 // rule: engines (own) A hint after the line names the likely cause of N1 and N2
-/// How a fetch over a link has ended early, with the hint that says what is likely the cause, and
-/// why its connection has failed. All that is held is sent, where the link has not failed.
+/// Describes a fetch that ended early: the likely cause, and why the connection failed. Flushes
+/// the link unless it has failed.
 pub(crate) fn end_fetch<S: Read + WriteParts + OpenStream>(
     link: &mut StreamLink<S>,
     error: LinkError,
@@ -58,8 +57,8 @@ pub(crate) fn end_fetch<S: Read + WriteParts + OpenStream>(
     Ending { error, hint, why }
 }
 
-/// Sends all that a link holds that has not failed: a GOAWAY, or credit. That it can't be sent
-/// changes nothing of what has come.
+/// Flushes a link that has not failed: a GOAWAY, or credit. If that fails, what was received
+/// stays the same.
 pub(crate) fn send_held<S: Read + WriteParts + OpenStream>(link: &mut StreamLink<S>) {
     if h2_engines::Link::failures(link) == 0 {
         let _ = link.flush();

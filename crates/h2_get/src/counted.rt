@@ -1,4 +1,4 @@
-//! A file that is written, of which a terminal is told how much it has.
+//! Writes a file, and shows its progress on a terminal.
 
 ghost use Rattle.std.specs.Prelude.{◌≡◌, ◌∷◌, option_map};
 
@@ -6,24 +6,24 @@ use h2_message::Field;
 use std::io::{self, Write};
 use std::time::{Clock, Duration};
 
-/// Whether it is said how much of a body has come, and of how many octets.
+/// Whether progress is shown, and of how many octets.
 #[derive(Clone, Copy, Debug)]
 pub(crate) struct Progress {
-    /// Whether it is said.
+    /// Whether progress is shown.
     pub(crate) is_shown: bool,
-    /// How many octets are to come, where the response's head states that.
+    /// The length of the body, if the response's head states it.
     pub(crate) total: Option<u64>,
 }
 
 impl Progress {
-    /// Of a response with this head.
+    /// Creates the progress of a response with this head.
     pub(crate) fn new(is_shown: bool, head: &[Field]) -> Progress {
         let total = if is_shown { length_stated(head) } else { None };
         Progress { is_shown, total }
     }
 }
 
-/// How many octets a head states (RFC 9110, section 8.6), if it does.
+/// The length that a head states (RFC 9110, section 8.6), if it does.
 fn length_stated(head: &[Field]) -> Option<u64> {
     for field in head {
         if field.name.as_slice() == b"content-length".as_slice() {
@@ -36,24 +36,24 @@ fn length_stated(head: &[Field]) -> Option<u64> {
     None
 }
 
-/// How many milliseconds are waited at least before it is told again.
+/// The minimum time between two updates, in milliseconds.
 const PAUSE: u64 = 100;
 
-/// A writer whose octets are counted, and told as a line that is written over and over.
+/// A writer that counts its octets, and shows them on a line that it updates.
 #[derive(Drop)]
 pub(crate) struct Counted<'a, S, C, E> {
     file: &'a mut S,
     clock: &'a C,
     out: &'a mut E,
     progress: Progress,
-    /// How many octets were written.
+    /// The number of octets written.
     count: u64,
-    /// When it is told again.
+    /// The time of the next update.
     next: Duration,
 }
 
 impl<'a, S: Write, C: Clock, E: Write> Counted<'a, S, C, E> {
-    /// A writer of which nothing was told.
+    /// Creates one that has shown nothing.
     pub(crate) fn new(
         file: &'a mut S,
         clock: &'a C,
@@ -71,7 +71,7 @@ impl<'a, S: Write, C: Clock, E: Write> Counted<'a, S, C, E> {
     }
 
     // rule (tested): engines (own) On a terminal get -o says how much of the body has come
-    /// Notes octets that were written, and tells how many they are, some ten times a second.
+    /// Notes octets that were written, and shows their number, at most ten times a second.
     fn note(&mut self, count: usize)
         ensures { self.new.file ≡ self.old.file }
     {
@@ -87,7 +87,7 @@ impl<'a, S: Write, C: Clock, E: Write> Counted<'a, S, C, E> {
         }
     }
 
-    /// Writes the line over that of the last time. Whether that works changes nothing else.
+    /// Overwrites the line. A failure changes nothing else.
     fn tell(&mut self)
         ensures { self.new.file ≡ self.old.file }
     {
@@ -98,7 +98,7 @@ impl<'a, S: Write, C: Clock, E: Write> Counted<'a, S, C, E> {
         };
     }
 
-    /// Tells it once more, and ends the line.
+    /// Updates the line for the last time, and ends it.
     pub(crate) fn end(&mut self) {
         if self.progress.is_shown {
             self.tell();

@@ -1,12 +1,10 @@
-//! What `h2 get` asks for and prints, by the words that follow it.
+//! What `h2 get` requests and prints.
 //!
-//! [`location_at`] reads the URL, which may leave its port to another word. [`body_of`] reads the
-//! body, and [`request_of`] makes the request with it, of the fields and the method that the words
-//! give. [`print_asked`] prints
-//! the response, with its fields where the words ask for them, and [`is_failure`] says whether the
-//! words make it a failure. [`stream_location`] fetches a response and prints it as it comes, with
-//! the frames of both sides where the words ask for them; [`stream_locations`] does so with several
-//! that are fetched at once over one connection.
+//! [`location_at`] reads the URL, whose port may come from another option. [`body_of`] reads the
+//! body, and [`request_of`] makes the request from it and the options. [`print_asked`] prints
+//! the response, and [`is_failure`] says whether `--fail` makes it a failure.
+//! [`stream_location`] fetches a response and prints it as it arrives, with the frames of both
+//! sides for `--verbose`; [`stream_locations`] does so for several at once over one connection.
 //! [`TimedNet`] is a network whose connections end at a deadline.
 #![tactic(auto)]
 

@@ -1,16 +1,16 @@
-//! What comes of a response that is taken as it comes.
+//! The results of a response that is printed as it arrives.
 
 ghost use Rattle.std.specs.Prelude.{◌≡◌};
 
 use h2_message::Field;
 use h2_net::{Ending, Fetched, Hint, LinkError, Why};
 
-/// Why the body of a response was not passed on whole.
+/// Why the body of a response was not passed on completely.
 #[derive(Clone, Copy, Debug, PartialEq, Eq)]
 pub enum PassError {
-    /// The fetch has ended early.
+    /// The fetch ended early.
     Link(LinkError),
-    /// A write has failed, or took nothing.
+    /// A write failed, or accepted nothing.
     Output,
 }
 
@@ -24,32 +24,32 @@ impl From<LinkError> for PassError {
     }
 }
 
-/// Why a response was not printed whole.
+/// Why a response was not printed completely.
 #[derive(Clone, Copy, Debug, PartialEq, Eq)]
 pub enum StreamError {
-    /// The fetch has ended early.
+    /// The fetch ended early.
     Link(LinkError),
-    /// What is printed could not be.
+    /// A write to standard output failed.
     Output,
-    /// The file can't be made, or a write to it has failed.
+    /// The file cannot be created, or a write to it failed.
     File,
 }
 
-/// Why a response was not printed whole, and what is likely the cause.
+/// Why a response was not printed completely, and the likely cause.
 #[derive(Clone, Copy, Debug, PartialEq, Eq)]
 pub struct StreamEnding {
-    /// Why.
+    /// The error.
     pub error: StreamError,
-    /// What is likely the cause, where it is known.
+    /// The likely cause, if it is known.
     pub hint: Option<Hint>,
-    /// Why the connection has failed, if it has.
+    /// Why the connection failed, if it did.
     pub why: Option<Why>,
 }
 
 impl StreamEnding {
     ghost use Rattle.h2_get.specs.declared.pass_error.StreamError.TheVariants.{Link};
 
-    /// A fetch has ended so.
+    /// Creates one for this end of a fetch.
     pub(crate) fn of_link(ending: Ending) -> StreamEnding
         ensures error { result.error ≡ Link ending.error }
         ensures why { result.why ≡ ending.why }
@@ -61,7 +61,7 @@ impl StreamEnding {
         }
     }
 
-    /// This error, without a hint.
+    /// Creates one for this error, without a hint.
     pub(crate) fn of_error(error: StreamError) -> StreamEnding
         ensures error { result.error ≡ error }
         ensures why { result.why ≡ None }
@@ -74,23 +74,23 @@ impl StreamEnding {
     }
 }
 
-/// What came of several requests that were made at once over one connection.
+/// The results of several requests made at once over one connection.
 #[derive(Debug, Drop)]
 pub struct SeveralStreamed {
-    /// What came of each, in the order of the requests, up to one that has ended all.
+    /// The results in the order of the requests, up to one that ended all.
     pub results: Vec<Result<Fetched, StreamError>>,
-    /// What is likely the cause, where the last of them has ended all, and it is known.
+    /// The likely cause of the last result, if that ended all and the cause is known.
     pub hint: Option<Hint>,
-    /// Why the connection has failed, if it has.
+    /// Why the connection failed, if it did.
     pub why: Option<Why>,
 }
 
 /// The head of a response.
 #[derive(Debug, Drop)]
 pub struct ResponseHead {
-    /// Its fields, in order.
+    /// The fields, in order.
     pub list: Vec<Field>,
-    /// Whether the response is whole with it.
+    /// Whether it completes the response.
     pub end: bool,
 }
 
@@ -99,13 +99,13 @@ pub struct ResponseHead {
 pub(crate) enum Passed {
     /// More parts.
     GoesOn,
-    /// Nothing: it is whole, and these are its trailers, if it has any.
+    /// Nothing: the response is complete, with these trailers, if any.
     Whole(Option<Vec<Field>>),
 }
 
-/// What ends a response whose body was passed on.
+/// The end of a response whose body was passed on.
 #[derive(Debug, Drop)]
 pub(crate) struct LastPart {
-    /// Its trailers, if it has any.
+    /// The trailers, if any.
     pub(crate) trailers: Option<Vec<Field>>,
 }

@@ -13,8 +13,7 @@ const SCHEME: usize = 7;
 
 // contract: engines (own) The port of --port is that of a URL without one
 // rule: engines (own) The port of --port is that of a URL without one
-/// Reads a URL as [`target`] does. Where it names no port it is read with the given one, if one is
-/// given, at the end of its authority.
+/// Reads a URL as [`target`] does. If it names no port, `port` is added to its authority, if given.
 ///
 /// # Errors
 ///
@@ -31,7 +30,7 @@ pub fn location_at(alloc: Global, url: &[u8], port: Option<u16>) -> Result<Locat
 }
 
 // rule: engines (own) The port of --port is that of a URL without one
-/// Reads a URL that names no port with the given one, if one is given.
+/// Reads a URL that names no port, with the given one, if any.
 fn location_with(alloc: Global, url: &[u8], port: Option<u16>) -> Result<Location, TargetFault>
     requires { IsRefusedUrl url.now TargetFault.NoPort }
     ensures ok { IfOk result (NamesAtPort url.now port) }
@@ -45,7 +44,7 @@ fn location_with(alloc: Global, url: &[u8], port: Option<u16>) -> Result<Locatio
 }
 
 // rule: engines (own) The port of --port is that of a URL without one
-/// The URL with a port at the end of its authority.
+/// The URL with a port added to its authority.
 fn url_with_port(alloc: Global, url: &[u8], port: u16) -> Result<Vec<u8>, AllocError>
     ensures { IfOk result (λ longer. longer.items ≡ url_with_port url.now port) }
 {
@@ -58,7 +57,7 @@ fn url_with_port(alloc: Global, url: &[u8], port: u16) -> Result<Vec<u8>, AllocE
 }
 
 // rule: engines (own) The port of --port is that of a URL without one
-/// Where the authority of a URL ends that begins with `http://`.
+/// The end of the authority of a URL that begins with `http://`.
 fn authority_end(url: &[u8]) -> usize
     ensures end { result ≡ authority_end url.now }
     ensures within { result ≤ length url.now }
@@ -70,7 +69,7 @@ fn authority_end(url: &[u8]) -> usize
     }
 }
 
-/// The place of the first octet that ends an authority, if one does.
+/// The index of the first octet that ends an authority, if there is one.
 fn authority_length(octets: &[u8]) -> Option<usize>
     ensures { result ≡ position ends_authority octets.now }
 {

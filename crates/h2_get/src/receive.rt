@@ -1,4 +1,4 @@
-//! A response that is taken as it comes.
+//! A response that is passed on as it arrives.
 
 ghost use Rattle.std.specs.Prelude.{◌≡◌, ◌≤◌, ◌<◌, ◌-◌, ◌^◌, IfErr, length, take, true, ℕ};
 ghost use Rattle.std.specs.Io.KnownBytes.{Appends};
@@ -21,7 +21,7 @@ use std::io::Write;
 
 // contract: engines (own) get -o and --stream write the body as it comes, in order
 // rule: engines (own) get -o and --stream write the body as it comes, in order
-/// The head of the response that a fetch answers next. Interim responses before it are dropped.
+/// Returns the head of the response. Interim responses before it are dropped.
 ///
 /// # Errors
 ///
@@ -45,7 +45,7 @@ pub fn next_head<L: Link>(fetch: &mut PartFetch, link: &mut L) -> Result<Respons
     Err(LinkError::NoProgress)
 }
 
-/// The head, if a part of a response is one that isn't interim.
+/// The head, if this part is one and not interim.
 pub(crate) fn head_in(part: ResponsePart) -> Option<ResponseHead>
     ensures { result ≡ head_in part }
 {
@@ -57,13 +57,13 @@ pub(crate) fn head_in(part: ResponsePart) -> Option<ResponseHead>
 
 // contract: engines (own) get -o and --stream write the body as it comes, in order
 // rule: engines (own) get -o and --stream write the body as it comes, in order
-/// Writes the octets of the body to `out` as they come, until the response is whole, and answers
-/// its trailers, if it has any. Each part is written before the server is let send more.
+/// Writes the octets of the body to `out` as they arrive, until the response is complete, and
+/// returns its trailers, if any. Each part is written before its credit is returned to the server.
 ///
 /// # Errors
 ///
-/// [`PassError::Link`] where the fetch has ended early: all that came before was written;
-/// [`PassError::Output`] where a write has failed: some first octets were written, and not all.
+/// [`PassError::Link`] if the fetch ended early, after everything received was written;
+/// [`PassError::Output`] if a write failed, after which a prefix was written.
 pub fn pass_body<L: Link, W: Write>(
     fetch: &mut PartFetch,
     link: &mut L,
@@ -111,8 +111,8 @@ pub(crate) fn pass_all<L: Link, W: Write>(
 }
 
 // rule: engines (own) get -o and --stream write the body as it comes, in order
-/// Writes the octets of a part of a response, if it is one of the body, and says whether the
-/// response is whole with it, and then its trailers.
+/// Writes the octets of a part, if it is one of the body, and returns whether it completes the
+/// response, and then the trailers.
 pub(crate) fn pass_part<W: Write>(part: ResponsePart, out: &mut W) -> Result<Passed, PassError>
     ensures { PassesPart part (W.contents out.old) (W.contents out.new) result }
 {
@@ -132,7 +132,8 @@ pub(crate) fn pass_part<W: Write>(part: ResponsePart, out: &mut W) -> Result<Pas
     }
 }
 
-/// Writes octets until all are written, or a write fails or takes none. Answers how many were.
+/// Writes octets until all are written, or a write fails or accepts none. Returns how many were
+/// written.
 fn write_first<W: Write>(out: &mut W, octets: &[u8]) -> usize
     ensures within { result ≤ length octets.now }
     ensures written { Appends (W.contents out.old) (W.contents out.new) (take result octets.now) }
@@ -148,8 +149,8 @@ fn write_first<W: Write>(out: &mut W, octets: &[u8]) -> usize
 }
 
 // contract: engines (own) get -o and --stream write the body as it comes, in order
-/// What is handed out of a body on a stream, which [`pass_body`] writes, is a prefix of the octets
-/// of DATA that the connection has reported of that stream.
+/// The octets of a body that [`pass_body`] writes are a prefix of the octets of DATA that the
+/// connection reported on that stream.
 pub fn bodies_are_in_order()
     ensures { (values : Values) (end : End) (happened : EndLog)
         → EndRepresents values end happened → (id : ℕ) → HandsBody happened id }

@@ -1,4 +1,4 @@
-//! The request that the words after `get` ask for.
+//! The request of `get`.
 
 ghost use Rattle.std.specs.Prelude.{◌≡◌, ◌++◌, ◌∷◌, [], IfErr, IfOk, OnOk, map};
 ghost use Rattle.std.specs.Prelude.{position, reverse, true};
@@ -17,7 +17,7 @@ use h2_net::{Location, head_to};
 use std::alloc::{AllocError, Global};
 use thiserror::Error;
 
-/// Why no request can be made of the words. Its text is for the user.
+/// Why no request can be made. Its text is for the user.
 #[derive(Clone, Copy, Debug, PartialEq, Eq, Hash, Error)]
 pub enum RequestFault {
     /// A field has no colon.
@@ -26,7 +26,7 @@ pub enum RequestFault {
     /// A field is named `host`, which is `:authority` in the request (RFC 9113, section 8.3.1).
     #[error("error: a host field is not allowed: the URL names the host")]
     Host,
-    /// The request breaks this rule (RFC 9113, section 8), the first one of several.
+    /// The request breaks this rule, the first of several (RFC 9113, section 8).
     #[error("N7 Refused")]
     Malformed(Malformed),
     /// Out of memory.
@@ -46,7 +46,7 @@ impl From<AllocError> for RequestFault {
 
 // contract: engines (own) The words of get make its request and say what is printed
 // rule: engines (own) The words of get make its request and say what is printed
-/// Makes the request for a location that the words ask for with this body, which breaks no rule.
+/// Makes the request for a location from the options and this body. It breaks no rule of messages.
 ///
 /// # Errors
 ///
@@ -79,7 +79,7 @@ pub fn request_of(
 }
 
 // rule: engines (own) The words of get make its request and say what is printed
-/// The method that the options name, or else POST where they give a body, and GET where they don't.
+/// The method that the options name, or else POST if they give a body, or GET.
 fn method_of<'a>(options: &GetOptions<'a>) -> &'a str
     ensures { result.now ≡ method_asked (asked_by options.now) }
 {
@@ -104,7 +104,7 @@ fn has_host(fields: &[Field]) -> bool
 }
 
 // rule: engines (own) The words of get make its request and say what is printed
-/// Adds the fields of words to those of a head.
+/// Adds the fields of these words to a head.
 fn add_fields(alloc: Global, head: &mut Vec<Field>, words: &[&str]) -> Result<(), RequestFault>
     ensures fields { OnOk result (head.new.items
         ≡ head.old.items ++ map field_of_word (map (λ word. word.now) words.now)) }
@@ -118,7 +118,7 @@ fn add_fields(alloc: Global, head: &mut Vec<Field>, words: &[&str]) -> Result<()
     Ok(())
 }
 
-// Adds a field to those of a head.
+// Adds a field to a head.
 fn add_field(head: &mut Vec<Field>, field: Field) -> Result<(), AllocError>
     ensures { OnOk result (head.new.items ≡ head.old.items ++ field ∷ []) }
 {
@@ -142,7 +142,7 @@ fn field_of_word(alloc: Global, word: &[u8]) -> Result<Field, RequestFault>
     Ok(field)
 }
 
-/// The place of the first colon of a word, if it has one.
+/// The index of the first colon of a word, if it has one.
 fn colon_place(word: &[u8]) -> Option<usize>
     ensures { result ≡ position is_colon word.now }
 {
@@ -150,14 +150,14 @@ fn colon_place(word: &[u8]) -> Option<usize>
 }
 
 // rule: engines (own) The words of get make its request and say what is printed
-/// Octets without the spaces and tabs at both ends (RFC 9110, section 5.5).
+/// Octets without leading and trailing spaces and tabs (RFC 9110, section 5.5).
 fn without_outer_blanks(octets: &[u8]) -> &[u8]
     ensures { result.now ≡ without_outer_blanks octets.now }
 {
     without_last_blanks(without_first_blanks(octets))
 }
 
-/// Octets without the spaces and tabs that they begin with.
+/// Octets without leading spaces and tabs.
 fn without_first_blanks(octets: &[u8]) -> &[u8]
     ensures { result.now ≡ skip_blanks octets.now }
 {
@@ -170,7 +170,7 @@ fn without_first_blanks(octets: &[u8]) -> &[u8]
     left
 }
 
-/// Octets without the spaces and tabs that they end with.
+/// Octets without trailing spaces and tabs.
 fn without_last_blanks(octets: &[u8]) -> &[u8]
     ensures { result.now ≡ reverse (skip_blanks (reverse octets.now)) }
 {

@@ -1,4 +1,4 @@
-//! What is printed of a response, by the words after `get`.
+//! Prints a response, as the options of `get` ask.
 
 ghost use Rattle.std.specs.Prelude.{◌≡◌, IfErr, OnOk, Some};
 ghost use Rattle.std.specs.Io.KnownBytes.{Appends};
@@ -18,8 +18,7 @@ use std::io::{self, Write};
 
 // contract: engines (own) With --fail a status of 400 or above ends get with status 1
 // rule: engines (own) With --fail a status of 400 or above ends get with status 1
-/// Whether the options make a response a failure: it has a status of 400 or above, and they ask for
-/// that.
+/// Whether `--fail` is given and the status is 400 or above.
 pub fn is_failure(options: &GetOptions<'_>, fetched: &Fetched) -> bool
     ensures { result ≡ fails_as_asked (asked_by options.now) fetched.now }
 {
@@ -39,13 +38,13 @@ fn is_error(value: &[u8]) -> bool
 
 // contract: engines (own) The words of get make its request and say what is printed
 // rule: engines (own) The words of get make its request and say what is printed
-/// Prints a response: its status and its phrase on a line; its fields, each on a line, and an empty
-/// line, where the options ask for them; and then the octets of the body as they are, and the
-/// trailers as the fields, unless the options make the response a failure.
+/// Prints a response: its status and reason phrase on a line; with `--include` its fields, one
+/// per line, and an empty line; then, unless `--fail` makes it a failure, the octets of the body
+/// as they are, and with `--include` the trailers.
 ///
 /// # Errors
 ///
-/// [`LinkError::Device`] (N1) where a write failed.
+/// [`LinkError::Device`] (N1) if a write failed.
 pub fn print_asked<W: Write>(
     options: &GetOptions<'_>,
     fetched: &Fetched,
@@ -82,7 +81,7 @@ fn write_rest<W: Write>(options: &GetOptions<'_>, fetched: &Fetched, out: &mut W
     write_body(options.include, fetched, out)
 }
 
-// Prints what stands between the line of the status and the body.
+// Prints what is between the line of the status and the body.
 fn write_fields<W: Write>(include: bool, fetched: &Fetched, out: &mut W) -> io::Result<()>
     ensures { OnOk result (Appends (W.contents out.old) (W.contents out.new)
         (fields_printed include fetched.now)) }
@@ -94,7 +93,7 @@ fn write_fields<W: Write>(include: bool, fetched: &Fetched, out: &mut W) -> io::
     out.write_all(b"\n")
 }
 
-// Prints the body, and the trailers where fields are printed.
+// Prints the body, and the trailers if fields are printed.
 fn write_body<W: Write>(include: bool, fetched: &Fetched, out: &mut W) -> io::Result<()>
     ensures { OnOk result (Appends (W.contents out.old) (W.contents out.new)
         (body_printed include fetched.now)) }
@@ -107,7 +106,7 @@ fn write_body<W: Write>(include: bool, fetched: &Fetched, out: &mut W) -> io::Re
 }
 
 // rule: engines (own) get -o and --stream write the body as it comes, in order
-/// Prints the trailers of a body that was passed on, if it has any, where the options ask for
+/// Prints the trailers of a body that was passed on, if there are any and the options ask for
 /// fields.
 pub(crate) fn print_trailers<W: Write>(
     include: bool,
@@ -124,7 +123,7 @@ pub(crate) fn print_trailers<W: Write>(
     out.flush()
 }
 
-// Prints trailers: a line end, and then their lines.
+// Prints trailers: a newline, and then their lines.
 fn write_trailers<W: Write>(fields: &[Field], out: &mut W) -> io::Result<()>
     ensures { OnOk result (Appends (W.contents out.old) (W.contents out.new)
         (trailer_lines (Some fields.now))) }
@@ -133,7 +132,7 @@ fn write_trailers<W: Write>(fields: &[Field], out: &mut W) -> io::Result<()>
     write_lines(fields, out)
 }
 
-// Prints the lines of the fields of a head, but for `:status`.
+// Prints the lines of the fields of a head, except `:status`.
 fn write_lines<W: Write>(fields: &[Field], out: &mut W) -> io::Result<()>
     ensures { OnOk result (Appends (W.contents out.old) (W.contents out.new)
         (response_lines fields.now)) }
@@ -144,7 +143,7 @@ fn write_lines<W: Write>(fields: &[Field], out: &mut W) -> io::Result<()>
     Ok(())
 }
 
-// Prints the line of a field, but not of `:status`.
+// Prints the line of a field, except `:status`.
 fn write_line<W: Write>(field: &Field, out: &mut W) -> io::Result<()>
     ensures { OnOk result (Appends (W.contents out.old) (W.contents out.new)
         (response_part field.now)) }

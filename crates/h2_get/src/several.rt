@@ -1,4 +1,4 @@
-//! Several responses that come over one connection, printed one after another.
+//! Prints several responses over one connection, one after another.
 
 ghost use Rattle.std.specs.Prelude.{◌≡◌, ◌<◌, ◌-◌, ◌^◌, false, IfErr, IfOk, OnOk, None};
 ghost use Rattle.std.specs.Io.KnownBytes.{Appends};
@@ -23,15 +23,14 @@ use std::io::Write;
 
 // contract: engines (own) Several responses are printed in the order of their URLs
 // rule: engines (own) Several responses are printed in the order of their URLs
-/// Prints the responses of several requests, which `options` name no file for: each as
-/// [`crate::stream_response`] does, in the order of the requests, after a line end but the first.
-/// The one that is printed goes out as it comes; what comes of later ones meanwhile is kept. A
-/// response whose stream was reset doesn't end the others; any other error ends all. Answers what
-/// came of each, up to that.
+/// Prints the responses of several requests: each as [`crate::stream_response`] does, in the
+/// order of the requests, with a newline between them. The current one is printed as it arrives;
+/// what arrives of later ones is kept. A reset stream does not end the others; any other error
+/// ends all. Returns the results up to that. `options` must not name a file.
 ///
 /// # Errors
 ///
-/// [`AllocError`] when out of memory for what came of them.
+/// [`AllocError`] if out of memory for the results.
 pub fn stream_several<L: Link, W: Write>(
     alloc: Global,
     options: &GetOptions<'_>,
@@ -59,7 +58,7 @@ pub fn stream_several<L: Link, W: Write>(
     Ok(results)
 }
 
-/// Whether no more responses are printed after one with which it has come to this.
+/// Whether no more responses are printed after this result.
 fn ends_all(one: &Result<Fetched, StreamError>) -> bool
     ensures { result ≡ ends_all one.now }
 {
@@ -67,7 +66,7 @@ fn ends_all(one: &Result<Fetched, StreamError>) -> bool
 }
 
 // rule: engines (own) Several responses are printed in the order of their URLs
-/// Prints the response on a stream as it comes, after a line end, unless it is the first.
+/// Prints the response on a stream as it arrives, after a newline unless it is the first.
 fn stream_on<L: Link, W: Write>(
     alloc: Global,
     options: &GetOptions<'_>,
@@ -107,7 +106,7 @@ fn stream_on<L: Link, W: Write>(
 }
 
 // rule: engines (own) Several responses are printed in the order of their URLs
-/// Prints what a response begins with: a line end, unless it is the first.
+/// Prints a newline before a response, unless it is the first.
 fn print_opening<W: Write>(is_first: bool, out: &mut W) -> Result<(), StreamError>
     ensures opens { OnOk result (Appends (W.contents out.old) (W.contents out.new)
         (opening_of is_first)) }
@@ -142,8 +141,8 @@ fn head_on<L: Link>(
     Err(LinkError::NoProgress)
 }
 
-/// Writes the octets of the body on a stream as they come, until the response is whole, and answers
-/// its trailers, if it has any.
+/// Writes the octets of the body on a stream as they arrive, until the response is complete, and
+/// returns its trailers, if any.
 fn body_on<L: Link, W: Write>(
     fetch: &mut SeveralFetch,
     id: u32,
@@ -168,7 +167,7 @@ fn body_on<L: Link, W: Write>(
     Err(PassError::Link(LinkError::NoProgress))
 }
 
-/// The next part of the response on a stream; one whose stream was reset ends with N6.
+/// Returns the next part of the response on a stream; N6 if the stream was reset.
 fn part_on<L: Link>(
     fetch: &mut SeveralFetch,
     id: u32,

@@ -1,4 +1,4 @@
-//! Several locations of one host and port that are fetched at once over one connection and printed
+//! Fetches several locations of one host and port at once over one connection, and prints them
 //! one after another.
 
 ghost use Rattle.std.specs.Prelude.{◌≡◌, ◌⊎◌, IfErr, IfOk, None, length, map};
@@ -28,16 +28,15 @@ use std::net::{Net, OpenStream};
 // contract: engines (own) Several responses are printed in the order of their URLs
 // rule: engines (own) Several responses are printed in the order of their URLs
 // rule: engines (own) get -v shows the frames of both sides as they come
-/// Makes several requests at once over a new connection to the host and the port of a location, and
-/// prints their responses as [`stream_several`] does; and on `err` the frames of both sides, where
-/// the options ask for them. The options name no file.
+/// Makes several requests at once over a new connection to the host and the port of a location,
+/// and prints their responses as [`stream_several`] does, and with `--verbose` the frames of
+/// both sides on `err`. The options must not name a file.
 ///
 /// # Errors
 ///
-/// [`StreamError::Link`] where no connection can be made (N1), where the fields of one of the
-/// requests are too many (N7), and when out of memory (N3). What has ended a response stands with
-/// the others. The hint says what is likely the cause of [`h2_net::LinkError::Device`] (N1) and
-/// [`h2_net::LinkError::Stream`] (N2).
+/// [`StreamError::Link`] if no connection can be made (N1), a request has too many fields (N7),
+/// or out of memory (N3). What ended a response is in its result. The hint names the likely
+/// cause of [`h2_net::LinkError::Device`] (N1) and [`h2_net::LinkError::Stream`] (N2).
 pub fn stream_locations<N: Net, W: Write, E: Write>(
     net: &N,
     alloc: Global,
@@ -68,7 +67,7 @@ where
 }
 
 // rule: engines (own) A response that is waited for has its window, and no other
-/// A fetch of several responses, each with its share of the connection's window.
+/// Begins a fetch of several responses, each with its share of the connection's window.
 fn begin_several(alloc: Global, messages: Vec<Message>) -> Result<SeveralFetch, LinkError>
     ensures ok { IfOk result (BeginsSeveral (several_values (length messages.items))
         (map message_value messages.items)) }
@@ -83,8 +82,8 @@ fn begin_several(alloc: Global, messages: Vec<Message>) -> Result<SeveralFetch, 
 }
 
 // rule: engines (own) A response that is waited for has its window, and no other
-/// The window of each of so many streams: its share of the connection's, so that what comes of one
-/// that nobody waits for never takes what another needs.
+/// The window of each of `streams` streams: its share of the connection's window, so that a
+/// response that waits never takes what another one needs.
 fn window_among(streams: usize) -> u32
     ensures { result ≡ window_among streams }
 {
@@ -96,8 +95,8 @@ fn window_among(streams: usize) -> u32
 }
 
 // rule: engines (own) get -v shows the frames of both sides as they come
-/// Prints the responses that a fetch answers one after another; and on `err` the frames of both
-/// sides, where the options ask for them.
+/// Prints the responses of a fetch one after another, and with `--verbose` the frames of both
+/// sides on `err`.
 fn several_over<S: Read + WriteParts + OpenStream, W: Write, E: Write>(
     alloc: Global,
     options: &GetOptions<'_>,
@@ -118,8 +117,8 @@ fn several_over<S: Read + WriteParts + OpenStream, W: Write, E: Write>(
     stream_several(alloc, options, fetch, &mut watched, out)
 }
 
-/// What came of several requests, and sends all that is held for them. Where the fetch has ended
-/// early the hint says what is likely the cause, and then why the connection has failed.
+/// Returns the results of several requests, and flushes the link. If the fetch ended early, they
+/// have the likely cause and why the connection failed.
 fn end_several<S: Read + WriteParts + OpenStream>(
     fetch: &SeveralFetch,
     link: &mut StreamLink<S>,
@@ -149,7 +148,7 @@ fn end_several<S: Read + WriteParts + OpenStream>(
     }
 }
 
-/// The error with which a fetch has ended early, if it has: that of its last response.
+/// The error with which a fetch ended early, if it did: that of its last response.
 fn end_of(results: &[Result<Fetched, StreamError>]) -> Option<LinkError> {
     match results.last() {
         Some(Err(StreamError::Link(LinkError::Reset(_)))) => None,

@@ -1,4 +1,4 @@
-//! A response that is fetched and printed as it comes.
+//! Fetches a response, and prints it as it arrives.
 
 ghost use Rattle.std.specs.Prelude.{◌≡◌, ◌<◌, ◌-◌, ◌^◌, ℕ, List, [], IfErr, None, OnOk, Option, is_some};
 ghost use Rattle.std.specs.Io.KnownBytes.{Appends};
@@ -24,16 +24,16 @@ use std::time::Clock;
 
 // contract: engines (own) get -o and --stream write the body as it comes, in order
 // rule: engines (own) get -o and --stream write the body as it comes, in order
-/// Prints the response that a fetch answers as it comes: the line of its status, its fields where
-/// the options ask for them, and the body, which goes into a file where the options name one. The
-/// file is made once the head has come. Where the options make the response a failure, nothing
-/// follows its fields, no file is made, and no more of it is fetched. With `has_progress` a line on
-/// `err` says how much of a body that goes into a file has come. Answers its head, without the body.
+/// Prints the response of a fetch as it arrives: the line of its status, with `--include` its
+/// fields, and the body, with `--output` into a file. The file is created once the head has
+/// arrived. If `--fail` makes the response a failure, nothing follows its fields, no file is
+/// created, and no more of it is fetched. With `has_progress`, a line on `err` shows how much of
+/// a file has arrived. Returns the head, without the body.
 ///
 /// # Errors
 ///
-/// [`StreamError`] says why it is not printed whole. All that came before a fetch has ended early
-/// was printed, or stands in the file.
+/// [`StreamError`] says why it was not printed completely. What arrived before a fetch ended
+/// early was printed, or is in the file.
 pub fn stream_response<F: Files + Clock, L: Link, W: Write, E: Write>(
     files: &F,
     alloc: Global,
@@ -66,7 +66,7 @@ pub fn stream_response<F: Files + Clock, L: Link, W: Write, E: Write>(
     Ok(fetched)
 }
 
-/// A response with this head, and nothing else.
+/// A response with this head and nothing else.
 pub(crate) fn fetched_with(alloc: Global, head: Vec<Field>) -> Fetched
     ensures head { result.head ≡ head }
     ensures body { result.body.items ≡ [] }
@@ -80,7 +80,7 @@ pub(crate) fn fetched_with(alloc: Global, head: Vec<Field>) -> Fetched
     }
 }
 
-/// Prints the head of a response of which nothing else is known.
+/// Prints the head of a response.
 pub(crate) fn print_head<W: Write>(
     options: &GetOptions<'_>,
     fetched: &Fetched,
@@ -98,7 +98,7 @@ pub(crate) fn print_head<W: Write>(
     }
 }
 
-/// Prints the trailers that follow a body, if it has any, where the options ask for fields.
+/// Prints the trailers after a body, if there are any and the options ask for fields.
 pub(crate) fn print_last<W: Write>(
     include: bool,
     trailers: &Option<Vec<Field>>,
@@ -115,8 +115,8 @@ pub(crate) fn print_last<W: Write>(
 }
 
 // rule: engines (own) get -o and --stream write the body as it comes, in order
-/// Passes the body on into the file that the options name, which is made, or emptied where it is
-/// there, or else to what is printed, and answers the trailers.
+/// Passes the body on to the file that the options name, created or truncated, or else to `out`.
+/// Returns the trailers.
 fn show_rest<F: Files + Clock, L: Link, W: Write, E: Write>(
     files: &F,
     options: &GetOptions<'_>,
@@ -158,8 +158,7 @@ fn show_rest<F: Files + Clock, L: Link, W: Write, E: Write>(
 }
 
 // rule: engines (own) get -o and --stream write the body as it comes, in order
-/// Passes the body on into a file, and says how much of it has come, where that is asked for.
-/// Answers the trailers.
+/// Passes the body on to a file, and shows its progress if that is asked for. Returns the trailers.
 fn pass_counted<L: Link, S: Write, C: Clock, E: Write>(
     fetch: &mut PartFetch,
     link: &mut L,

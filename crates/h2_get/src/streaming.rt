@@ -1,4 +1,4 @@
-//! A location that is fetched and printed as it comes.
+//! Fetches a location, and prints it as it arrives.
 
 ghost use Rattle.std.specs.Prelude.{◌≡◌, ◌⊎◌, Err, IfErr, IfOk, None};
 ghost use Rattle.h2_spec_log.specs.Acts.{Values};
@@ -30,13 +30,12 @@ use std::time::Clock;
 // rule: engines (own) get -o and --stream write the body as it comes, in order
 // rule: engines (own) get -v shows the frames of both sides as they come
 /// Makes a request over a new connection to the host and the port of a location, and prints its
-/// response as [`stream_response`] does; and on `err` the frames of both sides, where the options
-/// ask for them.
+/// response as [`stream_response`] does, and with `--verbose` the frames of both sides on `err`.
 ///
 /// # Errors
 ///
-/// [`StreamError::Link`] also where no connection can be made (N1), and where the request's fields
-/// are too many (N7); else as [`stream_response`]. The hint says what is likely the cause of
+/// [`StreamError::Link`] also if no connection can be made (N1) or the request has too many
+/// fields (N7); otherwise as [`stream_response`]. The hint names the likely cause of
 /// [`h2_net::LinkError::Device`] (N1) and [`h2_net::LinkError::Stream`] (N2).
 pub fn stream_location<N: Net, F: Files + Clock, W: Write, E: Write>(
     net: &N,
@@ -74,7 +73,7 @@ where
     )
 }
 
-/// A fetch with a client of the default values.
+/// Begins a fetch with the default configuration.
 fn begin_fetch(alloc: Global, message: Message) -> Result<PartFetch, LinkError>
     ensures ok { IfOk result (BeginsFetch default_values (message_value message)) }
     ensures refused { IfErr result (λ error. IsNotAccepted default_values
@@ -83,8 +82,8 @@ fn begin_fetch(alloc: Global, message: Message) -> Result<PartFetch, LinkError>
     PartFetch::new(alloc, Config::default(), message)
 }
 
-/// Prints the response that a fetch answers as it comes, and sends all that is held for it. Where
-/// that ends early the hint says what is likely the cause, and then why the connection has failed.
+/// Prints the response of a fetch as it arrives, and flushes the link. If it ends early, the
+/// result has the likely cause and why the connection failed.
 fn stream_with_hint<F: Files + Clock, S: Read + WriteParts + OpenStream, W: Write, E: Write>(
     files: &F,
     alloc: Global,
@@ -115,8 +114,8 @@ fn stream_with_hint<F: Files + Clock, S: Read + WriteParts + OpenStream, W: Writ
 }
 
 // rule: engines (own) get -v shows the frames of both sides as they come
-/// Prints the response that a fetch answers as it comes; and on `err` the frames of both sides,
-/// where the options ask for them, or else how much of the body has come, where that is said.
+/// Prints the response of a fetch as it arrives, and on `err` with `--verbose` the frames of
+/// both sides, or else the progress of a file, if that is shown.
 fn stream_over<F: Files + Clock, S: Read + WriteParts + OpenStream, W: Write, E: Write>(
     files: &F,
     alloc: Global,

@@ -6,15 +6,16 @@ use std::net::{Net, OpenListener, OpenStream, Shutdown, SocketAddr};
 use std::os::fd::{AsRawFd, RawFd};
 use std::time::{Clock, Duration};
 
-/// A reading of a clock by which all is to be done.
+/// A deadline, as a reading of a clock.
 #[derive(Clone, Copy, Debug)]
 pub struct Deadline {
-    /// None where the clock could not be read.
+    /// `None` if the clock could not be read.
     at: Option<Duration>,
 }
 
 impl Deadline {
-    /// So many seconds from now on. Where the clock can't be read it is over at once.
+    /// Returns the deadline this many seconds from now. If the clock cannot be read, it is over
+    /// at once.
     pub fn in_seconds<C: Clock>(clock: &C, seconds: u16) -> Deadline {
         let time = Duration::from_secs(u64::from(seconds));
         match clock.monotonic() {
@@ -26,11 +27,11 @@ impl Deadline {
     }
 
     // rule (tested): engines (own) get gives up after the seconds of --timeout
-    /// What is left of the time, some at least.
+    /// The time left, which is not zero.
     ///
     /// # Errors
     ///
-    /// [`ErrorKind::TimedOut`] where none is, and those of the clock.
+    /// [`ErrorKind::TimedOut`] if none is left, and those of the clock.
     fn left<C: Clock>(self, clock: &C) -> io::Result<Duration> {
         let now = clock.monotonic()?;
         match self.at {
@@ -45,8 +46,8 @@ impl Deadline {
     }
 }
 
-/// A network whose connections, reads and writes end at a deadline. It has the network and the
-/// clock of another one, which is copied into each stream.
+/// A network whose connections, reads and writes end at a deadline. It wraps another network and
+/// clock, copied into each stream.
 #[derive(Drop)]
 pub struct TimedNet<N> {
     net: N,
@@ -54,7 +55,7 @@ pub struct TimedNet<N> {
 }
 
 impl<N> TimedNet<N> {
-    /// The network, with a deadline.
+    /// Creates one over a network, with a deadline.
     pub fn new(net: N, deadline: Deadline) -> TimedNet<N> {
         TimedNet { net, deadline }
     }
@@ -68,7 +69,7 @@ pub struct TimedStream<S, C> {
     deadline: Deadline,
 }
 
-/// A listener, for which there is no deadline.
+/// A listener, which has no deadline.
 #[derive(Drop)]
 pub struct TimedListener<L, C> {
     listener: L,
@@ -90,7 +91,7 @@ impl<N: Net + Clock + Copy> Net for TimedNet<N> {
         })
     }
 
-    /// A connection that is made before the deadline.
+    /// Connects before the deadline.
     fn connect(&self, addr: SocketAddr) -> io::Result<TimedStream<N::Stream, N>> {
         let left = self.deadline.left(&self.net)?;
         let stream = self.net.connect_timeout(addr, left)?;

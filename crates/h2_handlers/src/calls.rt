@@ -1,4 +1,4 @@
-//! What a server with its handler answers of itself, and the calls that are the connection's.
+//! Queries of a server with its handler, and the calls that act on the whole connection.
 
 ghost use Rattle.std.specs.Prelude.{◌≡◌, ◌↔◌, ◌≤◌, [], nat_lt, true, false, None, OnOk, IsOk};
 ghost use Rattle.h2_spec_log.specs.Acts.{Answer, Count, Done, Fail, PutOut, SendGoAway, Values};
@@ -17,7 +17,7 @@ use crate::handler::Handler;
 use h2_ends::{Code, Refusal};
 
 impl<W: Drop, H: Handler<Work = W>> Handled<H, W> {
-    /// Begins to end it in order: GOAWAY with NO_ERROR; see [`Server::go_away`].
+    /// Begins a graceful shutdown: queues GOAWAY with NO_ERROR; see [`Server::go_away`].
     ///
     /// [`Server::go_away`]: h2_ends::Server::go_away
     ///
@@ -35,8 +35,8 @@ impl<W: Drop, H: Handler<Work = W>> Handled<H, W> {
         self.server.go_away()
     }
 
-    /// Ends the connection with a code, where it is up, and all exchanges with
-    /// [`Cause::Closed`](crate::Cause::Closed).
+    /// Ends the connection with this error code, unless it has failed before, and all exchanges
+    /// with [`Cause::Closed`](crate::Cause::Closed).
     pub fn fail(&mut self, code: Code)
         ensures handles { Handles (relations H.heads H.bodies H.trails H.gives H.ends) []
             self.old.server.end (handling_of self.old.exchanges) self.new.server.end
@@ -45,12 +45,13 @@ impl<W: Drop, H: Handler<Work = W>> Handled<H, W> {
         ensures failed { (answer : Answer)
             × EndAnswers self.old.server.end (Fail code) answer self.new.server.end }
     {
-        // It is refused only where the connection has failed before.
+        // Refused only if the connection has failed before.
         let _ = self.server.fail(code);
         self.exchanges.end_all();
     }
 
-    /// Ends all exchanges with [`Cause::Closed`](crate::Cause::Closed): the transport is gone.
+    /// Ends all exchanges with [`Cause::Closed`](crate::Cause::Closed), for a transport that is
+    /// gone.
     pub fn close(&mut self)
         ensures handles { Handles (relations H.heads H.bodies H.trails H.gives H.ends) []
             self.old.server.end (handling_of self.old.exchanges) self.new.server.end
@@ -63,13 +64,13 @@ impl<W: Drop, H: Handler<Work = W>> Handled<H, W> {
         self.exchanges.end_all();
     }
 
-    /// Makes the output ready to be written from where it lies: see [`Server::ready`].
+    /// Prepares the output to be written from where it lies; see [`Server::ready`].
     ///
     /// [`Server::ready`]: h2_ends::Server::ready
     ///
     /// # Errors
     ///
-    /// [`Refusal::Memory`] where an allocation was refused. Nothing has changed.
+    /// [`Refusal::Memory`] if an allocation was refused. Nothing has changed.
     pub fn ready(&mut self) -> Result<(), Refusal>
         ensures handles { HandlesAny (relations H.heads H.bodies H.trails H.gives H.ends)
             self.old.server.end (handling_of self.old.exchanges) self.new.server.end
@@ -77,7 +78,7 @@ impl<W: Drop, H: Handler<Work = W>> Handled<H, W> {
         ensures answers { EndAnswers self.old.server.end (PutOut 0)
             (answer_by (λ done. Count 0) result) self.new.server.end }
 
-        // Nothing is returned first then, so consuming takes no memory.
+        // Then nothing is returned first, so `consume` needs no memory.
         ensures returned { OnOk result ((values : Values) (log : Log)
             → ConnRepresents values self.new.server.end.conn log
             → returns_before_put_out (log_view log) ≡ false) }
@@ -86,14 +87,14 @@ impl<W: Drop, H: Handler<Work = W>> Handled<H, W> {
         self.server.ready()
     }
 
-    /// Takes away at most `count` octets of the output, which were written from where they lie,
-    /// and answers their number: see [`Server::consume`].
+    /// Removes up to `count` octets of output, which were written from where they lie, and
+    /// returns how many; see [`Server::consume`].
     ///
     /// [`Server::consume`]: h2_ends::Server::consume
     ///
     /// # Errors
     ///
-    /// [`Refusal::Memory`] where an allocation was refused. Nothing has changed.
+    /// [`Refusal::Memory`] if an allocation was refused. Nothing has changed.
     pub fn consume(&mut self, count: usize) -> Result<usize, Refusal>
         ensures handles { HandlesAny (relations H.heads H.bodies H.trails H.gives H.ends)
             self.old.server.end (handling_of self.old.exchanges) self.new.server.end
@@ -108,8 +109,9 @@ impl<W: Drop, H: Handler<Work = W>> Handled<H, W> {
         self.server.consume(count)
     }
 
-    /// Lends the output that waits from a place on, as much as lies there in one piece: see
-    /// [`Server::waiting_from`]. After [`Handled::ready`] it is all that can be written now.
+    /// Lends the queued output from position `at` on, as much as lies there contiguously; see
+    /// [`Server::waiting_from`]. After [`Handled::ready`] that is everything that can be written
+    /// now.
     ///
     /// [`Server::waiting_from`]: h2_ends::Server::waiting_from
     pub fn waiting_from(&self, at: usize) -> &[u8]
@@ -118,7 +120,8 @@ impl<W: Drop, H: Handler<Work = W>> Handled<H, W> {
         self.server.waiting_from(at)
     }
 
-    /// Whether 65,536 octets of output or more wait: nothing is taken or answered then.
+    /// Whether 65,536 octets of output or more are queued: then no input is taken and no reply
+    /// is sent.
     pub fn is_full(&self) -> bool
         ensures { (values : Values) (log : Log) → ConnRepresents values self.now.server.end.conn log
             → (result ≡ true) ↔ (full_output ≤ waiting log) }
@@ -126,7 +129,7 @@ impl<W: Drop, H: Handler<Work = W>> Handled<H, W> {
         self.server.is_full()
     }
 
-    /// Whether no output waits, and no stream is active or the connection has failed.
+    /// Whether no output is queued, and no stream is active or the connection has failed.
     pub fn is_drained(&self) -> bool
         ensures { (values : Values) (log : Log) → ConnRepresents values self.now.server.end.conn log
             → (result ≡ true) ↔ ((waiting log ≡ 0) × (reader_next_live log 0 ≡ None)) }
@@ -134,47 +137,47 @@ impl<W: Drop, H: Handler<Work = W>> Handled<H, W> {
         self.server.is_drained()
     }
 
-    /// Whether a turn could send something more: of a body that was given whole, or a part for
-    /// which a handler is to be asked.
+    /// Whether [`Handled::send_some`] could send more: octets of a complete body, or a part for
+    /// which a handler can be asked.
     pub fn may_send(&self) -> bool {
         self.more || self.next_asked().is_some()
     }
 
-    /// Whether there is an exchange.
+    /// Whether any exchange is open.
     pub fn is_busy(&self) -> bool {
         self.exchanges.kept.next_above(0).is_some()
     }
 
-    /// Whether some request isn't whole.
+    /// Whether some request is incomplete.
     pub fn is_reading(&self) -> bool
         ensures { result ≡ nat_lt 0 self.now.exchanges.totals.reading }
     {
         self.exchanges.totals.reading > 0
     }
 
-    /// How many requests have come; the greatest number of 64 bits where it is more than that.
+    /// The number of requests received, up to 2^64 - 1.
     pub fn requests(&self) -> u64
         ensures { result ≡ self.now.exchanges.totals.requests }
     {
         self.exchanges.totals.requests
     }
 
-    /// How many octets of bodies have come; the greatest number of 64 bits where it is more.
+    /// The number of body octets received, up to 2^64 - 1.
     pub fn body(&self) -> u64
         ensures { result ≡ self.now.exchanges.totals.body }
     {
         self.exchanges.totals.body
     }
 
-    /// How many octets of bodies were sent; the greatest number of 64 bits where it is more.
+    /// The number of body octets sent, up to 2^64 - 1.
     pub fn sent(&self) -> u64
         ensures { result ≡ self.now.sent }
     {
         self.sent
     }
 
-    /// How many streams this end has reset for a fault of the peer's: malformed requests, and
-    /// those above a limit; the greatest number of 32 bits where it is more than that.
+    /// The number of streams that this end has reset for a fault of the peer, up to 2^32 - 1:
+    /// malformed requests, other stream errors, and streams above a limit.
     pub fn refused(&self) -> u32 {
         self.exchanges.totals.refused
     }

@@ -1,4 +1,4 @@
-//! What is kept of one exchange, a request and its response.
+//! The state of one exchange, a request and its response.
 
 ghost use Rattle.std.specs.Prelude.{◌≡◌, None};
 ghost use Rattle.h2_handlers.specs.Exchanges.{awake, exchange_kept};
@@ -16,34 +16,34 @@ pub(crate) const BAD_REQUEST: u16 = 400;
 /// The status of a request at which the handler has failed.
 pub(crate) const SERVER_ERROR: u16 = 500;
 
-/// How far the answer of an exchange is.
+/// How far the response of an exchange is.
 #[derive(Debug, Drop)]
 pub(crate) enum Stage {
-    /// None was given.
+    /// No reply was given.
     Asked,
-    /// A whole one waits until the output isn't full.
+    /// A complete response, which waits until the output is not full.
     Answers(Message),
-    /// One with this status alone does.
+    /// A response with this status and no body waits.
     Fails {
         /// The status.
         status: u16,
     },
-    /// The head of one in parts does.
+    /// The head of a response in parts waits.
     Begins(Vec<Field>),
-    /// Trailers do.
+    /// Trailers wait.
     Trails(Vec<Field>),
-    /// A reset does.
+    /// A reset waits.
     Resets(Code),
-    /// Its head went, and the handler is asked for parts of its body; not now, where it had none.
+    /// The head was sent, and the handler is asked for parts of the body.
     Parts {
-        /// Whether it had none.
+        /// Whether the handler had no part; then it is asked again only after [`Exchange::wake`].
         later: bool,
     },
-    /// All of it was given to the server.
+    /// All of the response was given to the server.
     Given,
     /// The stream was reset with this code, in place of an answer.
     Gone {
-        /// The number of the code.
+        /// The error code.
         code: u32,
     },
 }
@@ -51,22 +51,22 @@ pub(crate) enum Stage {
 /// An exchange.
 #[derive(Drop)]
 pub(crate) struct Exchange<W> {
-    /// What its handler keeps; none where the handler wasn't told, or has failed at once.
+    /// What the handler keeps; none if the handler was not called or failed at once.
     pub(crate) work: Option<W>,
-    /// Whether the request is whole.
+    /// Whether the request is complete.
     pub(crate) whole: bool,
-    /// How far its answer is.
+    /// How far the response is.
     pub(crate) stage: Stage,
-    /// How many octets the body of its answer has, where that was given whole.
+    /// The length of the response's body, if that was given complete.
     pub(crate) given: usize,
-    /// How many octets its handler holds, and its answer.
+    /// The octets that the handler and the response hold.
     pub(crate) held: usize,
-    /// How many octets of its body its handler has not used.
+    /// The octets of the request's body that the handler has not used.
     pub(crate) unused: u32,
 }
 
 impl<W> Exchange<W> {
-    /// One whose answer was not given, and whose handler keeps nothing.
+    /// A new exchange, without a reply and without work of its handler.
     pub(crate) fn new(whole: bool) -> Exchange<W>
         ensures { exchange_kept result ≡
             record { work = None; whole = whole; stage = Stage.Asked } }
@@ -81,7 +81,7 @@ impl<W> Exchange<W> {
         }
     }
 
-    /// Lets the handler be asked again, where it had no part.
+    /// Lets a handler that had no part be asked again.
     pub(crate) fn wake(&mut self)
         ensures { exchange_kept self.new ≡ awake (exchange_kept self.old) }
     {
@@ -90,7 +90,7 @@ impl<W> Exchange<W> {
         }
     }
 
-    /// Keeps what a handler has answered.
+    /// Stores a handler's reply.
     pub(crate) fn take(&mut self, reply: Result<Reply, HandlerFault>)
         ensures { exchange_kept self.new ≡ record (exchange_kept self.old) {
           stage = stage_after self.old.whole self.old.stage reply;
@@ -105,7 +105,7 @@ impl<W> Exchange<W> {
 }
 
 // rule: handlers (own) A fault of a handler is status 500, or a reset once a head went
-/// How far an answer is once a handler has answered this.
+/// The stage after this reply of a handler.
 pub(crate) fn stage_after(whole: bool, stage: Stage, reply: Result<Reply, HandlerFault>) -> Stage
     ensures { result ≡ stage_after whole stage reply }
 {
@@ -124,7 +124,7 @@ pub(crate) fn stage_after(whole: bool, stage: Stage, reply: Result<Reply, Handle
     }
 }
 
-/// How far it is once a handler has asked for a reset.
+/// The stage after a handler has asked for a reset.
 fn reset(stage: Stage, code: Code) -> Stage
     ensures { result ≡ stage_reset stage code }
 {
@@ -134,7 +134,7 @@ fn reset(stage: Stage, code: Code) -> Stage
     }
 }
 
-/// How far it is once a handler has answered nothing.
+/// The stage after a reply `Later`: status 500 if the request is complete.
 fn later(whole: bool, stage: Stage) -> Stage
     ensures { result ≡ stage_once_later whole stage }
 {
@@ -146,7 +146,7 @@ fn later(whole: bool, stage: Stage) -> Stage
     }
 }
 
-/// How far it is once a handler has failed.
+/// The stage after a handler has failed.
 fn fault(stage: Stage) -> Stage
     ensures { result ≡ stage_of_fault stage }
 {
@@ -158,7 +158,7 @@ fn fault(stage: Stage) -> Stage
     }
 }
 
-/// How far it is once a handler has answered a second time.
+/// The stage after a second reply.
 fn second(stage: Stage) -> Stage
     ensures { result ≡ second_answer stage }
 {

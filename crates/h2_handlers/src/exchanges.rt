@@ -1,4 +1,4 @@
-//! The exchanges of a connection: what is told to its handler, and what is due then.
+//! The exchanges of a connection: passes events to its handler, and says what is due then.
 
 ghost use Rattle.std.specs.Prelude.{◌≡◌, [], Err, None, OnErr, OnOk, length};
 ghost use Rattle.h2_ends.specs.Loans.{event_handed};
@@ -17,14 +17,14 @@ use h2_message::names_user;
 use h2_numbers::NumberMap;
 use std::alloc::{AllocError, Global};
 
-/// What is due once something was told to a handler.
+/// What is due after an event was passed to a handler.
 #[derive(Clone, Copy, Debug)]
 pub(crate) enum Due {
-    /// Nothing: more may be handed out.
+    /// Nothing; there may be another event.
     Again,
-    /// Nothing: all octets were used, and nothing is handed out.
+    /// Nothing: all octets were used, and there is no event.
     Done,
-    /// The answer of this exchange is to go as far as it can.
+    /// The response of this exchange is sent as far as it can be.
     Answer {
         /// The stream.
         id: u32,
@@ -32,30 +32,30 @@ pub(crate) enum Due {
 }
 
 impl Due {
-    /// Whether all octets were used, and nothing is handed out.
+    /// Whether all octets were used, and there is no event.
     pub(crate) fn is_done(self) -> bool {
         matches!(self, Due::Done)
     }
 }
 
-/// What is counted of the exchanges of a connection.
+/// Totals over the exchanges of a connection.
 #[derive(Clone, Copy, Debug)]
 pub(crate) struct Totals {
-    /// How many octets the handler holds of all of them, and their answers.
+    /// The octets that the handler and the responses hold.
     pub(crate) held: usize,
-    /// How many of them have a request that isn't whole.
+    /// The number of exchanges whose request is incomplete.
     pub(crate) reading: usize,
-    /// How many octets of bodies the handler has not used.
+    /// The body octets that the handler has not used.
     pub(crate) unused: u64,
-    /// How many requests have come.
+    /// The number of requests received.
     pub(crate) requests: u64,
-    /// How many octets of bodies have come.
+    /// The number of body octets received.
     pub(crate) body: u64,
-    /// How many streams this end has reset for a fault of the peer's.
+    /// The number of streams that this end has reset for a fault of the peer.
     pub(crate) refused: u32,
 }
 
-/// The exchanges that aren't over, by their streams, with the handler of the connection.
+/// The open exchanges by stream, with the handler of the connection.
 #[derive(Drop)]
 pub(crate) struct Exchanges<H, W> {
     pub(crate) alloc: Global,
@@ -84,11 +84,11 @@ impl<W: Drop, H: Handler<Work = W>> Exchanges<H, W> {
         }
     }
 
-    /// Tells the handler what was handed out, and says what is due.
+    /// Passes an event to the handler, and returns what is due.
     ///
     /// # Errors
     ///
-    /// [`AllocError`] where an allocation was refused: the handler was told nothing.
+    /// [`AllocError`] if an allocation was refused: the handler was not called.
     pub(crate) fn note(&mut self, event: EndEvent<&FieldList, &[u8]>) -> Result<Due, AllocError>
         ensures ok { OnOk result (Tells (relations H.heads H.bodies H.trails H.gives H.ends)
             (event_handed event.entry) (handling_of self.old) (handling_of self.new)) }
@@ -139,7 +139,8 @@ impl<W: Drop, H: Handler<Work = W>> Exchanges<H, W> {
         Ok(())
     }
 
-    /// Tells octets of a body. Those of a request whose handler has none of it are dropped.
+    /// Passes octets of a body to the handler; they are dropped if the handler keeps nothing of
+    /// the request.
     fn add(&mut self, id: u32, bytes: &[u8], end: bool)
         ensures { ChangesAny (ToldBody (relations H.heads H.bodies H.trails H.gives H.ends)
             bytes.now end) id (handling_of self.old)
@@ -153,7 +154,7 @@ impl<W: Drop, H: Handler<Work = W>> Exchanges<H, W> {
         }
     }
 
-    /// Tells trailers.
+    /// Passes trailers to the handler.
     fn trail(&mut self, id: u32, list: &FieldList)
         ensures { ChangesAny (ToldTrailers (relations H.heads H.bodies H.trails H.gives H.ends)
             list.now) id (handling_of self.old)
@@ -166,7 +167,7 @@ impl<W: Drop, H: Handler<Work = W>> Exchanges<H, W> {
         }
     }
 
-    /// Asks the handler for a part of a response, for which there is so much room.
+    /// Asks the handler for a part of a response that fits `room`.
     pub(crate) fn part(&mut self, id: u32, room: &mut [u8]) -> Result<Part, HandlerFault>
         ensures asks { ChangesAny (AskedPart (relations H.heads H.bodies H.trails H.gives H.ends)
             room.new result) id (handling_of self.old)
@@ -216,7 +217,7 @@ impl<W: Drop, H: Handler<Work = W>> Exchanges<H, W> {
 }
 
 impl Totals {
-    /// Counts anew what the handler holds of an exchange, and has not used.
+    /// Recounts what the handler holds of an exchange and has not used.
     fn count<W: Drop, H: Handler<Work = W>>(&mut self, handler: &H, exchange: &mut Exchange<W>)
         ensures { exchange_kept exchange.new ≡ exchange_kept exchange.old }
     {
@@ -232,14 +233,14 @@ impl Totals {
         exchange.unused = unused;
     }
 
-    /// Counts a request that is whole now, and wasn't.
+    /// Counts a request that has become complete.
     fn note_end(&mut self, whole: bool, end: bool) {
         if end && !whole {
             self.reading = self.reading.saturating_sub(1);
         }
     }
 
-    /// Counts an exchange no more.
+    /// Removes an exchange from the totals.
     fn forget<W>(&mut self, exchange: &Exchange<W>) {
         self.held = self.held.saturating_sub(exchange.held);
         self.unused = self.unused.saturating_sub(u64::from(exchange.unused));
@@ -259,7 +260,7 @@ fn authority_names_user(list: &FieldList) -> bool
 }
 
 // rule: handlers (own) An authority that names a user is a 400 of which no handler is told
-/// Tells the head of a request, unless its authority names a user.
+/// Passes the head of a request to the handler, unless its authority names a user.
 fn tell_head<W: Drop, H: Handler<Work = W>>(
     alloc: Global,
     handler: &mut H,
@@ -286,7 +287,7 @@ fn tell_head<W: Drop, H: Handler<Work = W>>(
     }
 }
 
-/// Tells octets of a body, if the handler has something of the request.
+/// Passes octets of a body to the handler, if it keeps something of the request.
 fn tell_body<W: Drop, H: Handler<Work = W>>(
     alloc: Global,
     handler: &mut H,
@@ -306,7 +307,7 @@ fn tell_body<W: Drop, H: Handler<Work = W>>(
     exchange.take(reply);
 }
 
-/// Tells trailers, if the handler has something of the request.
+/// Passes trailers to the handler, if it keeps something of the request.
 fn tell_trailers<W: Drop, H: Handler<Work = W>>(
     alloc: Global,
     handler: &mut H,
@@ -325,7 +326,7 @@ fn tell_trailers<W: Drop, H: Handler<Work = W>>(
     exchange.take(reply);
 }
 
-/// Asks for a part of a response, if the handler has something of the request.
+/// Asks the handler for a part of a response, if it keeps something of the request.
 fn ask_part<W: Drop, H: Handler<Work = W>>(
     alloc: Global,
     handler: &mut H,

@@ -1,4 +1,4 @@
-//! Handlers that answer whole requests.
+//! A handler that collects complete requests.
 
 ghost use Rattle.std.specs.Prelude.{◌≡◌, ⊤, List, Option, Result, ℕ, option_map};
 ghost use Rattle.hpack.specs.declared.types.field.Field.{Field};
@@ -10,22 +10,22 @@ use crate::handler::{Cause, Handler, HandlerFault, Part, Reply};
 use h2_ends::{Code, Field, FieldList, Message};
 use std::alloc::Global;
 
-/// So many octets a field takes beside its name and its value.
+/// The octets that a field takes besides its name and its value.
 const FIELD_SIZE: usize = 64;
 
-/// A request that has come whole.
+/// A complete request.
 #[derive(Debug, Drop)]
 pub struct Request {
-    /// Its pseudo-fields and fields.
+    /// The pseudo-header fields and the fields.
     pub head: Vec<Field>,
-    /// The octets of its body.
+    /// The body.
     pub body: Vec<u8>,
-    /// Its trailers, if it has any.
+    /// The trailers, if there are any.
     pub trailers: Option<Vec<Field>>,
 }
 
 impl Request {
-    /// The value of the first field of its head with a name.
+    /// Returns the value of the first field of the head with this name.
     pub fn value(&self, name: &[u8]) -> Option<&[u8]> {
         for field in &self.head {
             if field.name.as_slice() == name {
@@ -36,34 +36,34 @@ impl Request {
     }
 }
 
-/// What is kept of a request that is not whole yet.
+/// An incomplete request.
 #[derive(Debug, Drop)]
 pub struct Gathered {
     request: Request,
-    /// How many octets its fields hold.
+    /// The octets that its fields hold.
     fields: usize,
 }
 
-/// Answers whole requests.
+/// Responds to complete requests.
 ///
-/// What an implementor says of itself is said by a relation, as those of [`Handler`] are.
+/// An implementor may state its behaviour by a relation, as for [`Handler`].
 pub trait Answerer: Drop {
-    /// A request with this head, this body and these trailers may be answered so.
+    /// Relates a request's head, body and trailers to the results that it may have.
     ghost answers: { Self → (head : List Field) → (body : List ℕ)
         → (trailers : Option (List Field)) → Result Message HandlerFault → Self → Type 0 } = { λ _ _ _ _ _ _. ⊤ };
 
-    /// The response to a request.
+    /// Returns the response to a request.
     ///
     /// # Errors
     ///
-    /// The request is answered with status 500.
+    /// On an error the response is status 500.
     fn answer(&mut self, alloc: Global, request: &Request) -> Result<Message, HandlerFault>
         ensures { answers self.old request.now.head.items request.now.body.items
             (trailers_of request.now) result self.new };
 }
 
-/// The handler that keeps each request until it is whole. A stream whose request has a body of
-/// more octets than `most` is reset with ENHANCE_YOUR_CALM.
+/// Collects each request, and calls an [`Answerer`] once it is complete. A stream whose request
+/// body exceeds `most` octets is reset with ENHANCE_YOUR_CALM.
 #[derive(Drop)]
 pub struct Gather<A> {
     answerer: A,
@@ -71,14 +71,14 @@ pub struct Gather<A> {
 }
 
 impl<A: Answerer> Gather<A> {
-    /// A new one, over what answers, for bodies of so many octets at most.
+    /// Creates one over an answerer, for request bodies of at most `most` octets.
     pub fn new(answerer: A, most: usize) -> Gather<A>
         ensures { result ≡ record { answerer = answerer; most = most } }
     {
         Gather { answerer, most }
     }
 
-    /// Answers a request that is whole.
+    /// Responds to a complete request.
     fn answer(&mut self, alloc: Global, request: &Request) -> Result<Reply, HandlerFault>
         ensures answers { AnswersGathered A.answers request.now self.old.answerer result
             self.new.answerer }
@@ -88,7 +88,7 @@ impl<A: Answerer> Gather<A> {
         Ok(Reply::Whole(message))
     }
 
-    /// Answers a request, where it is whole.
+    /// Responds to a request if it is complete.
     fn answer_if(
         &mut self,
         whole: bool,
@@ -108,7 +108,7 @@ impl<A: Answerer> Handler for Gather<A> {
     ghost use Rattle.h2_handlers.specs.Gathering.{GathersHead, GathersBody, GathersTrailers};
     ghost use Rattle.h2_handlers.specs.Gathering.{GivesNoPart};
 
-    /// Nothing is kept of a request that was reset, or of which something is lost.
+    /// `None` for a request that was reset, or of which a part was lost.
     type Work = Option<Gathered>;
 
     ghost heads = { λ old list end result new. GathersHead A.answers old list end result new };
@@ -149,7 +149,7 @@ impl<A: Answerer> Handler for Gather<A> {
         octets: &[u8],
         end: bool,
     ) -> Result<Reply, HandlerFault> {
-        // It is kept again only where all of it has come so far.
+        // Put back only if all of it was received so far.
         let Some(mut gathered) = work.take() else {
             return Ok(Reply::Later);
         };
@@ -204,7 +204,7 @@ impl<A: Answerer> Handler for Gather<A> {
     fn over(&mut self, _work: Option<Gathered>, _cause: Cause) {}
 }
 
-/// How many octets fields hold: those of their names and values, and what each takes beside that.
+/// The octets that fields hold: their names and values, and [`FIELD_SIZE`] for each.
 fn octets_of(fields: &[Field]) -> usize {
     let mut octets = 0usize;
     for field in fields {
@@ -218,8 +218,8 @@ fn octets_of(fields: &[Field]) -> usize {
     octets
 }
 
-/// Answers each request with its method, a space, its path, a line end and its body; HEAD with the
-/// head alone.
+/// Echoes each request: its method, a space, its path, a newline and its body. The response to
+/// HEAD has no body.
 #[derive(Clone, Copy, Debug)]
 pub struct Echo;
 

@@ -1,4 +1,4 @@
-//! How an answer is given to the server, one call at a time.
+//! Hands a response to the server, one call at a time.
 
 ghost use Rattle.std.specs.Prelude.{◌≡◌, IfOk, true};
 ghost use Rattle.h2_handlers.specs.Giving.{GivesStage, IsRefusedSo};
@@ -8,9 +8,9 @@ use crate::stop::{Stop, stop_of};
 use h2_ends::{Code, EndRefusal, Field, Message, Refusal, Server};
 use std::alloc::Global;
 
-/// Gives the next of an answer to the server, by one call of it, and says how far the answer is
-/// then. What a full output doesn't take waits; what breaks a rule is a reset with code 2, which
-/// the next call gives.
+/// Hands the next piece of a response to the server, by one call, and returns the new stage.
+/// What a full output does not take waits; what breaks a rule becomes a reset with
+/// INTERNAL_ERROR, which the next call queues.
 pub(crate) fn give(alloc: Global, server: &mut Server, id: u32, stage: Stage) -> Result<Stage, Stop>
     ensures { GivesStage server.old.end id stage result server.new.end }
 {
@@ -24,7 +24,7 @@ pub(crate) fn give(alloc: Global, server: &mut Server, id: u32, stage: Stage) ->
     }
 }
 
-/// Gives a whole answer.
+/// Hands over a complete response.
 fn respond(server: &mut Server, id: u32, message: Message) -> Result<Stage, Stop>
     ensures { GivesStage server.old.end id (Stage.Answers message) result server.new.end }
 {
@@ -39,7 +39,7 @@ fn respond(server: &mut Server, id: u32, message: Message) -> Result<Stage, Stop
     }
 }
 
-/// Gives an answer that is a status alone.
+/// Hands over a response that is a status alone.
 fn give_status(alloc: Global, server: &mut Server, id: u32, status: u16) -> Result<Stage, Stop>
     ensures { GivesStage server.old.end id (Stage.Fails status) result server.new.end }
 {
@@ -47,7 +47,7 @@ fn give_status(alloc: Global, server: &mut Server, id: u32, status: u16) -> Resu
     respond(server, id, message)
 }
 
-/// Gives the head of an answer in parts.
+/// Hands over the head of a response in parts.
 fn begin(server: &mut Server, id: u32, head: Vec<Field>) -> Result<Stage, Stop>
     ensures { GivesStage server.old.end id (Stage.Begins head) result server.new.end }
 {
@@ -62,7 +62,7 @@ fn begin(server: &mut Server, id: u32, head: Vec<Field>) -> Result<Stage, Stop>
     }
 }
 
-/// Gives trailers.
+/// Hands over trailers.
 fn trail(server: &mut Server, id: u32, list: Vec<Field>) -> Result<Stage, Stop>
     ensures { GivesStage server.old.end id (Stage.Trails list) result server.new.end }
 {
@@ -93,7 +93,7 @@ fn reset(server: &mut Server, id: u32, code: Code) -> Result<Stage, Stop>
     }
 }
 
-/// Whether an answer was refused since the output is full.
+/// Whether a response was refused because the output is full.
 fn is_for_output(refusal: EndRefusal) -> bool
     ensures { result ≡ true → refusal ≡ EndRefusal.Conn Refusal.OutputFull }
 {
@@ -101,7 +101,7 @@ fn is_for_output(refusal: EndRefusal) -> bool
 }
 
 // rule: handlers (own) An answer that breaks a rule is a reset with code 2
-/// What comes of an answer that the server has refused, but for a full output.
+/// The stage after the server has refused a response for another reason than a full output.
 pub(crate) fn after_refusal(server: &Server, refusal: EndRefusal) -> Result<Stage, Stop>
     ensures { IfOk result (λ stage. IsRefusedSo refusal stage) }
 {

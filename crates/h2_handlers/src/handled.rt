@@ -1,4 +1,4 @@
-//! A server with its handler. It does no input or output.
+//! A server with its handler, without input and output of its own.
 
 ghost use Rattle.std.specs.Prelude.{◌≡◌, ◌≤◌, [], Err, IfErr, IfOk, Ok, length};
 ghost use Rattle.h2_flow.specs.ConfigValues.{values_of};
@@ -16,7 +16,7 @@ use h2_ends::{Config, Conn, Server};
 use std::alloc::Global;
 use std::mem;
 
-/// A server whose requests a handler answers.
+/// A server whose requests a handler answers. It does no input or output.
 #[derive(Drop)]
 pub struct Handled<H, W> {
     pub(crate) alloc: Global,
@@ -24,27 +24,27 @@ pub struct Handled<H, W> {
     pub(crate) exchanges: Exchanges<H, W>,
     /// The stream whose handler was asked last for a part.
     pub(crate) asked: u32,
-    /// Whether more may be sent of bodies that were given whole.
+    /// Whether more may be sent of complete bodies.
     pub(crate) more: bool,
-    /// How many octets of bodies were sent.
+    /// The number of body octets sent.
     pub(crate) sent: u64,
 }
 
-/// What was made of octets by one call of `take`.
+/// The result of one call of `take`.
 #[derive(Clone, Copy, Debug)]
 pub(crate) struct Heard {
-    /// So many octets were used.
+    /// The number of octets used.
     used: usize,
     /// What is due.
     due: Due,
 }
 
 impl<W: Drop, H: Handler<Work = W>> Handled<H, W> {
-    /// A new one, whose opening waits.
+    /// Creates a server with its handler. Its connection preface (RFC 9113, section 3.4) is queued.
     ///
     /// # Errors
     ///
-    /// [`Stop::Memory`] where an allocation was refused.
+    /// [`Stop::Memory`] if an allocation was refused.
     pub fn new(alloc: Global, config: Config, handler: H) -> Result<Handled<H, W>, Stop>
         ensures end { IfOk result (λ handled. EndRepresents (values_of config) handled.server.end
             (new_end_log roles.Server (values_of config))) }
@@ -65,7 +65,7 @@ impl<W: Drop, H: Handler<Work = W>> Handled<H, W> {
         })
     }
 
-    /// The connection, for what it answers of itself.
+    /// Returns the connection, for its queries.
     pub fn conn(&self) -> &Conn
         ensures { result.now ≡ self.now.server.end.conn }
     {
@@ -78,13 +78,13 @@ impl<W: Drop, H: Handler<Work = W>> Handled<H, W> {
     // contract: handlers (own) A fault of a handler is status 500, or a reset once a head went
     // contract: handlers (own) An answer that breaks a rule is a reset with code 2
     // contract: handlers (own) An authority that names a user is a 400 of which no handler is told
-    /// Takes octets of a piece, tells the handler what is handed out, and gives its answers to the
-    /// server: all of them, or those before the output was full, or `most` parts of requests were
-    /// told. Answers how many were used.
+    /// Takes octets of input, passes what they contain to the handler, and queues its replies.
+    /// Stops when all octets are used, the output is full, or `most` parts of requests were
+    /// passed to the handler. Returns how many octets were used.
     ///
     /// # Errors
     ///
-    /// [`Stop`] says why the connection can't go on.
+    /// [`Stop`] says why the connection cannot go on.
     pub fn take_some(&mut self, piece: &[u8], most: usize) -> Result<usize, Stop>
         ensures handles { HandlesPiece (relations H.heads H.bodies H.trails H.gives H.ends)
             piece.now self.old.server.end (handling_of self.old.exchanges) self.new.server.end
@@ -108,7 +108,7 @@ impl<W: Drop, H: Handler<Work = W>> Handled<H, W> {
         Ok(used)
     }
 
-    /// Gives the answer that is due, if one is, and answers how many were.
+    /// Sends the reply that is due, and returns how many were due: 0 or 1.
     fn do_due(&mut self, due: Due) -> Result<usize, Stop>
         ensures handles { Handles (relations H.heads H.bodies H.trails H.gives H.ends) []
             self.old.server.end (handling_of self.old.exchanges) self.new.server.end
@@ -123,7 +123,7 @@ impl<W: Drop, H: Handler<Work = W>> Handled<H, W> {
     }
 
     // rule: handlers (own) A handler is told of each stream what was handed out of it, in order
-    /// Hands octets to `take` once, and tells the handler what is handed out.
+    /// Calls `take` once, and passes the event to the handler.
     fn hear(&mut self, piece: &[u8]) -> Result<Heard, Stop>
         ensures ok { IfOk result (λ heard. HandlesPiece
             (relations H.heads H.bodies H.trails H.gives H.ends) piece.now self.old.server.end
@@ -147,9 +147,9 @@ impl<W: Drop, H: Handler<Work = W>> Handled<H, W> {
         Ok(Heard { used, due })
     }
 
-    /// Gives the answer of an exchange to the server, as far as it can go now, and ends the
-    /// exchange where its stream is over. An answer that breaks a rule is followed by the reset at
-    /// once.
+    /// Hands the response of an exchange to the server, as far as it can go now, and ends the
+    /// exchange once its stream is over. After a response that breaks a rule the reset follows
+    /// at once.
     pub(crate) fn answer(&mut self, id: u32) -> Result<(), Stop>
         ensures { Handles (relations H.heads H.bodies H.trails H.gives H.ends) []
             self.old.server.end (handling_of self.old.exchanges) self.new.server.end
@@ -162,7 +162,7 @@ impl<W: Drop, H: Handler<Work = W>> Handled<H, W> {
         Ok(())
     }
 
-    /// Gives the reset that waits on a stream, if one does.
+    /// Queues the reset that waits on a stream, if one does.
     fn give_reset(&mut self, id: u32) -> Result<(), Stop>
         ensures { Handles (relations H.heads H.bodies H.trails H.gives H.ends) []
             self.old.server.end (handling_of self.old.exchanges) self.new.server.end
@@ -175,7 +175,7 @@ impl<W: Drop, H: Handler<Work = W>> Handled<H, W> {
     }
 
     // rule: handlers (own) What is given as an answer is what its handler gave
-    /// Gives the next of the answer of an exchange to the server, by one call of it.
+    /// Hands the next piece of a response to the server, by one call.
     fn give_next(&mut self, id: u32) -> Result<(), Stop>
         ensures { Handles (relations H.heads H.bodies H.trails H.gives H.ends) []
             self.old.server.end (handling_of self.old.exchanges) self.new.server.end
@@ -198,7 +198,7 @@ impl<W: Drop, H: Handler<Work = W>> Handled<H, W> {
     }
 
     // rule: handlers (own) Of each exchange a handler learns once that it is over, and why
-    /// Ends an exchange whose answer went whole and whose stream is over, or which was reset.
+    /// Ends an exchange whose response was sent and whose stream is over, or which was reset.
     pub(crate) fn end_if_over(&mut self, id: u32)
         ensures { Handles (relations H.heads H.bodies H.trails H.gives H.ends) []
             self.old.server.end (handling_of self.old.exchanges) self.new.server.end
@@ -219,8 +219,7 @@ impl<W: Drop, H: Handler<Work = W>> Handled<H, W> {
         }
     }
 
-    /// How many octets are held: of output, of a frame that isn't complete, of answers that were
-    /// given whole, and by the handler.
+    /// The octets held: output, an incomplete frame, responses, and what the handler keeps.
     pub fn held(&self) -> usize {
         let conn = self.server.conn();
         let octets = conn.waiting().saturating_add(conn.held());
@@ -228,7 +227,7 @@ impl<W: Drop, H: Handler<Work = W>> Handled<H, W> {
     }
 }
 
-/// What is due once nothing was handed out: nothing, where all octets were used.
+/// What is due if there was no event: nothing more once all octets are used.
 fn due_after(used: usize, all: usize) -> Due {
     if used < all { Due::Again } else { Due::Done }
 }

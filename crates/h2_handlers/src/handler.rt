@@ -1,4 +1,4 @@
-//! What an application gives a server: a handler, which answers the requests of one connection.
+//! The trait that an application implements: a handler answers the requests of one connection.
 
 ghost use Rattle.std.specs.Prelude.{◌≡◌, ◌≤◌, ⊤, Bool, List, Result, ℕ, length, IfOk};
 ghost use Rattle.hpack.specs.declared.types.field.Field.{Field};
@@ -14,14 +14,14 @@ use std::alloc::{AllocError, Global};
 use std::io;
 use thiserror::Error;
 
-/// Why a handler can't go on with an exchange. A client gets status 500, or a reset with
-/// INTERNAL_ERROR where the head of an answer went.
+/// Why a handler cannot go on with an exchange. The client gets status 500, or a reset with
+/// INTERNAL_ERROR if the head of a response was sent.
 #[derive(Clone, Copy, Debug, PartialEq, Eq, Hash, Error)]
 pub enum HandlerFault {
     /// An allocation was refused.
     #[error("out of memory")]
     Memory,
-    /// Something else has failed, as a read of a file.
+    /// Something else failed, such as a read of a file.
     #[error("the handler failed")]
     Failed,
 }
@@ -42,83 +42,82 @@ impl From<io::Error> for HandlerFault {
     }
 }
 
-/// What a handler answers to a part of a request.
+/// The reply of a handler to a part of a request.
 #[derive(Debug, Drop)]
 pub enum Reply {
-    /// Nothing yet. Once the request is whole it is answered with status 500.
+    /// No response yet. If the request is complete and has no response, status 500 is sent.
     Later,
-    /// The whole response.
+    /// The complete response.
     Whole(Message),
-    /// The head of a response whose body and trailers the handler is asked for in parts.
+    /// The head of a response; the body and the trailers are then asked for with [`Handler::part`].
     Parts(Vec<Field>),
-    /// The stream is reset with this code (RFC 9113, section 7).
+    /// Resets the stream with this code (RFC 9113, section 7).
     Reset(Code),
 }
 
-/// What a handler gives next of a response in parts.
+/// The next part of a response.
 #[derive(Debug, Drop)]
 pub enum Part {
-    /// So many octets of the body lie at the front of the room, and more may follow.
+    /// This many octets of the body are at the start of `room`; more may follow.
     Octets(usize),
-    /// So many octets of the body lie at the front of the room, and end the response.
+    /// This many octets of the body are at the start of `room`; they end the response.
     Last(usize),
     /// The trailers, which end the response.
     Trailers(Vec<Field>),
-    /// Nothing now: it is asked again once something was read. A host asks it too once its socket
-    /// can be written again, and as time passes.
+    /// Nothing now. The handler is asked again after the next read; a host also asks again when
+    /// the socket can be written, and ten times a second.
     Later,
 }
 
 /// Why an exchange is over.
 #[derive(Clone, Copy, Debug, PartialEq, Eq, Hash)]
 pub enum Cause {
-    /// The request has come, and the response was sent, both whole.
+    /// The request was received and the response sent, both complete.
     Done,
     /// The stream was reset.
     Reset {
         /// The error code (RFC 9113, section 7).
         code: u32,
-        /// Whether this end has reset it.
+        /// Whether this end reset the stream.
         ours: bool,
     },
     /// The connection is over.
     Closed,
 }
 
-/// Answers the requests of one connection. What it keeps of one exchange, a request and its
-/// response, is its `Work`. Its calls do not wait: each answers with what there is.
+/// Answers the requests of one connection. `Work` is what it keeps of one exchange, a request
+/// and its response. Its calls do not wait: each returns what there is.
 ///
-/// What an implementor says of itself is said by relations between the state before a call, what
-/// the call was given, its answer, and the state after it; who says nothing keeps the defaults,
-/// which always hold.
+/// An implementor may state its behaviour by the `ghost` relations between the state before a
+/// call, the arguments, the result, and the state after it. The defaults always hold.
 pub trait Handler: Drop {
-    /// What is kept of one exchange.
+    /// What the handler keeps of one exchange.
     type Work: Drop;
 
-    /// The head of a request may be answered so.
+    /// Relates the head of a request to the results of [`Handler::head`].
     ghost heads: { Self → (head : List Field) → (end : Bool)
         → Result (Self.Work × Reply) HandlerFault → Self → Type 0 } = { λ _ _ _ _ _. ⊤ };
 
-    /// Octets of its body may be answered so.
+    /// Relates octets of a body to the results of [`Handler::body`].
     ghost bodies: { Self → Self.Work → (octets : List ℕ) → (end : Bool)
         → Result Reply HandlerFault → Self.Work → Self → Type 0 } = { λ _ _ _ _ _ _ _. ⊤ };
 
-    /// Its trailers may be answered so.
+    /// Relates trailers to the results of [`Handler::trailers`].
     ghost trails: { Self → Self.Work → (list : List Field) → Result Reply HandlerFault
         → Self.Work → Self → Type 0 } = { λ _ _ _ _ _ _. ⊤ };
 
-    /// This may be given next, from the octets at the front of the room.
+    /// Relates what [`Handler::part`] may return to the octets at the start of `room`.
     ghost gives: { Self → Self.Work → Result Part HandlerFault → (room : List ℕ) → Self.Work
         → Self → Type 0 } = { λ _ _ _ _ _ _. ⊤ };
 
-    /// An exchange may end so.
+    /// Relates the end of an exchange to the state after [`Handler::over`].
     ghost ends: { Self → Self.Work → Cause → Self → Type 0 } = { λ _ _ _ _. ⊤ };
 
-    /// The head of a request has come. With `end` the request is whole.
+    /// Called with the head of a request. `end` says that the request is complete.
     ///
     /// # Errors
     ///
-    /// The request is answered with status 500.
+    /// On an error the response is status 500.
     fn head(
         &mut self,
         alloc: Global,
@@ -127,12 +126,12 @@ pub trait Handler: Drop {
     ) -> Result<(Self::Work, Reply), HandlerFault>
         ensures { heads self.old list.now end result self.new };
 
-    /// Octets of the body of a request have come; there may be none. With `end` the request is
-    /// whole. Where an answer was given already, [`Reply::Later`] lets it stand.
+    /// Called with octets of a request's body, possibly none. `end` says that the request is
+    /// complete. If a response was given already, [`Reply::Later`] keeps it.
     ///
     /// # Errors
     ///
-    /// The request is answered with status 500, or reset where the head of an answer went.
+    /// On an error the response is status 500, or a reset if the head of a response was sent.
     fn body(
         &mut self,
         alloc: Global,
@@ -142,7 +141,7 @@ pub trait Handler: Drop {
     ) -> Result<Reply, HandlerFault>
         ensures { bodies self.old work.old octets.now end result work.new self.new };
 
-    /// The trailers of a request have come: it is whole.
+    /// Called with the trailers of a request, which is then complete.
     ///
     /// # Errors
     ///
@@ -155,13 +154,12 @@ pub trait Handler: Drop {
     ) -> Result<Reply, HandlerFault>
         ensures { trails self.old work.old list.now result work.new self.new };
 
-    /// Puts the next octets of the body of a response in parts to the front of the room, which has
-    /// space for one at least: as many as the windows and the output let through. It is asked only
-    /// of an exchange that was answered with [`Reply::Parts`].
+    /// Writes the next octets of the body to the start of `room`, which has space for at least
+    /// one: as many as the windows and the output allow. Called only after [`Reply::Parts`].
     ///
     /// # Errors
     ///
-    /// The stream is reset with INTERNAL_ERROR.
+    /// On an error the stream is reset with INTERNAL_ERROR.
     fn part(
         &mut self,
         alloc: Global,
@@ -172,14 +170,14 @@ pub trait Handler: Drop {
         ensures length { length room.new ≡ length room.old }
         ensures fits { FitsPart (length room.old) result };
 
-    /// How many octets are kept of an exchange. It is asked after each call with this work.
+    /// Returns how many octets are kept of an exchange. Called after each call with this work.
     fn held(&self, work: &Self::Work) -> usize;
 
-    /// How many octets of the body that has come aren't used yet: so many are not released, and a
-    /// client sends no more than its window. It is asked after each call with this work.
+    /// Returns how many octets of the received body are not used yet. They are not released, so
+    /// a client sends no more than its window. Called after each call with this work.
     fn unused(&self, work: &Self::Work) -> u32;
 
-    /// The exchange is over. It is called once of each that [`Handler::head`] has begun.
+    /// Called once for each exchange that [`Handler::head`] has begun, when it is over.
     fn over(&mut self, work: Self::Work, cause: Cause)
         ensures { ends self.old work cause self.new };
 }

@@ -1,7 +1,8 @@
 //! Handlers of requests, and a server whose requests a handler answers, without input and output.
 //!
 //! A [`Handler`] answers the requests of one connection, part by part; a [`Handled`] drives it.
-//! [`Gather`] is the handler that keeps each request until it is whole, and asks an [`Answerer`].
+//! [`Gather`] is a handler that collects each request until it is complete, and then asks an
+//! [`Answerer`].
 #![tactic(auto)]
 
 mod calls;

@@ -1,4 +1,4 @@
-//! How a part of a response is sent.
+//! Sends a part of a response.
 
 ghost use Rattle.std.specs.Prelude.{◌≡◌, length};
 ghost use Rattle.h2_handlers.specs.Parts.{FitsPart};
@@ -10,11 +10,11 @@ use crate::handler::{HandlerFault, Part};
 use crate::stop::Stop;
 use h2_ends::{Code, Server};
 
-/// Whether the connection goes on once a part was sent, and how far the answer is then.
+/// Whether the connection goes on after a part was sent, and the new stage.
 type Sent = (Result<(), Stop>, Stage);
 
 // rule: handlers (own) What is given as an answer is what its handler gave
-/// Sends a part of a response, which lies in the room.
+/// Sends a part of a response, whose octets are in `room`.
 pub(crate) fn send_part(
     server: &mut Server,
     count: &mut u64,
@@ -39,7 +39,7 @@ pub(crate) fn send_part(
     }
 }
 
-/// Sends octets of a body. All of them go, since there is room for them.
+/// Sends octets of a body. The windows have room for all of them.
 fn send_octets(server: &mut Server, count: &mut u64, id: u32, octets: &[u8], end: bool) -> Sent
     ensures { EndSendsOctets server.old.end id octets.now end result.1 server.new.end }
 {
@@ -55,7 +55,7 @@ fn send_octets(server: &mut Server, count: &mut u64, id: u32, octets: &[u8], end
     }
 }
 
-/// How far an answer is once octets of its body were sent: all of them, or not.
+/// The stage after octets of a body were sent, all of them or not.
 fn stage_sent(all: bool, end: bool) -> Stage
     ensures { result ≡ stage_sent all end }
 {

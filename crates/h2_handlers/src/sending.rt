@@ -1,4 +1,4 @@
-//! What a server with a handler sends in one turn.
+//! What a server with a handler sends in one call.
 
 ghost use Rattle.std.specs.Prelude.{◌≡◌, [], length};
 ghost use Rattle.h2_handlers.specs.Exchanges.{handling_of, relations};
@@ -11,19 +11,19 @@ use crate::parts::send_part;
 use crate::stop::{Stop, stop_of, unless_full};
 use h2_ends::{EndRefusal, Server};
 
-/// So many octets are sent in one turn of a body that was given whole.
+/// The octets sent of each complete body in one call.
 const SHARE: usize = 16_384;
 
 impl<W: Drop, H: Handler<Work = W>> Handled<H, W> {
     // rule (tested): handlers (own) Whole bodies have their share before a part is asked for
-    /// Sends in one turn: gives credit back for what the handler has used, gives the answers that
-    /// waited for the output, sends a share of each body that was given whole, and asks the handler
-    /// for one part of a response. The share goes first: a part may fill the output and use up the
-    /// window of the connection, turn after turn. The room is where a part is put together.
+    /// Sends what can go: returns credit for what the handler has used, sends the responses that
+    /// waited for the output, up to 16,384 octets of each complete body, and then one part asked
+    /// of one handler. Complete bodies go first, since parts could fill the output and the
+    /// connection's window in each call. `room` is scratch space for the part.
     ///
     /// # Errors
     ///
-    /// [`Stop`] says why the connection can't go on.
+    /// [`Stop`] says why the connection cannot go on.
     pub fn send_some(&mut self, room: &mut [u8]) -> Result<(), Stop>
         ensures handles { Handles (relations H.heads H.bodies H.trails H.gives H.ends) []
             self.old.server.end (handling_of self.old.exchanges) self.new.server.end
@@ -41,7 +41,7 @@ impl<W: Drop, H: Handler<Work = W>> Handled<H, W> {
         Ok(())
     }
 
-    /// Gives credit back: all that is owed, but what the handler has not used.
+    /// Returns the credit for all that is owed, except what the handler has not used.
     fn release(&mut self) -> Result<(), Stop>
         ensures { Handles (relations H.heads H.bodies H.trails H.gives H.ends) []
             self.old.server.end (handling_of self.old.exchanges) self.new.server.end
@@ -58,7 +58,7 @@ impl<W: Drop, H: Handler<Work = W>> Handled<H, W> {
         Ok(())
     }
 
-    /// Gives all that is owed back.
+    /// Returns the credit for all that is owed.
     fn release_all(&mut self) -> Result<(), Stop>
         ensures { Handles (relations H.heads H.bodies H.trails H.gives H.ends) []
             self.old.server.end (handling_of self.old.exchanges) self.new.server.end
@@ -68,7 +68,7 @@ impl<W: Drop, H: Handler<Work = W>> Handled<H, W> {
         unless_full(&self.server, released)
     }
 
-    /// Gives back what is owed on a stream, but for what its handler has not used.
+    /// Returns the credit owed on a stream, except for what its handler has not used.
     fn release_used(&mut self, id: u32) -> Result<(), Stop>
         ensures { Handles (relations H.heads H.bodies H.trails H.gives H.ends) []
             self.old.server.end (handling_of self.old.exchanges) self.new.server.end
@@ -86,7 +86,7 @@ impl<W: Drop, H: Handler<Work = W>> Handled<H, W> {
         unless_full(&self.server, released.map_err(EndRefusal::Conn))
     }
 
-    /// Gives the answers that have waited until the output wasn't full, streams in rising order.
+    /// Sends the responses that waited because the output was full, in the order of their streams.
     fn give_waiting(&mut self) -> Result<(), Stop>
         ensures { Handles (relations H.heads H.bodies H.trails H.gives H.ends) []
             self.old.server.end (handling_of self.old.exchanges) self.new.server.end
@@ -105,7 +105,7 @@ impl<W: Drop, H: Handler<Work = W>> Handled<H, W> {
         Ok(())
     }
 
-    /// Whether the answer on a stream waits for the output.
+    /// Whether the response on a stream waits for the output.
     fn has_waiting(&self, id: u32) -> bool {
         let Some(exchange) = self.exchanges.kept.get(id) else {
             return false;
@@ -116,9 +116,8 @@ impl<W: Drop, H: Handler<Work = W>> Handled<H, W> {
         )
     }
 
-    /// The stream whose handler is asked next for a part, and for how many octets: the next after
-    /// the one that was asked last, or else the first, of those that may send. None is asked where
-    /// the output is full.
+    /// The stream whose handler is asked next for a part, and for how many octets: the next one
+    /// after the last asked, or else the first. None if the output is full.
     pub(crate) fn next_asked(&self) -> Option<(u32, usize)> {
         if self.server.is_full() {
             return None;
@@ -143,8 +142,8 @@ impl<W: Drop, H: Handler<Work = W>> Handled<H, W> {
         None
     }
 
-    /// How many octets a handler may be asked for: what both windows let through; none where it is
-    /// not to be asked.
+    /// The number of octets a handler may be asked for: what both windows allow; 0 if it is not
+    /// asked.
     fn room_to_ask(&self, id: u32) -> usize {
         match self.exchanges.kept.get(id) {
             Some(exchange) if matches!(&exchange.stage, Stage::Parts { later: false }) => {
@@ -154,7 +153,7 @@ impl<W: Drop, H: Handler<Work = W>> Handled<H, W> {
         }
     }
 
-    /// Asks the handler for one part of one response, if there is one that may send.
+    /// Asks the handler for one part of one response, if some stream can send.
     fn ask(&mut self, room: &mut [u8]) -> Result<(), Stop>
         ensures handles { Handles (relations H.heads H.bodies H.trails H.gives H.ends) []
             self.old.server.end (handling_of self.old.exchanges) self.new.server.end
@@ -186,7 +185,7 @@ impl<W: Drop, H: Handler<Work = W>> Handled<H, W> {
         result
     }
 
-    /// Sends a share of each body that was given whole.
+    /// Sends up to [`SHARE`] octets of each complete body.
     fn pump(&mut self) -> Result<(), Stop>
         ensures { Handles (relations H.heads H.bodies H.trails H.gives H.ends) []
             self.old.server.end (handling_of self.old.exchanges) self.new.server.end
@@ -205,7 +204,8 @@ impl<W: Drop, H: Handler<Work = W>> Handled<H, W> {
         }
     }
 
-    /// Ends the exchanges whose answers were sent whole, and whose requests have come whole.
+    /// Ends the exchanges whose requests were received and whose responses were sent, both
+    /// complete.
     fn settle(&mut self)
         ensures { Handles (relations H.heads H.bodies H.trails H.gives H.ends) []
             self.old.server.end (handling_of self.old.exchanges) self.new.server.end
@@ -218,7 +218,8 @@ impl<W: Drop, H: Handler<Work = W>> Handled<H, W> {
         }
     }
 
-    /// Lets a handler be asked again that had no part.
+    /// Asks again the handlers that returned [`Part::Later`](crate::Part::Later), at the next
+    /// [`Handled::send_some`].
     pub fn ask_again(&mut self)
         ensures { Handles (relations H.heads H.bodies H.trails H.gives H.ends) []
             self.old.server.end (handling_of self.old.exchanges) self.new.server.end
@@ -242,7 +243,7 @@ impl<W: Drop, H: Handler<Work = W>> Handled<H, W> {
         }
     }
 
-    /// Whether an answer waits: for a window, for the output, or for its handler.
+    /// Whether a response waits: for a window, for the output, or for its handler.
     pub fn is_answering(&self) -> bool {
         let mut above = 0u32;
         while let Some(id) = self.exchanges.kept.next_above(above) {
@@ -254,7 +255,7 @@ impl<W: Drop, H: Handler<Work = W>> Handled<H, W> {
         false
     }
 
-    /// Whether an answer was given to an exchange.
+    /// Whether an exchange has a response.
     fn has_answer(&self, id: u32) -> bool {
         match self.exchanges.kept.get(id) {
             Some(exchange) => !matches!(&exchange.stage, Stage::Asked),
@@ -263,7 +264,7 @@ impl<W: Drop, H: Handler<Work = W>> Handled<H, W> {
     }
 }
 
-/// How many octets may go on a stream: what both windows let through.
+/// The number of octets that both windows allow on a stream.
 fn room_on(server: &Server, id: u32) -> usize {
     let own = server.conn().room(id).unwrap_or(0);
     let all = server.conn().room(0).unwrap_or(0);

@@ -1,12 +1,12 @@
-//! Why a connection with a handler can't go on.
+//! Why a connection with a handler cannot go on.
 
 use h2_ends::{Code, EndRefusal, Refusal, Server};
 use std::alloc::AllocError;
 
-/// Why a connection can't go on.
+/// Why a connection cannot go on.
 #[derive(Clone, Copy, Debug, PartialEq, Eq)]
 pub enum Stop {
-    /// It has failed with this code, and its GOAWAY waits.
+    /// The connection failed with this code; its GOAWAY is queued.
     Failed(Code),
     /// An allocation was refused; the connection is up.
     Memory,
@@ -25,7 +25,7 @@ impl From<AllocError> for Stop {
     }
 }
 
-/// Why a call was refused that nothing else refuses: the connection has failed.
+/// The reason for a call that can only be refused if the connection has failed.
 pub(crate) fn stop_of(server: &Server) -> Stop {
     match server.conn().failed() {
         Some(code) => Stop::Failed(code),
@@ -33,7 +33,7 @@ pub(crate) fn stop_of(server: &Server) -> Stop {
     }
 }
 
-/// What a call of the server has answered, where a full output is no reason to stop.
+/// The result of a call of the server; a full output is no reason to stop.
 pub(crate) fn unless_full(server: &Server, answer: Result<(), EndRefusal>) -> Result<(), Stop> {
     match answer {
         Ok(()) | Err(EndRefusal::Conn(Refusal::OutputFull)) => Ok(()),

@@ -1,4 +1,4 @@
-//! A host: many connections, each with its turn. It has no clock and no socket.
+//! A host: many connections that take turns. It has no clock and no socket.
 
 ghost use Rattle.std.specs.Prelude.{◌≡◌, ◌==◌, ◌≤◌, ◌^◌, length, min, true, IfOk, OnErr};
 
@@ -17,52 +17,52 @@ use std::marker::Model;
 pub enum Step<P> {
     /// A connection was opened.
     Opened {
-        /// It.
+        /// The connection.
         party: P,
     },
-    /// A step of one connection, that is not time.
+    /// A step of one connection, other than `Passed`.
     Own {
-        /// Which.
+        /// Its token.
         token: Token,
         /// The step.
         own: Own,
     },
-    /// Time has passed, for all of them.
+    /// Time has passed for all connections.
     Passed {
         /// The time, in milliseconds.
         now: u64,
     },
-    /// A transport was closed.
+    /// The transport of a connection was closed.
     Closed {
-        /// Of which connection.
+        /// The connection's token.
         token: Token,
     },
-    /// The turn that was given is over, and the next one begins.
+    /// The current turn ends, and the next one begins.
     NextTurn,
 }
 
-/// What a host answers to a step.
+/// The reply of a host to a step.
 #[derive(Drop)]
 pub enum Reply<P> {
     /// The connection has this token.
     Opened(Token),
-    /// There is no place for it, no memory for one, or it holds too much: it is handed back.
+    /// There is no place or no memory for the connection, or it holds too much: it is handed back.
     Full(P),
-    /// What the connection answers.
+    /// The answer of the connection.
     Own(Answer),
-    /// The token isn't of now: nothing has changed.
+    /// The token names no open connection: nothing has changed.
     Stale,
-    /// It isn't its turn, or it has had what a turn lets it: nothing has changed.
+    /// It is not the connection's turn, or the turn is used up: nothing has changed.
     NotNow,
-    /// Each connection has seen the time.
+    /// Each connection was told the time.
     Passed,
     /// The place is free.
     Closed,
-    /// The connection that has the turn, or none where none is ready.
+    /// The connection that has the turn, or `None` if no connection is ready.
     Turn(Option<Token>),
 }
 
-/// A step with the octets that came, which are of meaning where that is the step.
+/// A step, and the octets received if it is [`Own::Came`].
 #[derive(Drop)]
 pub struct Made<P> {
     /// The step.
@@ -71,7 +71,8 @@ pub struct Made<P> {
     pub octets: Vec<u8>,
 }
 
-/// Many connections, in one thread, in turns: all that are ready have one before any has a second.
+/// Many connections in one thread that take turns: each ready connection has one before any has
+/// a second.
 #[derive(Drop)]
 pub struct Host<P: Party> {
     state: HostState<P>,
@@ -98,11 +99,11 @@ impl<P: Party> Host<P> {
     ghost use Rattle.h2_host.specs.Steps.{AnswersStep, GivesTurn};
     ghost use Rattle.h2_host.specs.Tokens.{IsPartyOf, connections_at};
 
-    /// A host without connections.
+    /// Creates a host without connections.
     ///
     /// # Errors
     ///
-    /// [`AllocError`] where an allocation was refused.
+    /// [`AllocError`] if an allocation was refused.
     pub fn new(alloc: Global, limits: Limits) -> Result<Host<P>, AllocError>
         ensures { IfOk result (λ host. host.table.slots.items ≡ []) }
     {
@@ -123,21 +124,21 @@ impl<P: Party> Host<P> {
         })
     }
 
-    /// How many connections there are.
+    /// Returns the number of connections.
     pub fn len(&self) -> usize
         ensures { result ≡ connections_at self.now.table.slots.items }
     {
         self.state.table.count
     }
 
-    /// Whether there are none.
+    /// Whether there are no connections.
     pub fn is_empty(&self) -> bool
         ensures { result ≡ (connections_at self.now.table.slots.items == 0) }
     {
         self.state.table.count == 0
     }
 
-    /// Whether no place is free: no connection is to be accepted then.
+    /// Whether no place is free, so that no connection can be accepted.
     pub fn is_full(&self) -> bool
         ensures { result ≡ true
             → min self.now.limits.connections (2 ^ 20) ≤ length self.now.table.slots.items }
@@ -145,7 +146,7 @@ impl<P: Party> Host<P> {
         self.state.table.is_full(self.state.limits.connections)
     }
 
-    /// How many octets all connections hold.
+    /// Returns the octets that all connections hold.
     pub fn held(&self) -> usize
         ensures sum { result ≡ held_in_all P.held_of self.now.table.slots.items }
         ensures within { result ≤ self.now.limits.held_in_all }
@@ -153,14 +154,14 @@ impl<P: Party> Host<P> {
         self.state.held as usize
     }
 
-    /// The time, in milliseconds: the latest that has passed.
+    /// Returns the latest time that has passed, in milliseconds.
     pub fn now(&self) -> u64
         ensures { result ≡ self.now.time }
     {
         self.state.time
     }
 
-    /// How many places are in the queue of turns.
+    /// Returns the number of places that wait for a turn.
     pub fn waiting(&self) -> usize
         ensures { result ≡ length self.now.queue.items }
     {
@@ -169,7 +170,7 @@ impl<P: Party> Host<P> {
 
     // contract: hosts (own) Who holds most is refused until all hold what they may
     // contract: hosts (own) Each connection sees each time that passes, once
-    /// Makes a step. The octets are those that came, where that is the step.
+    /// Makes a step. `octets` are those received, if the step is [`Own::Came`].
     pub fn step(&mut self, step: Step<P>, octets: &[u8]) -> Reply<P>
         ensures answers { AnswersStep P.steps P.held_of P.ready_of self.old self.new step octets.now
             result }
@@ -178,8 +179,8 @@ impl<P: Party> Host<P> {
         self.state.step(step, octets)
     }
 
-    /// Ends the turn that was given, and gives the next one: the connection that has it, or none
-    /// where none is ready.
+    /// Ends the current turn and gives the next one. Returns the connection that has it, or
+    /// `None` if none is ready.
     pub fn next_turn(&mut self) -> Option<Token>
         ensures turn { GivesTurn P.ready_of self.old self.new result }
         ensures sound { IsSoundHost P.held_of P.ready_of self.new }
@@ -189,11 +190,11 @@ impl<P: Party> Host<P> {
 
     // rule: hosts (own) A run makes its steps one after another
     // contract: hosts (own) A run makes its steps one after another
-    /// Makes steps, one after another, and answers what each was answered.
+    /// Makes steps one after another, and returns the reply to each.
     ///
     /// # Errors
     ///
-    /// [`AllocError`] where memory for the answers was refused: no step was made.
+    /// [`AllocError`] if memory for the replies was refused: no step was made.
     pub fn run(
         &mut self,
         alloc: Global,
@@ -211,7 +212,7 @@ impl<P: Party> Host<P> {
         Ok(replies)
     }
 
-    /// Whether the connection whose turn it is takes octets, and none have come in this turn.
+    /// Whether the connection has the turn, takes input, and has received none in this turn.
     // rule: hosts (own) Who has the turn takes octets once, if it takes any
     // contract: hosts (own) Who has the turn takes octets once, if it takes any
     pub fn wants_input(&self, token: Token) -> bool
@@ -229,9 +230,9 @@ impl<P: Party> Host<P> {
 
     // rule: hosts (own) Who has the turn gives its own output, and nobody else any
     // contract: hosts (own) Who has the turn gives its own output, and nobody else any
-    /// The first two parts of the output that waits of the connection whose turn it is: in all at
-    /// most so many octets as are left of [`MOST_GIVEN`]. Where any waits and any is left, the first
-    /// has octets. Nothing of any other connection.
+    /// Returns the first two parts of the output of the connection that has the turn, together
+    /// at most what is left of [`MOST_GIVEN`]. If output is queued and something is left, the
+    /// first part is not empty. For any other connection both are empty.
     pub fn output(&self, token: Token) -> (&[u8], &[u8])
         ensures { LendsInTurn P.output_of self.now token result.0.now result.1.now }
     {
@@ -248,7 +249,7 @@ impl<P: Party> Host<P> {
         (first, &second[..second.len().min(left)])
     }
 
-    /// A connection; none where the token isn't of now.
+    /// Returns a connection, or `None` if the token names no open one.
     pub fn party(&self, token: Token) -> Option<&P>
         ensures { IsPartyOf self.now.table.slots.items token (option_copied result) }
     {

@@ -1,4 +1,4 @@
-//! Laws of hosts, over steps that were made one after another.
+//! Laws of hosts over sequences of steps.
 
 ghost use Rattle.std.specs.Prelude.{◌≡◌, ◌≢◌, ◌≤◌, List, Option, Some};
 ghost use Rattle.h2_host.specs.declared.host.Made.{Made};
@@ -17,9 +17,8 @@ ghost use Rattle.h2_host.specs.Turns.{most_given, most_taken};
 use crate::party::Party;
 
 // contract: hosts (own) A connection is what its own steps make of it
-/// Whatever happens at the places of a host, each connection that was there and is there still is
-/// what its own moves make of it, one after another, with nothing beside it: and any steps of a
-/// host are such happenings.
+/// Each connection that stays open is the result of its own steps alone, one after another,
+/// whatever happens to the others.
 pub fn connections_run_alone<P: Party>()
     ensures alone { (old new : List (Slot P)) (moves : List MoveOf)
         → HappensAt P.steps new old moves → RunsAlone P.steps old new moves }
@@ -29,7 +28,7 @@ pub fn connections_run_alone<P: Party>()
 {}
 
 // contract: hosts (own) No token is given twice, and an old one changes nothing
-/// No token is given twice, and none that was given before.
+/// No token is given twice.
 pub fn tokens_are_new<P: Party>()
     ensures { (old new : HostState P) (made : List (Made P)) (replies : List (Reply P))
         → IsRun P.steps P.held_of P.ready_of old new made replies
@@ -37,8 +36,8 @@ pub fn tokens_are_new<P: Party>()
 {}
 
 // contract: hosts (own) All that are ready have a turn before any has a second
-/// Once a connection has got its turn, each other that is ready and stays so gets one before that
-/// one gets a second: all that are ready have one before any has a second.
+/// Once a connection has its turn, each other that is and stays ready has one before that
+/// connection has a second.
 pub fn ready_ones_go_first<P: Party>()
     ensures { (before old new : HostState P) (made : List (Made P)) (replies : List (Reply P))
         (first other : Token) → IsSoundHost P.held_of P.ready_of old
@@ -48,7 +47,7 @@ pub fn ready_ones_go_first<P: Party>()
 {}
 
 // contract: hosts (own) A turn takes 16,384 octets and gives 65,536 at most
-/// In one turn at most 16,384 octets are taken and at most 65,536 given, in all of its steps.
+/// In one turn at most 16,384 octets are taken and at most 65,536 given, in all steps together.
 pub fn turns_are_bounded<P: Party>()
     ensures taken { (old new : HostState P) (made : List (Made P)) (replies : List (Reply P))
         → IsRun P.steps P.held_of P.ready_of old new made replies → WithinOneTurn made

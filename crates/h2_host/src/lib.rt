@@ -1,14 +1,12 @@
-//! A host: many connections in one thread, each with its turn, without clock and socket.
+//! A host: many connections in one thread that take turns, without clock and socket.
 //!
-//! It knows nothing of what its connections speak: a connection is a [`Party`], which takes octets,
-//! gives octets and says how many it holds. A [`Host`] keeps many of them apart, names each by a
-//! [`Token`] that is never given again, gives them turns in order, and refuses those that hold more
-//! than they may.
+//! A host knows nothing of the protocol: a connection is a [`Party`], which takes octets, gives
+//! octets and says how many it holds. A [`Host`] keeps many of them, names each by a [`Token`] that
+//! is never given again, gives them turns in order, and refuses those that hold more than they may.
 //!
-//! The loop of a driver: wait until transports are ready, and time passes; say so by
-//! [`Host::step`]; and then, as long as [`Host::next_turn`] names a connection, read what it takes
-//! ([`Host::wants_input`]), give it its octets and its turn, and write what it has
-//! ([`Host::output`]).
+//! The loop of a driver: wait for transports and time, and report both by [`Host::step`]; then, as
+//! long as [`Host::next_turn`] names a connection, read what it takes ([`Host::wants_input`]), give
+//! it its octets and its turn, and write its output ([`Host::output`]).
 #![tactic(auto)]
 
 mod host;

@@ -1,13 +1,13 @@
-//! The bounds of a host.
+//! The limits of a host.
 
-/// How many connections a host has, and how many octets they hold, at most.
+/// The maximum number of connections of a host, and of octets that they hold.
 #[derive(Clone, Copy, Debug, PartialEq, Eq)]
 pub struct Limits {
-    /// How many connections, at most; no more than [`MOST_PLACES`](crate::MOST_PLACES) in any case.
+    /// The maximum number of connections, never above [`MOST_PLACES`](crate::MOST_PLACES).
     pub connections: usize,
-    /// How many octets one connection holds, at most.
+    /// The maximum number of octets that one connection holds.
     pub held: usize,
-    /// How many octets all of them hold, at most.
+    /// The maximum number of octets that all connections hold.
     pub held_in_all: usize,
 }
 

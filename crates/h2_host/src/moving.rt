@@ -1,4 +1,4 @@
-//! Steps of one connection, and the bounds after each.
+//! Steps of one connection, and the limits after each.
 
 ghost use Rattle.std.specs.Prelude.{◌≡◌, ◌<◌, ◌≤◌, ◌^◌, ◌++◌, length, ⊤, MatchOption};
 ghost use Rattle.std.specs.VecDeque.{deque_capacity, deque_len};
@@ -17,7 +17,7 @@ use crate::token::Token;
 use std::collections::VecDeque;
 
 // rule: hosts (own) All that are ready have a turn before any has a second
-/// Puts a place into the queue where its connection is ready and it isn't there.
+/// Queues a place if its connection is ready and it is not queued.
 pub(crate) fn queue_slot<P: Party>(slot: &mut Slot<P>, queue: &mut VecDeque<u32>, place: u32)
     requires { HasSpace P.ready_of slot.old (deque_len queue.old) (deque_capacity queue.old) }
     ensures slot { slot.new ≡ slot_queued P.ready_of slot.old }
@@ -35,8 +35,8 @@ pub(crate) fn queue_slot<P: Party>(slot: &mut Slot<P>, queue: &mut VecDeque<u32>
 }
 
 impl<P: Party> HostState<P> {
-    /// Makes a step of one connection, and then refuses it where it holds more than one may, and
-    /// others where all hold more than they may.
+    /// Makes a step of one connection. Then refuses that one if it holds more than one may, and
+    /// others as long as all hold more than they may.
     pub(crate) fn make(&mut self, token: Token, own: Own, octets: &[u8]) -> Option<Answer>
         requires now { IsNow self.old.table.slots.items token }
         requires sound { IsSoundHost P.held_of P.ready_of self.old }
@@ -51,8 +51,7 @@ impl<P: Party> HostState<P> {
     }
 
     // rule: hosts (own) A connection is what its own steps make of it
-    /// Makes a step of one connection, counts what it holds then, and puts it into the queue where
-    /// it is ready.
+    /// Makes a step of one connection, recounts what it holds, and queues it if it is ready.
     fn make_one(&mut self, token: Token, own: Own, octets: &[u8]) -> Option<Answer>
         requires now { IsNow self.old.table.slots.items token }
         requires steady { IsSteady P.held_of P.ready_of self.old }
@@ -72,7 +71,7 @@ impl<P: Party> HostState<P> {
         Some(answer)
     }
 
-    /// Refuses a connection where it holds more than one may.
+    /// Refuses a connection if it holds more than one may.
     fn fit_one(&mut self, token: Token)
         requires now { IsNow self.old.table.slots.items token }
         requires steady { IsSteady P.held_of P.ready_of self.old }
@@ -96,7 +95,7 @@ impl<P: Party> HostState<P> {
 
     // rule: hosts (own) Who holds most is refused until all hold what they may
     /// Refuses the connection that holds most, of equal ones that of the lowest place, until all
-    /// hold no more than they may.
+    /// together hold no more than they may.
     fn fit_all(&mut self)
         requires steady { IsSteady P.held_of P.ready_of self.old }
         requires few { self.old.held < 2 ^ 66 }
@@ -115,7 +114,7 @@ impl<P: Party> HostState<P> {
         }
     }
 
-    /// The connection that holds most, where some holds something.
+    /// The connection that holds most.
     fn greatest_holder(&self) -> Option<Token>
         requires steady { IsSteady P.held_of P.ready_of self.now }
         requires some { 0 < self.now.held }
@@ -134,7 +133,7 @@ impl<P: Party> HostState<P> {
         self.token_at(greatest)
     }
 
-    /// How many octets the connection at a place holds.
+    /// The octets that the connection at a place holds.
     fn held_at(&self, place: usize) -> usize
         ensures { HoldsAt P.held_of self.now.table.slots.items place result }
     {

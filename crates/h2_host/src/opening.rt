@@ -1,4 +1,4 @@
-//! Connections that are opened, and places that become free.
+//! Opens connections, and frees their places.
 
 ghost use Rattle.h2_host.specs.Sound.{IsSoundHost};
 ghost use Rattle.h2_host.specs.Steps.{AnswersClosing, AnswersOpening};
@@ -10,7 +10,7 @@ use crate::state::HostState;
 use crate::token::Token;
 
 impl<P: Party> HostState<P> {
-    /// Opens a connection: it gets the place that was freed last, or a new one.
+    /// Opens a connection at the place that was freed last, or at a new one.
     pub(crate) fn open(&mut self, party: P) -> Reply<P>
         requires { IsSoundHost P.held_of P.ready_of self.old }
         ensures answers { AnswersOpening P.steps self.old self.new party result }

@@ -8,23 +8,23 @@ ghost use Rattle.h2_host.specs.Tokens.{AreFree, HasNext, IsAt, IsNow, connection
 use crate::token::{MOST_PLACES, Token};
 use std::alloc::{AllocError, Global};
 
-/// A place: the connection that has it, if one has, and how many have had it before.
+/// A place: its connection, if it has one, and how many had it before.
 #[derive(Drop)]
 pub(crate) struct Slot<P> {
     pub(crate) generation: u32,
     pub(crate) party: Option<P>,
-    /// Whether it is in the queue of turns. It stays there as connections leave and come.
+    /// Whether it is in the queue of turns, where it stays as connections come and go.
     pub(crate) queued: bool,
 }
 
-/// The places of a host. A place that is free again is given with the next generation; one whose
-/// generations are used up is not given any more.
+/// The places of a host. A place that is free again is given with the next generation; after its
+/// last generation a place is no longer given.
 #[derive(Drop)]
 pub(crate) struct Table<P> {
     pub(crate) slots: Vec<Slot<P>>,
-    /// The free places, the last of which is given next.
+    /// The free places; the last is given next.
     free: Vec<u32>,
-    /// How many places are taken.
+    /// The number of places taken.
     pub(crate) count: usize,
     ghost free_ones: { AreFree slots.items free.items },
     ghost next_ones: { HasNext slots.items },
@@ -33,7 +33,7 @@ pub(crate) struct Table<P> {
 }
 
 impl<P: Drop> Table<P> {
-    /// A table without places.
+    /// Creates a table without places.
     pub(crate) fn new(alloc: Global) -> Table<P>
         ensures { result.slots.items ≡ [] }
     {
@@ -44,18 +44,18 @@ impl<P: Drop> Table<P> {
         }
     }
 
-    /// Whether no place is free, where there may be so many.
+    /// Whether no place is free and there are `most` or more.
     pub(crate) fn is_full(&self, most: usize) -> bool
         ensures { result ≡ true → min most (2 ^ 20) ≤ length self.now.slots.items }
     {
         self.free.is_empty() && self.slots.len() >= most.min(MOST_PLACES)
     }
 
-    /// Makes a place free, where there is none.
+    /// Adds a free place, if there is none.
     ///
     /// # Errors
     ///
-    /// [`AllocError`] where an allocation was refused, and where there may be no more places.
+    /// [`AllocError`] if an allocation was refused, or there may be no more places.
     pub(crate) fn make_place(&mut self, most: usize) -> Result<(), AllocError>
         ensures { MakesPlace self.old.slots.items self.new.slots.items most }
     {
@@ -70,7 +70,7 @@ impl<P: Drop> Table<P> {
         let Ok(place) = u32::try_from(count) else {
             return Err(AllocError);
         };
-        // Each place can be free, without memory.
+        // Then freeing a place needs no memory.
         let places = count.saturating_add(1);
         self.free.reserve(places)?;
         self.slots.push(Slot {
@@ -83,7 +83,7 @@ impl<P: Drop> Table<P> {
     }
 
     // rule: hosts (own) No token is given twice, and an old one changes nothing
-    /// Takes the free place that is given next; or hands the party back where none is free.
+    /// Gives the next free place to a party, or hands the party back if none is free.
     pub(crate) fn take_place(&mut self, party: P) -> Result<Token, P>
         ensures ok { IfOk result (λ token. TakesPlace self.old.slots.items
             self.new.slots.items token party) }
@@ -104,7 +104,7 @@ impl<P: Drop> Table<P> {
         })
     }
 
-    /// Whether a token is of now.
+    /// Whether a token names an open connection.
     pub(crate) fn is_now(&self, token: Token) -> bool
         ensures { (result ≡ true) ↔ IsNow self.now.slots.items token }
     {
@@ -114,7 +114,7 @@ impl<P: Drop> Table<P> {
         }
     }
 
-    /// Frees a place, and answers the party that had it; none where the token isn't of now.
+    /// Frees a place, and returns its party; none if the token names no open connection.
     pub(crate) fn leave_place(&mut self, token: Token) -> Option<P>
         ensures { MatchOption result
             ((IsNow self.old.slots.items token → ⊥) × (self.new ≡ self.old))
@@ -128,7 +128,7 @@ impl<P: Drop> Table<P> {
         self.count = self.count.saturating_sub(1);
         slot.generation = slot.generation.saturating_add(1);
         if slot.generation < u32::MAX {
-            // There is room for each place.
+            // The list has room for each place.
             let _ = self.free.push(token.place);
         }
         Some(party)

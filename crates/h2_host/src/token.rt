@@ -1,23 +1,23 @@
-//! Tokens: which connection of a host is meant.
+//! Tokens, which name the connections of a host.
 
 ghost use Rattle.std.specs.Prelude.{◌≡◌};
 ghost use Rattle.h2_host.specs.Tokens.{token_number};
 
-/// So many places a host may have, at most: 2^20.
+/// The maximum number of places of a host: 2^20.
 pub const MOST_PLACES: usize = 1_048_576;
 
-/// A connection of a host: its place, and how often that was given before. No token is given
-/// twice, so one that is used late names nothing.
+/// The name of a connection of a host: its place, and how often that was given before. No token
+/// is given twice, so a stale token names nothing.
 #[derive(Clone, Copy, Debug, PartialEq, Eq, PartialOrd, Ord, Hash)]
 pub struct Token {
     /// The place, below [`MOST_PLACES`].
     pub place: u32,
-    /// How many connections have had the place before.
+    /// The number of connections that had the place before.
     pub generation: u32,
 }
 
 impl Token {
-    /// The token as one number of 64 bits, the generation above the place: for a poll that names a
+    /// Returns the token as a number, the generation above the place, for a poll that names a
     /// transport by a number.
     pub fn to_number(self) -> u64
         ensures { result ≡ token_number self }
@@ -25,7 +25,7 @@ impl Token {
         u64::from(self.generation) * 4_294_967_296 + u64::from(self.place)
     }
 
-    /// The token of a number that [`Token::to_number`] gave.
+    /// Returns the token of a number that [`Token::to_number`] returned.
     pub fn from_number(number: u64) -> Token
         ensures { token_number result ≡ number }
     {

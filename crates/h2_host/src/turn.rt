@@ -1,4 +1,4 @@
-//! Turns: what one lets a connection do.
+//! Turns, and what a connection may do in one.
 
 ghost use Rattle.std.specs.Prelude.{◌≡◌};
 ghost use Rattle.h2_host.specs.Turns.{counted_in, has_turn, is_time, needs_turn, turn_left};
@@ -7,27 +7,27 @@ ghost use Rattle.h2_host.specs.Turns.{turn_of};
 use crate::party::Own;
 use crate::token::Token;
 
-/// So many octets are taken in a turn, at most.
+/// The maximum number of octets taken in a turn.
 pub const MOST_TAKEN: usize = 16_384;
 
-/// So many octets are given in a turn, at most.
+/// The maximum number of octets given in a turn.
 pub const MOST_GIVEN: usize = 65_536;
 
-/// Whose turn it is, and what it has had of it.
+/// Whose turn it is, and what was used of it.
 #[derive(Clone, Copy, Debug)]
 pub struct Turn {
-    /// Whose it is; none, where nobody has one.
+    /// Whose turn it is, if anyone's.
     pub(crate) token: Option<Token>,
-    /// Whether octets have come in it.
+    /// Whether octets were received in it.
     pub(crate) came: bool,
     /// Whether the connection has acted in it.
     pub(crate) asked: bool,
-    /// How many octets went in it.
+    /// The octets written in it.
     pub(crate) gave: usize,
 }
 
 impl Turn {
-    /// A turn that begins.
+    /// A new turn.
     pub(crate) fn of(token: Option<Token>) -> Turn
         ensures { result ≡ turn_of token }
     {
@@ -49,7 +49,7 @@ impl Turn {
         }
     }
 
-    /// What is left of it after a step of a connection; none where the step may not be made now.
+    /// The turn after a step of a connection; none if the step is not allowed now.
     pub(crate) fn after(self, token: Token, own: Own, octets: usize) -> Option<Turn>
         ensures { result ≡ turn_left self token own octets }
     {
@@ -67,7 +67,7 @@ impl Turn {
     }
 
     // rule: hosts (own) A turn takes 16,384 octets and gives 65,536 at most
-    /// What is left of it after a step of the connection that has it.
+    /// The turn after a step of the connection that has it.
     fn counted(self, own: Own, octets: usize) -> Option<Turn>
         ensures { result ≡ counted_in self own octets }
     {
@@ -98,14 +98,14 @@ impl Turn {
     }
 }
 
-/// Whether a step is time that passes.
+/// Whether a step is `Passed`.
 fn is_time_step(own: Own) -> bool
     ensures { result ≡ is_time own }
 {
     matches!(own, Own::Passed { .. })
 }
 
-/// Whether a step needs the turn of its connection.
+/// Whether a step needs the turn.
 fn is_of_turn(own: Own) -> bool
     ensures { result ≡ needs_turn own }
 {

@@ -1,4 +1,4 @@
-//! Turns: who is next, and what one connection may do.
+//! Gives turns, and makes steps.
 
 ghost use Rattle.std.specs.Prelude.{◌≡◌, None, MatchOption};
 ghost use Rattle.h2_host.specs.Queueing.{EndsTurn, FindsFirst, HasPlaceSpace, HasReady};
@@ -30,7 +30,7 @@ impl<P: Party> HostState<P> {
         }
     }
 
-    /// Makes a step of one connection, where its token is of now and the turns allow it.
+    /// Makes a step of one connection, if its token names an open one and the turn allows it.
     pub(crate) fn step_of(&mut self, token: Token, own: Own, octets: &[u8]) -> Reply<P>
         requires { IsSoundHost P.held_of P.ready_of self.old }
         ensures answers { AnswersOwn P.steps P.held_of self.old self.new token own octets.now
@@ -51,7 +51,7 @@ impl<P: Party> HostState<P> {
     }
 
     // rule: hosts (own) Each connection sees each time that passes, once
-    /// Lets each connection see the time, which never falls.
+    /// Tells each connection the time, which never decreases.
     pub(crate) fn pass(&mut self, now: u64) -> Reply<P>
         requires { IsSoundHost P.held_of P.ready_of self.old }
         ensures answers { AnswersTime P.steps self.old self.new now result }
@@ -67,7 +67,7 @@ impl<P: Party> HostState<P> {
         Reply::Passed
     }
 
-    /// Gives the turn to the first of the queue that is ready, or to nobody.
+    /// Gives the turn to the first ready connection in the queue, if there is one.
     pub(crate) fn give_turn(&mut self) -> Option<Token>
         requires { IsSoundHost P.held_of P.ready_of self.old }
         ensures turn { GivesTurn P.ready_of self.old self.new result }
@@ -77,8 +77,7 @@ impl<P: Party> HostState<P> {
         self.first_ready()
     }
 
-    /// Ends the turn: the connection that had it comes to the end of the queue, where it is ready
-    /// and doesn't wait there.
+    /// Ends the turn: its connection goes to the end of the queue, if it is ready and not queued.
     fn end_turn(&mut self)
         requires { IsSoundHost P.held_of P.ready_of self.old }
         ensures ends { EndsTurn self.old self.new }
@@ -91,8 +90,8 @@ impl<P: Party> HostState<P> {
         self.turn = Turn::of(None);
     }
 
-    /// Takes places from the queue up to the first whose connection is ready, and gives that the
-    /// turn.
+    /// Takes places from the queue up to the first whose connection is ready, and gives that one
+    /// the turn.
     fn first_ready(&mut self) -> Option<Token>
         requires none { self.old.turn.token ≡ None }
         requires sound { IsSoundHost P.held_of P.ready_of self.old }
@@ -125,7 +124,7 @@ impl<P: Party> HostState<P> {
         Some(place)
     }
 
-    /// The token of the connection at a place, where it is ready.
+    /// The token of the connection at a place, if it is ready.
     fn ready_at(&self, place: u32) -> Option<Token>
         ensures { HasReady P.ready_of self.now.table.slots.items place result }
     {
@@ -139,7 +138,7 @@ impl<P: Party> HostState<P> {
         }
     }
 
-    /// Puts a place into the queue where its connection is ready and it isn't there.
+    /// Queues a place if its connection is ready and it is not queued.
     pub(crate) fn queue_place(&mut self, place: u32)
         requires { HasPlaceSpace P.ready_of self.old place }
         ensures { QueuesPlace P.ready_of self.old self.new place }

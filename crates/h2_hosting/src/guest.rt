@@ -1,4 +1,4 @@
-//! A connection that ends in order once its host is asked to end.
+//! A connection that shuts down gracefully once its host is asked to end.
 
 ghost use Rattle.std.specs.Prelude.{◌≡◌, ⊤, IfOk, false, true};
 ghost use Rattle.h2_hosting.specs.Guests.{IsTimeStep};
@@ -9,12 +9,12 @@ use h2_seat::Seat;
 use std::alloc::{AllocError, Global};
 use std::cell::Cell;
 
-/// A connection that can be asked to end in order.
+/// A connection that can be asked to shut down gracefully.
 pub trait Leaves {
-    /// Asked to end in order in the first state, it may be in the second one.
+    /// Relates the states before and after [`Leaves::leave`].
     ghost leaves: { Self → Self → Type 0 } = { λ _ _. ⊤ };
 
-    /// It begins to end in order: what was asked is answered still.
+    /// Begins a graceful shutdown: pending requests are still answered.
     fn leave(&mut self)
         ensures { leaves self.old self.new };
 }
@@ -31,23 +31,23 @@ impl<W: Drop, H: Handler<Work = W>> Leaves for Seat<H, W> {
     }
 }
 
-/// A connection that leaves, at the next time that it sees, once all are to.
+/// A connection that shuts down at the next tick of its host's clock once `leaving` is set.
 #[derive(Drop)]
 pub struct Guest<'a, P> {
-    /// The connection. It is in a box, since a host moves what it has many of at each step.
+    /// The connection, in a box, since a host moves its connections at each step.
     party: Box<P>,
-    /// Whether all are to leave.
+    /// Whether all connections are to shut down.
     leaving: &'a Cell<bool>,
     /// Whether this one was asked to.
     asked: bool,
 }
 
 impl<'a, P: Drop> Guest<'a, P> {
-    /// A connection that leaves as soon as the cell says so.
+    /// Wraps a connection, which shuts down once the cell is set.
     ///
     /// # Errors
     ///
-    /// [`AllocError`] where an allocation was refused.
+    /// [`AllocError`] if an allocation was refused.
     pub fn new(alloc: Global, party: P, leaving: &'a Cell<bool>) -> Result<Guest<'a, P>, AllocError>
         ensures party { IfOk result (λ guest. guest.party.value ≡ party) }
         ensures asked { IfOk result (λ guest. guest.asked ≡ false) }
@@ -59,7 +59,7 @@ impl<'a, P: Drop> Guest<'a, P> {
         })
     }
 
-    /// Whether it is asked in this step to end.
+    /// Whether this step asks the connection to shut down.
     fn is_to_leave(&self, own: Own) -> bool
         ensures asked { result ≡ true → self.now.asked ≡ false }
         ensures passed { result ≡ true → IsTimeStep own }

@@ -1,4 +1,4 @@
-//! How a host's connections are made, and how its log is written.
+//! Makes a host's connections, and writes its log.
 
 use crate::guest::Guest;
 use crate::journal::Journal;
@@ -10,31 +10,31 @@ use std::cell::Cell;
 use std::io::{self, Write};
 use std::net::SocketAddr;
 
-/// So many octets of a log wait, at most, before they are written in the middle of a round.
+/// Log lines are written in the middle of a round once this many octets wait.
 const MOST_WAITING: usize = 65_536;
 
 /// Makes the handler of each connection.
 pub trait Makes<H> {
-    /// The handler of a new connection of a peer.
+    /// Returns the handler for a new connection from this peer.
     fn make(&self, peer: SocketAddr) -> H;
 }
 
-/// Makes the connections of a host, each with a handler and limits.
+/// Makes the connections of a host, each with its handler and limits.
 #[derive(Drop)]
 pub struct Guests<'a, M, W> {
-    /// The memory.
+    /// The allocator.
     pub alloc: Global,
-    /// Makes their handlers.
+    /// Makes the handlers.
     pub makes: M,
-    /// What each says of itself.
+    /// The settings that each connection sends.
     pub config: Config,
-    /// The limits of each.
+    /// The limits of each connection.
     pub limits: SeatLimits,
-    /// Whether all are to leave.
+    /// Whether all connections are to shut down.
     pub leaving: &'a Cell<bool>,
-    /// What their handlers write down.
+    /// The log lines of the handlers.
     pub journal: &'a Journal,
-    /// Where that goes.
+    /// Where the log is written.
     pub out: W,
 }
 

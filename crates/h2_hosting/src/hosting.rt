@@ -1,4 +1,4 @@
-//! Serving a port to many connections.
+//! Serves a port to many connections.
 
 ghost use Rattle.std.specs.Prelude.{◌≡◌, is_some};
 ghost use Rattle.std.specs.Net.Socket.{socket_ip, socket_port};
@@ -21,10 +21,10 @@ use std::io::{self, ErrorKind, Write};
 use std::net::{IpAddr, Net, SocketAddr};
 use std::time::Clock;
 
-/// The most octets of a body that is answered.
+/// The maximum length of a request body that is echoed.
 const MOST_BODY: usize = 1_048_576;
 
-/// The error of the system where a descriptor can't be waited for, as that of a file (EPERM).
+/// EPERM: the descriptor cannot be polled, such as that of a file.
 const NO_PIPE: i32 = 1;
 
 /// What is served, where and how.
@@ -36,17 +36,17 @@ pub struct HostOptions<'a> {
     pub address: IpAddr,
     /// The folder to serve, or `None` to echo.
     pub root: Option<&'a str>,
-    /// How many connections there are, at most.
+    /// The maximum number of connections.
     pub connections: usize,
-    /// How many seconds a connection may be without a request; 0 is no limit.
+    /// Seconds without a request after which a connection is closed gracefully; 0 means never.
     pub idle: u64,
-    /// Whether a line a request is printed.
+    /// Whether a line is printed for each request.
     pub log: bool,
-    /// Whether the host ends in order once standard input is closed.
+    /// Whether the host shuts down gracefully once standard input is closed.
     pub until_closed: bool,
 }
 
-/// Makes handlers that answer with what was asked.
+/// Makes handlers that echo requests.
 #[derive(Drop)]
 struct Echoes<'a, 'j, R> {
     rt: &'a R,
@@ -67,19 +67,19 @@ impl<'a, 'j, R> Makes<Logged<'a, R, &'j Journal, Gather<Echo>>> for Echoes<'a, '
     }
 }
 
-/// Makes handlers that answer with the files of a folder.
+/// Makes handlers that serve the files of a folder.
 #[derive(Drop)]
 struct Sites<'a, 'j, R> {
     rt: &'a R,
     journal: Option<&'j Journal>,
     alloc: Global,
     root: &'a str,
-    /// Small files, which all handlers share.
+    /// A cache of small files, which all handlers share.
     recent: &'a Recent,
 }
 
 impl<'a, 'j, R> Sites<'a, 'j, R> {
-    /// Makes handlers for the folder with a path.
+    /// Creates a maker of handlers for the folder with this path.
     fn new(
         rt: &'a R,
         journal: Option<&'j Journal>,
@@ -117,12 +117,11 @@ impl<'a, 'j, R> Makes<Logged<'a, R, &'j Journal, Site<'a, R>>> for Sites<'a, 'j,
 
 // contract: hosts (own) A host ends with one of three statuses
 // rule: hosts (own) A host ends with one of three statuses
-/// Serves a port to many connections at once, until standard input is closed where the options say
-/// so, and answers the status.
+/// Serves a port to many connections at once, until an error, or until standard input is closed
+/// if `until_closed` is set. Returns the exit status.
 ///
-/// With a folder each request is answered with a file of it, and without one with what it asked.
-/// Where the port or the folder can't be had, or the loop can't go on, a line on standard error
-/// says so.
+/// Requests are answered with files of `root`, or echoed if there is none. If the port or the
+/// folder is not available, or the loop fails, the reason is printed on `err`.
 pub fn host_port<'x, R: Net + Files + Clock, W: Write, E: Write>(
     rt: &'x R,
     alloc: Global,
@@ -175,14 +174,14 @@ fn serve_asked<'x, R: Net + Files + Clock, W: Write>(
 }
 
 // contract: hosts (own) The options of a host say what is served, where, and for how long
-/// The journal, where lines are written.
+/// The journal, if lines are to be printed.
 fn journal_if<'j>(journal: &'j Journal, log: bool) -> Option<&'j Journal>
     ensures { is_some result ≡ log }
 {
     if log { Some(journal) } else { None }
 }
 
-/// That a folder is there.
+/// Fails unless the folder exists.
 fn is_folder<R: Files>(rt: &R, root: &str) -> io::Result<()> {
     let known = fs::metadata(rt, root)?;
     if known.is_dir() {
@@ -194,7 +193,7 @@ fn is_folder<R: Files>(rt: &R, root: &str) -> io::Result<()> {
 
 // contract: hosts (own) The options of a host say what is served, where, and for how long
 // rule: hosts (own) The options of a host say what is served, where, and for how long
-/// Where a host listens, and for how many connections.
+/// The address, the limits and the way of ending that the options give.
 fn place_of(options: HostOptions<'_>) -> Place
     ensures address { socket_ip result.address ≡ options.entry.address }
     ensures port { socket_port result.address ≡ options.entry.port }
@@ -209,7 +208,7 @@ fn place_of(options: HostOptions<'_>) -> Place
 }
 
 // contract: hosts (own) The options of a host say what is served, where, and for how long
-/// The limits of a connection that may be idle for so many seconds.
+/// The default limits of a connection, with this idle time in seconds.
 fn seat_limits(idle: u64) -> SeatLimits
     ensures { result.times.idle ≡ in_milliseconds idle }
 {
@@ -218,7 +217,7 @@ fn seat_limits(idle: u64) -> SeatLimits
     limits
 }
 
-/// The limits of a host with so many connections.
+/// The default limits of a host, with this maximum number of connections.
 fn host_limits(connections: usize) -> Limits
     ensures { result.connections ≡ connections }
 {
@@ -228,7 +227,7 @@ fn host_limits(connections: usize) -> Limits
 }
 
 // rule (tested): hosts (own) A host says which folder, address or input it can't have
-/// Prints on standard error why a folder can't be served, and answers the status.
+/// Prints why a folder cannot be served, and returns the status.
 fn refuse_root<E: Write>(root: &str, error: &io::Error, err: &mut E) -> Status
     ensures { IsFailedHost result }
 {
@@ -245,8 +244,7 @@ fn refuse_root<E: Write>(root: &str, error: &io::Error, err: &mut E) -> Status
 }
 
 // rule (tested): hosts (own) A host says which folder, address or input it can't have
-/// Prints on standard error why a host ends that was to serve, with a hint where the cause is
-/// known, and answers the status.
+/// Prints why a host ends early, with a hint if the cause is known, and returns the status.
 fn end_early<E: Write>(error: &io::Error, err: &mut E) -> Status
     ensures { IsFailedHost result }
 {
@@ -261,8 +259,7 @@ fn end_early<E: Write>(error: &io::Error, err: &mut E) -> Status
     status
 }
 
-/// What is likely wrong with the port: nothing where the error is that of a standard input that is
-/// no pipe.
+/// The likely cause of an error at the port; none if standard input is not a pipe.
 fn hint_of(error: &io::Error) -> Option<Hint> {
     match error.raw_os_error() {
         Some(NO_PIPE) => None,
@@ -272,9 +269,9 @@ fn hint_of(error: &io::Error) -> Option<Hint> {
 
 // contract: hosts (own) The hint of a host is of its port, and never of its log
 // rule: hosts (own) The hint of a host is of its port, and never of its log
-/// The hint where a host ends for an error of this kind: that of its port. Errors of one connection
-/// end that one alone, so a connection that is reset is none of these: it is a log that nobody
-/// reads any more.
+/// The hint for an error of this kind that ends the host: that of its port. Errors of one
+/// connection end only that connection; a `ConnectionReset` that ends the host is that of the
+/// log's output, and has no hint.
 fn hint_of_port(kind: ErrorKind) -> Option<Hint>
     ensures { result ≡ port_hint kind }
 {
@@ -285,7 +282,7 @@ fn hint_of_port(kind: ErrorKind) -> Option<Hint>
     }
 }
 
-/// Prints on standard error why the host ends, and a hint, and answers the status.
+/// Prints on standard error why the host ends, and a hint, and returns the status.
 fn give_up<E: Write>(error: &io::Error, hint: Option<Hint>, err: &mut E) -> Status
     ensures { IsFailedHost result }
 {

@@ -1,4 +1,4 @@
-//! What the handlers of all connections write down.
+//! The log lines of all connections.
 
 ghost use Rattle.std.specs.Prelude.{List, None, OnErr, OnOk, Option, Some, ℕ};
 ghost use Rattle.std.specs.Io.KnownBytes.{Appends, Keeps};
@@ -6,16 +6,16 @@ ghost use Rattle.std.specs.Io.KnownBytes.{Appends, Keeps};
 use std::alloc::{AllocError, Global};
 use std::cell::RefCell;
 
-/// Takes the lines of a log.
+/// Receives the lines of a log.
 pub trait TakesLines {
-    /// The octets that it holds, where they are known.
+    /// The octets that it holds, if they are known.
     ghost lines_of: { Self → Option (List ℕ) } = { λ _. None };
 
-    /// Adds a line, all of it or nothing.
+    /// Adds a line completely, or not at all.
     ///
     /// # Errors
     ///
-    /// [`AllocError`] where memory is missing: nothing is added.
+    /// [`AllocError`] if an allocation was refused: nothing is added.
     fn add(&mut self, line: &[u8]) -> Result<(), AllocError>
         ensures added { OnOk result (Appends (lines_of self.old) (lines_of self.new) line.now) }
         ensures lost { OnErr result (Keeps (lines_of self.old) (lines_of self.new)) };
@@ -29,21 +29,21 @@ impl TakesLines for Vec<u8> {
     }
 }
 
-/// Lines that wait to be written, of the handlers of all connections.
+/// Log lines of all connections that wait to be written.
 #[derive(Drop)]
 pub struct Journal {
     lines: RefCell<Vec<u8>>,
 }
 
 impl Journal {
-    /// No lines.
+    /// Creates an empty journal.
     pub fn new(alloc: Global) -> Journal {
         Journal {
             lines: RefCell::new(Vec::new(alloc)),
         }
     }
 
-    /// How many octets wait.
+    /// The number of octets that wait.
     pub fn waiting(&self) -> usize {
         match self.lines.try_borrow() {
             Ok(lines) => lines.len(),
@@ -51,7 +51,7 @@ impl Journal {
         }
     }
 
-    /// Takes all lines.
+    /// Removes and returns all lines.
     pub fn take(&self, alloc: Global) -> Vec<u8> {
         match self.lines.try_replace(Vec::new(alloc)) {
             Ok(lines) => lines,

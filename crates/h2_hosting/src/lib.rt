@@ -1,8 +1,8 @@
-//! What `h2 host` serves: a folder, or an echo, to many connections.
+//! Serves a folder, or echoes requests, on many connections, as `h2 host` does.
 //!
-//! [`host_port`] opens a [`Driver`](h2_mio::Driver) whose connections are [`Guest`]s: a
-//! [`Seat`](h2_seat::Seat) with a handler, which is a [`Site`] or an echo, either of them
-//! [`Logged`]. [`host_handlers`] serves them with any other handler.
+//! [`host_port`] runs a [`Driver`](h2_mio::Driver) whose connections are [`Guest`]s: each is a
+//! [`Seat`](h2_seat::Seat) with a handler, a [`Site`] or an echo, that is [`Logged`].
+//! [`host_handlers`] serves with any other handler.
 #![tactic(auto)]
 
 mod guest;

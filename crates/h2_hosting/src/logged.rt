@@ -1,4 +1,4 @@
-//! A handler whose exchanges are written down, a line each.
+//! A handler that logs a line for each exchange.
 
 ghost use Rattle.std.specs.Prelude.{◌≡◌, IfOk, OnErr, OnOk};
 ghost use Rattle.std.specs.Io.KnownBytes.{Keeps};
@@ -13,24 +13,24 @@ use std::alloc::{AllocError, Global};
 use std::net::SocketAddr;
 use std::time::Clock;
 
-/// A handler, and where its exchanges are written down once they are over, if they are.
+/// A handler that logs each exchange when it is over, if there is a journal.
 #[derive(Drop)]
 pub struct Logged<'a, R, J, H> {
     /// The clock.
     pub clock: &'a R,
-    /// Where lines go; none where nothing is written down.
+    /// Where lines go; `None` for no log.
     pub journal: Option<J>,
-    /// The memory.
+    /// The allocator.
     pub alloc: Global,
     /// The peer.
     pub peer: SocketAddr,
-    /// What answers.
+    /// The handler that answers.
     pub handler: H,
-    /// How many lines were lost for want of memory.
+    /// The number of lines lost because memory was refused.
     pub lost: u64,
 }
 
-/// What is noted of an exchange.
+/// What is recorded of an exchange.
 #[derive(Drop)]
 pub struct Note<W> {
     /// What the handler keeps.
@@ -44,7 +44,7 @@ pub struct Note<W> {
 impl<'a, R: Clock, J: TakesLines + Drop, H: Drop> Logged<'a, R, J, H> {
     // contract: hosts (own) Each request that has ended has one line in the log
     // rule: hosts (own) Each request that has ended has one line in the log
-    /// Writes down an exchange that is over, if they are; a line is lost where memory is missing.
+    /// Logs an exchange that is over; its line is lost if memory is refused.
     fn write_down<W: Drop>(&mut self, note: &Note<W>)
         ensures line { WritesLine J.lines_of (socket_ip self.old.peer) note.now self.old.journal
             self.new.journal self.old.lost self.new.lost }
@@ -64,7 +64,7 @@ impl<'a, R: Clock, J: TakesLines + Drop, H: Drop> Logged<'a, R, J, H> {
 ///
 /// # Errors
 ///
-/// [`AllocError`] where memory is missing: nothing is added.
+/// [`AllocError`] if an allocation was refused: nothing is added.
 fn add_line<R: Clock, J: TakesLines, W>(
     journal: &mut J,
     alloc: Global,
@@ -101,7 +101,7 @@ fn line_of<R: Clock, W>(
     log_line(alloc, entry)
 }
 
-/// The time, in seconds after 1970; 0 where it is not known.
+/// The time in seconds since 1970; 0 if it is unknown.
 fn seconds_now<R: Clock>(clock: &R) -> u64 {
     match clock.since_1970() {
         Ok(time) => time.as_secs(),

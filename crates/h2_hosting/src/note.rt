@@ -1,4 +1,4 @@
-//! What is noted of an exchange, for its line in the log.
+//! What is recorded of an exchange for its line in the log.
 
 ghost use Rattle.std.specs.Prelude.{◌≡◌, ◌<◌, IfOk, IfSome};
 ghost use Rattle.h2_hosting.specs.Noting.{digit_of, noted_of, three_digits, octets_after};
@@ -8,10 +8,10 @@ ghost use Rattle.h2_hosting.specs.Noting.{status_after, status_in, head_status, 
 use h2_handlers::{Field, HandlerFault, Part, Reply};
 use std::alloc::{AllocError, Global};
 
-/// So many octets of a method and of a path are noted, at most.
+/// The number of octets of a method and of a path that are logged.
 const MOST_NOTED: usize = 1_024;
 
-/// The octets that are noted of a method or a path: none where no lines are written.
+/// The octets logged of a method or a path; none if there is no log.
 pub(crate) fn noted(alloc: Global, octets: &[u8], is_noted: bool) -> Result<Vec<u8>, AllocError>
     ensures { IfOk result (λ noted. noted.items ≡ noted_of is_noted octets.now) }
 {
@@ -24,7 +24,7 @@ pub(crate) fn noted(alloc: Global, octets: &[u8], is_noted: bool) -> Result<Vec<
 
 // contract: hosts (own) Of each request the log has what was answered
 // rule: hosts (own) Of each request the log has what was answered
-/// The status that is noted after an answer.
+/// The status logged after a reply.
 pub(crate) fn status_after(status: Option<u16>, reply: &Result<Reply, HandlerFault>) -> Option<u16>
     ensures { result ≡ status_after status reply.now }
 {
@@ -40,7 +40,7 @@ pub(crate) fn status_after(status: Option<u16>, reply: &Result<Reply, HandlerFau
     }
 }
 
-/// The number of octets that is noted after an answer.
+/// The number of octets logged after a reply.
 pub(crate) fn octets_after(octets: u64, reply: &Result<Reply, HandlerFault>) -> u64
     ensures { result ≡ octets_after octets reply.now }
 {
@@ -52,7 +52,7 @@ pub(crate) fn octets_after(octets: u64, reply: &Result<Reply, HandlerFault>) -> 
 
 // contract: hosts (own) Of each request the log has what was answered
 // rule: hosts (own) Of each request the log has what was answered
-/// The number of octets that is noted after a part of an answer.
+/// The number of octets logged after a part of a response.
 pub(crate) fn octets_with_part(octets: u64, part: &Result<Part, HandlerFault>) -> u64
     ensures { result ≡ octets_with_part octets part.now }
 {
@@ -62,7 +62,7 @@ pub(crate) fn octets_with_part(octets: u64, part: &Result<Part, HandlerFault>) -
     }
 }
 
-/// The status that an answer gives.
+/// The status of a reply.
 pub(crate) fn status_in(reply: &Reply) -> Option<u16>
     ensures { result ≡ status_in reply.now }
 {
@@ -73,7 +73,7 @@ pub(crate) fn status_in(reply: &Reply) -> Option<u16>
     }
 }
 
-/// How many octets of a body an answer gives at once.
+/// The length of the body in a reply.
 pub(crate) fn octets_at_once(reply: &Reply) -> u64
     ensures { result ≡ octets_at_once reply.now }
 {
@@ -93,7 +93,7 @@ fn head_status(head: &[Field]) -> Option<u16>
     }
 }
 
-/// The number that three digits write.
+/// The number that three digits represent.
 fn status_of_digits(octets: &[u8]) -> Option<u16>
     ensures { result ≡ status_of_digits octets.now }
 {
@@ -103,7 +103,7 @@ fn status_of_digits(octets: &[u8]) -> Option<u16>
     }
 }
 
-/// The number that these three write, if they are digits.
+/// The number that these three octets represent, if they are digits.
 fn three_digits(hundreds: u8, tens: u8, ones: u8) -> Option<u16>
     ensures { result ≡ three_digits hundreds tens ones }
 {
@@ -113,7 +113,7 @@ fn three_digits(hundreds: u8, tens: u8, ones: u8) -> Option<u16>
     Some(hundreds * 100 + tens * 10 + ones)
 }
 
-/// The number of a digit.
+/// The value of a digit.
 fn digit_of(octet: u8) -> Option<u16>
     ensures value { result ≡ digit_of octet }
     ensures small { IfSome result (λ digit. digit < 10) }

@@ -1,4 +1,4 @@
-//! Serving many connections with handlers of any kind.
+//! Serves many connections with handlers of any type.
 
 use crate::guest::Guest;
 use crate::guests::{Guests, Makes};
@@ -12,29 +12,29 @@ use std::io::{self, Write};
 use std::net::Net;
 use std::time::Clock;
 
-/// Where many connections are served, with which settings and within which bounds.
+/// Where many connections are served, and with which settings and limits.
 #[derive(Clone, Copy, Debug)]
 pub struct HostSettings {
-    /// The address, how many connections, how many octets each and all hold, and whether the host
-    /// ends in order once standard input, a pipe, is closed.
+    /// The address, the limits of connections and memory, and whether the host shuts down
+    /// gracefully once standard input, a pipe, is closed.
     pub place: Place,
     /// The settings of each connection.
     pub config: Config,
-    /// What takes too long at a connection, and what is a flood: it ends that one.
+    /// The time limits and flood limits of each connection; one that exceeds them is ended.
     pub limits: SeatLimits,
 }
 
-/// Serves many connections at once, in this thread, each with a handler that was made for it. Where
-/// `place` says so it ends in order once standard input, a pipe, is closed: answers go on until they
-/// are sent, and then it returns. Else it ends for an error alone.
+/// Serves many connections at once, in this thread, each with a handler made by `makes`. If
+/// `until_closed` of `place` is set, closing standard input, a pipe, begins a graceful shutdown:
+/// pending responses are sent, and then the call returns. Otherwise it returns only with an error.
 ///
-/// All handlers are called in this thread, so one that waits keeps all connections waiting.
+/// All handlers are called in this thread, so a handler that blocks stops all connections.
 ///
 /// # Errors
 ///
-/// That the address can't be had, that standard input is no pipe where it is waited for, that the
-/// clock or the wait for sockets has failed, or out of memory for the host itself. Errors of one
-/// connection, memory that is refused to it too, end that one alone.
+/// The address is not available, standard input is not a pipe though `until_closed` is set, the
+/// clock or the wait for sockets failed, or memory for the host itself was refused. An error of
+/// one connection, refused memory included, ends only that connection.
 pub fn host_handlers<R, V, H, M>(
     rt: &R,
     alloc: Global,
@@ -52,7 +52,7 @@ where
     serve(rt, alloc, settings, makes, &journal, &mut out)
 }
 
-/// The same, and writes the lines of a journal as they come.
+/// As [`host_handlers`], and writes the lines of a journal.
 pub(crate) fn serve<R, V, H, M, W>(
     rt: &R,
     alloc: Global,

@@ -11,7 +11,7 @@ use std::fs::Files;
 use std::io::{Read, Seek};
 use std::time::Clock;
 
-/// Answers with the files of a folder.
+/// Answers requests with the files of a folder.
 #[derive(Drop)]
 pub struct Site<'a, R> {
     /// The folder.
@@ -96,11 +96,11 @@ impl<'a, R: Files + Clock> Handler for Site<'a, R> {
 
 // contract: hosts (own) A file is sent in parts, as many octets as its head says
 // rule: hosts (own) A file is sent in parts, as many octets as its head says
-/// The next part of a file: the last one exactly where nothing is left after it.
+/// Returns the next part of a file; `Part::Last` if and only if nothing is left after it.
 ///
 /// # Errors
 ///
-/// [`HandlerFault::Failed`] where the file can't be read, or is shorter than it was.
+/// [`HandlerFault::Failed`] if the file cannot be read, or has become shorter.
 fn part_of<F: Read + Seek + Drop>(
     sending: &mut Sending<F>,
     room: &mut [u8],

@@ -1,4 +1,4 @@
-//! The end that takes an input: a client or a server.
+//! The endpoint that takes an input: a client or a server.
 
 ghost use Rattle.std.specs.Prelude.{◌≡◌, IfOk, IfErr, length};
 ghost use Rattle.h2_conn.specs.Counts.{last_flow};
@@ -16,7 +16,7 @@ use h2_ends::{Client, Config, Refusal, Server, Why};
 use std::alloc::Global;
 use std::io::{self, Write};
 
-/// A client or a server, of which nothing but `take` is called until the input ends.
+/// A client or a server. Until the input ends, only `take` is called.
 #[derive(Drop)]
 pub(crate) enum MessageEnd {
     /// A client.
@@ -27,11 +27,11 @@ pub(crate) enum MessageEnd {
 
 impl MessageEnd {
     // rule: messages (own) The status is 0 only where a client or a server took it all
-    /// A new end, with the first values of its settings.
+    /// Creates an endpoint with the default settings.
     ///
     /// # Errors
     ///
-    /// [`Failure::Memory`] when out of memory.
+    /// [`Failure::Memory`] if out of memory.
     pub(crate) fn new(alloc: Global, role: Role) -> Result<MessageEnd, Failure>
         ensures ok { IfOk result
             (λ one. MessageEndRepresents one (new_end_log role first_values)) }
@@ -67,7 +67,7 @@ impl MessageEnd {
         }
     }
 
-    /// The part that was refused last, and the rule that it breaks.
+    /// The part refused last, and the rule that it breaks.
     pub(crate) fn last_malformed(&self) -> Option<RefusedPart>
         ensures { (end : EndLog) → MessageEndRepresents self.now end → result ≡ end.malformed }
     {
@@ -77,7 +77,7 @@ impl MessageEnd {
         }
     }
 
-    /// How many octets the payload of the last DATA frame had.
+    /// The payload length of the last DATA frame.
     pub(crate) fn last_flow(&self) -> u32
         ensures { (end : EndLog) → MessageEndRepresents self.now end
             → result ≡ last_flow end.log.frames }
@@ -88,7 +88,7 @@ impl MessageEnd {
         }
     }
 
-    /// Why the connection has failed, if it has.
+    /// Why the connection failed, if it did.
     pub(crate) fn why(&self) -> Option<Why>
         ensures { (end : EndLog) → MessageEndRepresents self.now end
             → IsWhy first_values end.log result }
@@ -99,11 +99,11 @@ impl MessageEnd {
         }
     }
 
-    /// Appends at most so many octets of the output to `out`, and takes them away.
+    /// Moves up to `count` octets of the output to the end of `out`.
     ///
     /// # Errors
     ///
-    /// [`Refusal::Memory`] when out of memory.
+    /// [`Refusal::Memory`] if out of memory.
     pub(crate) fn put_out(&mut self, count: usize, out: &mut Vec<u8>) -> Result<usize, Refusal> {
         match self {
             MessageEnd::Client(client) => client.put_out(count, out),
@@ -112,5 +112,5 @@ impl MessageEnd {
     }
 }
 
-/// Drops an end. Proofs of functions that own one are large, so the others hand it to this one.
+/// Drops an endpoint. Proofs of functions that own one are large, so the others call this one.
 pub(crate) fn drop_end(_end: MessageEnd) {}

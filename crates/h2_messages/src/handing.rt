@@ -1,4 +1,4 @@
-//! One call of `take` of a client or a server, and what is written while its result is lent.
+//! One call of `take`, and what is written while its result is borrowed.
 
 ghost use Rattle.std.specs.Prelude.{IfOk, length};
 ghost use Rattle.h2_messages.specs.Taking.{HandsOut, HandsWithin};
@@ -7,19 +7,19 @@ use crate::parts::{Unwritten, write_lent};
 use h2_ends::{Client, Code, Server};
 use std::io::{self, Write};
 
-/// What a call of `take` made of a piece.
+/// The result of one call of `take`.
 #[derive(Clone, Copy, Debug)]
 pub(crate) enum Handing {
-    /// How many octets were used, and what is still to be written of what was handed out.
+    /// The octets used, and what is still to be written of the event.
     Took {
-        /// How many octets.
+        /// The number of octets.
         used: usize,
         /// What is still to be written.
         unwritten: Unwritten,
     },
-    /// The connection has failed.
+    /// The connection failed.
     Failed {
-        /// With this code.
+        /// The error code.
         code: Code,
     },
 }

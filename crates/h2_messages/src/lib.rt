@@ -1,8 +1,8 @@
-//! An input of a client or a server, as lines of text: a line for each event, one for each part of
-//! a message that breaks a rule, the fault that ends the connection, and the octets that the end
-//! puts out.
+//! Prints what a client or a server makes of its peer's octets as lines of text: a line for each
+//! event, one for each part of a message that breaks a rule, the fault that ends the connection,
+//! and the octets that the endpoint sends.
 //!
-//! [`messages_input`] reads from any reader and prints to any writer, so tests run it in memory.
+//! [`messages_input`] reads from any reader and prints to any writer, so tests run in memory.
 #![tactic(auto)]
 
 mod end;

@@ -1,4 +1,4 @@
-//! An input, handed to a client or a server to its end.
+//! Feeds an input to a client or a server to its end.
 
 ghost use Rattle.std.specs.Prelude.{◌≡◌, ◌≢◌, ◌<◌, ◌++◌, ℕ, List, length, [], None, true, Err};
 ghost use Rattle.std.specs.Prelude.{IfOk, OnOk, IfErr, IfSome};
@@ -24,25 +24,25 @@ use h2_show::{Hint, Lent};
 use std::alloc::Global;
 use std::io::{BufWriter, Read, Write};
 
-/// The result of handing an input to a client or a server.
+/// The result of feeding an input to a client or a server.
 #[derive(Clone, Copy, Debug, PartialEq, Eq)]
 pub struct Replayed {
     /// How the command ends: [`Status::Good`] or [`Status::Fault`].
     pub status: Status,
-    /// What is likely wrong with the options or the input, where that shows.
+    /// What is likely wrong with the options or the input, if known.
     pub hint: Option<Hint>,
-    /// Why the connection has failed, where the status is [`Status::Fault`].
+    /// Why the connection failed, if the status is [`Status::Fault`].
     pub why: Option<Why>,
 }
 
 /// How an input ended.
 #[derive(Clone, Copy, Debug)]
 struct Ended {
-    /// The code with which the connection failed, for a fault of the peer.
+    /// The error code of a fault of the peer.
     fault: Option<Code>,
-    /// What is likely wrong with the options or the input, where that shows.
+    /// What is likely wrong with the options or the input, if known.
     hint: Option<Hint>,
-    /// Why the connection has failed.
+    /// Why the connection failed.
     why: Option<Why>,
 }
 
@@ -53,22 +53,21 @@ struct Ended {
 // rule: messages (own) The status is 0 only where a client or a server took it all
 // contract: messages (own) The status is 1 only where its connection has failed
 // contract: messages (own) The last line is what the end puts out, in hexadecimal
-/// Hands the octets of the input to a new client or server, which has the default configuration,
-/// and prints the lines of what it hands out; of each part of a message that it refuses a line with
-/// the stream and the rule; then a line for the fault with which the connection fails, if it does;
-/// and then its output, which is put out once the input is used.
+/// Feeds the input to a new client or server with the default configuration. Prints a line for
+/// each event and for each part of a message that breaks a rule, with the stream and the rule;
+/// then a line for the fault with which the connection fails, if it does; and then the output of
+/// the endpoint.
 ///
-/// Of a reader whose octets are known, in whatever pieces it gives them, [`Status::Good`] comes
-/// only where the end took all of them and hasn't failed, whatever parts it has refused; and
-/// [`Status::Fault`] only where it has failed in them, with a code other than INTERNAL_ERROR, which
-/// says that memory ran out.
+/// Returns [`Status::Good`] only if the endpoint took the whole input and has not failed,
+/// whatever parts it refused, and [`Status::Fault`] only if it failed with a code other than
+/// INTERNAL_ERROR, which means out of memory. The pieces that the reader gives do not matter.
 ///
 /// # Errors
 ///
-/// [`Failure::Device`] where a read or a write has failed, [`Failure::Memory`] when out of memory, and
-/// [`Failure::BadHex`] where the input isn't the hexadecimal text that was announced. What was
-/// printed by then is written in any case, unless the writer itself fails: where it does so at the
-/// end, that is [`Failure::Device`], whatever its error.
+/// [`Failure::Device`] if a read or a write failed, [`Failure::Memory`] if out of memory, and
+/// [`Failure::BadHex`] if the input is not the hexadecimal text announced. What was printed
+/// before is written in any case, unless a write fails; if the last write fails, the error is
+/// [`Failure::Device`].
 pub fn messages_input<R: Read, W: Write>(
     alloc: Global,
     options: ReplayOptions,
@@ -83,7 +82,7 @@ pub fn messages_input<R: Read, W: Write>(
 {
     let mut lines = BufWriter::with_capacity(alloc, PIECE, Lent { out })?;
     let replayed = replay_lines(alloc, options, input, &mut lines);
-    // Only a failed write has left something, which isn't written again.
+    // Only a failed write leaves something, and it is not written again.
     let (lent, _) = lines.into_parts();
     let Lent { out: written } = lent;
     // No effect at run time. The proof reads what `out` holds from this use of `written`.
@@ -91,7 +90,7 @@ pub fn messages_input<R: Read, W: Write>(
     replayed
 }
 
-// Hands the input to an end, and writes what is buffered at its end.
+// Feeds the input to an endpoint, and flushes the buffer at the end.
 fn replay_lines<R: Read, W: Write + Drop>(
     alloc: Global,
     options: ReplayOptions,
@@ -106,7 +105,7 @@ fn replay_lines<R: Read, W: Write + Drop>(
     ensures bad_hex { result ≡ Err Failure.BadHex
         → (options.hex ≡ true) × IfSome (R.remaining input.old) IsBadHex }
 
-    // Whatever else it ends with, what was printed is written.
+    // What was printed is written, unless a write failed.
     ensures written { result ≢ Err Failure.Device → writer_buffer lines.new ≡ [] }
 {
     let replayed = replay_given(alloc, options, input, lines);
@@ -119,7 +118,7 @@ fn replay_lines<R: Read, W: Write + Drop>(
     replayed
 }
 
-// Hands the input to an end, with its lines into the buffer.
+// Feeds the input to an endpoint, with its lines into the buffer.
 fn replay_given<R: Read, W: Write + Drop>(
     alloc: Global,
     options: ReplayOptions,
@@ -140,7 +139,7 @@ fn replay_given<R: Read, W: Write + Drop>(
     replay_octets(alloc, options.role, input, lines)
 }
 
-// Hands octets to an end as they come.
+// Feeds binary input to an endpoint as it arrives.
 fn replay_octets<R: Read, W: Write + Drop>(
     alloc: Global,
     role: Role,
@@ -161,7 +160,7 @@ fn replay_octets<R: Read, W: Write + Drop>(
     replayed
 }
 
-// Hands pieces that fit the buffer to a new end, and then finishes.
+// Feeds pieces that fit the buffer to a new endpoint, and then finishes.
 fn hand_pieces<R: Read, W: Write + Drop>(
     alloc: Global,
     role: Role,
@@ -184,8 +183,8 @@ fn hand_pieces<R: Read, W: Write + Drop>(
 }
 
 // rule: messages (own) The status is 1 only where its connection has failed
-// Hands pieces that fit the buffer to an end, until the input ends or the connection fails. The
-// lines of each are written before the next one is read.
+// Feeds pieces that fit the buffer to an endpoint, until the input ends or the connection fails.
+// The lines of each are written before the next one is read.
 fn replay_pieces<R: Read, W: Write + Drop>(
     role: Role,
     end: &mut MessageEnd,
@@ -228,7 +227,7 @@ fn replay_pieces<R: Read, W: Write + Drop>(
     Err(Failure::Device)
 }
 
-// Hands a piece to an end, and writes its lines.
+// Feeds a piece to an endpoint, and writes its lines.
 fn write_piece<W: Write + Drop>(
     end: &mut MessageEnd,
     piece: &[u8],
@@ -245,7 +244,7 @@ fn write_piece<W: Write + Drop>(
     Ok(())
 }
 
-// Hands octets in hexadecimal to an end, whose text is read to its end first.
+// Feeds hexadecimal input to an endpoint, after its text was read to the end.
 fn replay_hex<R: Read, W: Write>(
     alloc: Global,
     role: Role,
@@ -261,7 +260,7 @@ fn replay_hex<R: Read, W: Write>(
     replay_all(alloc, role, &octets, out)
 }
 
-// Hands octets to an end all at once.
+// Feeds octets to an endpoint all at once.
 fn replay_all<W: Write>(
     alloc: Global,
     role: Role,
@@ -279,7 +278,7 @@ fn replay_all<W: Write>(
     replayed
 }
 
-// Hands octets to a new end all at once, and then finishes.
+// Feeds octets to a new endpoint all at once, and then finishes.
 fn hand_all<W: Write>(
     alloc: Global,
     role: Role,

@@ -1,4 +1,4 @@
-//! What an end puts out.
+//! Prints the output of an endpoint.
 
 ghost use Rattle.std.specs.Prelude.{◌≢◌, ℕ, List, Err, OnOk};
 ghost use Rattle.std.specs.Io.KnownBytes.{Appends};
@@ -10,11 +10,11 @@ use std::alloc::Global;
 use std::io::Write;
 
 // rule: messages (own) The last line is what the end puts out, in hexadecimal
-/// Prints the line of all queued output, which is put out a piece at a time.
+/// Prints the line of all queued output, taking it in pieces.
 ///
 /// # Errors
 ///
-/// [`Failure::Device`] where a write failed, and [`Failure::Memory`] when out of memory.
+/// [`Failure::Device`] if a write failed, and [`Failure::Memory`] if out of memory.
 pub(crate) fn write_output<W: Write>(
     alloc: Global,
     end: &mut MessageEnd,

@@ -1,4 +1,4 @@
-//! The lines of what a client or a server hands out.
+//! The lines of the events of a client or a server.
 
 ghost use Rattle.std.specs.Prelude.{◌≡◌, Ok, OnOk, IfOk, option_map};
 ghost use Rattle.std.specs.Io.KnownBytes.{Appends};
@@ -13,20 +13,20 @@ use h2_events::write_event;
 use hpack::FieldList;
 use std::io::{self, Write};
 
-/// What is still to be written of what was handed out, once it is lent no more.
+/// What is still to be written of an event, once it is no longer borrowed.
 #[derive(Clone, Copy, Debug)]
 pub(crate) enum Unwritten {
-    /// Nothing was handed out.
+    /// There was no event.
     Nothing,
     /// All is written.
     Written,
-    /// The line of octets of a body, whose octets of the windows are to be asked for.
+    /// The line of octets of a body, whose flow-controlled length must be asked for.
     Body {
         /// The stream.
         id: u32,
-        /// How many octets there are.
+        /// The number of octets.
         count: usize,
-        /// Whether the message is whole.
+        /// Whether the message is complete.
         end: bool,
     },
     /// The line of a stream that was reset, which follows the line of the cause.
@@ -35,14 +35,14 @@ pub(crate) enum Unwritten {
         id: u32,
         /// The error code.
         code: u32,
-        /// Whether this end has reset it.
+        /// Whether this end reset it.
         ours: bool,
     },
 }
 
 // rule: messages (own) What is handed out has the line that replay prints of it
-/// Writes the lines of what was handed out, as far as they need what is lent, and answers what is
-/// still to be written.
+/// Writes the lines of an event that need its borrowed data, and returns what is still to be
+/// written.
 ///
 /// # Errors
 ///
@@ -82,7 +82,7 @@ pub(crate) fn write_lent<W: Write>(
     }
 }
 
-// Writes the lines of an event, after which nothing of it is unwritten.
+// Writes all lines of an event.
 fn written<W: Write>(event: Event<&FieldList, &[u8]>, out: &mut W) -> io::Result<Unwritten>
     ensures unwritten { IfOk result (λ unwritten. unwritten ≡ Unwritten.Written) }
     ensures written { OnOk result (Appends (W.contents out.old) (W.contents out.new)
@@ -93,7 +93,7 @@ fn written<W: Write>(event: Event<&FieldList, &[u8]>, out: &mut W) -> io::Result
 }
 
 // rule: messages (own) What is handed out has the line that replay prints of it
-/// Writes what was unwritten; `flow` is how many octets of the windows a body took.
+/// Writes the rest; `flow` is the number of flow-controlled octets of a body.
 ///
 /// # Errors
 ///
@@ -117,7 +117,7 @@ pub(crate) fn write_unwritten<W: Write>(
     }
 }
 
-// A space and the word for END_STREAM, where it is set.
+// A space and the word for END_STREAM, if it is set.
 fn end_word(end: bool) -> &'static str
     ensures { result.now ≡ end_word end }
 {

@@ -11,7 +11,7 @@ use std::io::{self, Write};
 pub(crate) type RefusedPart = (u32, Malformed);
 
 // rule: messages (own) A part that is refused has a line with its stream and its rule
-/// The part that a call has refused, by the last one that the end has refused before and after it.
+/// The part that a call refused, by the last one that the endpoint had refused before and after it.
 pub(crate) fn refused_in(
     before: Option<RefusedPart>,
     after: Option<RefusedPart>,

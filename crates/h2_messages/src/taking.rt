@@ -1,4 +1,4 @@
-//! A piece that is handed to an end, call by call.
+//! Feeds a piece to an endpoint, call by call.
 
 ghost use Rattle.std.specs.Prelude.{◌≡◌, ◌≤◌, None, OnOk, IfOk, IfErr, length};
 ghost use Rattle.h2_messages.specs.Taking.{CallsTake, IsFailure, TakesGivenPiece};
@@ -13,12 +13,12 @@ use h2_cli::Failure;
 use h2_ends::Code;
 use std::io::{self, Write};
 
-/// Why an end takes no more of an input.
+/// Why an endpoint takes no more input.
 #[derive(Clone, Copy, Debug)]
 pub(crate) enum TakeError {
-    /// The connection has failed with this code, for a fault of the peer.
+    /// The connection failed with this code, for a fault of the peer.
     Fault(Code),
-    /// A line wasn't printed, or out of memory.
+    /// A write failed, or out of memory.
     Failed(Failure),
 }
 
@@ -30,12 +30,12 @@ impl From<io::Error> for TakeError {
     }
 }
 
-/// What a call of `take` made of a piece, all of which is written.
+/// The result of one call of `take`, all of which is written.
 #[derive(Clone, Copy, Debug)]
 pub(crate) struct Taken {
-    /// How many octets were used.
+    /// The number of octets used.
     pub(crate) used: usize,
-    /// Whether something was handed out.
+    /// Whether there was an event.
     pub(crate) hands: bool,
 }
 
@@ -50,7 +50,7 @@ impl Handing {
         }
     }
 
-    // What is left to know of the call once all is written.
+    // The result of the call once all is written.
     fn taken(self) -> Result<Taken, TakeError>
         ensures { result ≡ taken_of self }
     {
@@ -59,7 +59,7 @@ impl Handing {
                 used,
                 hands: !matches!(unwritten, Unwritten::Nothing),
             }),
-            // Nothing that a peer sends is answered with this code.
+            // Nothing that a peer sends causes this code.
             Handing::Failed {
                 code: Code::InternalError,
             } => Err(TakeError::Failed(Failure::Memory)),
@@ -74,8 +74,8 @@ impl Handing {
 ///
 /// # Errors
 ///
-/// [`TakeError::Fault`] where the connection fails, and [`TakeError::Failed`] where a line wasn't
-/// written or memory ran out.
+/// [`TakeError::Fault`] if the connection fails, and [`TakeError::Failed`] if a write failed or
+/// memory ran out.
 pub(crate) fn take_once<W: Write>(
     end: &mut MessageEnd,
     piece: &[u8],
@@ -93,8 +93,8 @@ pub(crate) fn take_once<W: Write>(
 }
 
 // rule: messages (own) Each call of take has its lines, until the input is used
-/// Hands the piece to the end until it is used and nothing more is handed out, and writes the
-/// lines.
+/// Feeds the piece to the endpoint until it is used up and there are no more events, and writes
+/// the lines.
 ///
 /// # Errors
 ///

@@ -13,7 +13,7 @@ use std::io::{self, ErrorKind, Read};
 use std::net::{Net, Shutdown, SocketAddr};
 use std::time::{Clock, Duration, Instant};
 
-/// The name of the listener: no token of a host has this number.
+/// The name of the listener at `mio`; no token of a host has this number.
 const LISTENER: usize = usize::MAX;
 
 /// The name of standard input.
@@ -22,24 +22,24 @@ const STANDARD_INPUT: usize = usize::MAX - 1;
 /// The descriptor of standard input.
 const INPUT_DESCRIPTOR: i32 = 0;
 
-/// So many events are had at once, at most: few enough that what is known of their connections is
+/// The maximum number of events per wait, few enough that the state of their connections is
 /// still in the processor's cache when each has its turn.
 const MOST_EVENTS: usize = 64;
 
-/// So many connections are accepted in a round, at most.
+/// The maximum number of connections accepted in a round.
 const MOST_ACCEPTED: usize = 64;
 
-/// So many reads are dropped of a connection that is over, at most.
+/// The maximum number of reads that are discarded of a connection that is over.
 const MOST_DROPPED: usize = 8;
 
-/// Where a host listens, and within which bounds.
+/// Where a host listens, and its limits.
 #[derive(Clone, Copy, Debug)]
 pub struct Place {
     /// The address and the port.
     pub address: SocketAddr,
-    /// How many connections, and how many octets they hold.
+    /// The limits of connections, and of the octets that they hold.
     pub limits: Limits,
-    /// Whether the host ends in order once standard input, a pipe, is closed.
+    /// Whether the host shuts down gracefully once standard input, a pipe, is closed.
     pub until_closed: bool,
 }
 
@@ -48,25 +48,25 @@ pub struct Place {
 pub struct Driver<P: Party> {
     alloc: Global,
     poll: Poll,
-    /// None once no more connections are accepted.
+    /// `None` once no more connections are accepted.
     listener: Option<TcpListener>,
     host: Host<P>,
     sockets: Sockets<TcpStream>,
-    /// What is read, of all connections.
+    /// The buffer into which all connections are read.
     input: Vec<u8>,
     /// Whether connections may wait to be accepted.
     accepting: bool,
-    /// Whether all connections are to end.
+    /// Whether all connections are to shut down.
     leaving: bool,
 }
 
 impl<P: Party> Driver<P> {
-    /// A host that listens.
+    /// Opens a listening host.
     ///
     /// # Errors
     ///
-    /// That the port can't be had, that standard input is no pipe where it is waited for, or out
-    /// of memory.
+    /// The address is not available, standard input is not a pipe though `until_closed` is set,
+    /// or an allocation was refused.
     pub fn open<N: Net>(net: &N, alloc: Global, place: Place) -> io::Result<Driver<P>> {
         let mut listener = TcpListener::bind(net, place.address)?;
         let poll = Poll::new(net)?;
@@ -88,7 +88,7 @@ impl<P: Party> Driver<P> {
         })
     }
 
-    /// Serves until standard input is closed, where it is waited for, and all connections have
+    /// Serves until standard input is closed, if `until_closed` is set, and all connections have
     /// ended.
     ///
     /// # Errors
@@ -162,7 +162,7 @@ impl<P: Party> Driver<P> {
                 Ok((stream, peer)) => self.open_one(stream, peer, opens),
                 // This one is gone, and the next may be there.
                 Err(error) if is_of_one(error.kind()) => {}
-                // None waits; or no descriptor is left, until a connection ends or time passes.
+                // None is pending, or no descriptor is left until a connection ends or time passes.
                 Err(_) => self.accepting = false,
             }
         }
@@ -171,7 +171,7 @@ impl<P: Party> Driver<P> {
     /// Gives a connection its place.
     fn open_one<O: Opens<P>>(&mut self, stream: TcpStream, peer: SocketAddr, opens: &mut O) {
         let mut stream = stream;
-        // Without it answers are late, and not wrong.
+        // A failure makes responses late, not wrong.
         let _ = stream.set_nodelay(true);
         let Some(party) = opens.open(self.alloc, self.host.now(), peer) else {
             return;
@@ -210,8 +210,8 @@ impl<P: Party> Driver<P> {
         opens.turned(false)
     }
 
-    /// Closes a connection, and its socket: what has come is dropped, so that the peer can read
-    /// what was sent last.
+    /// Closes a connection and its socket. Unread input is discarded first, so that the peer can
+    /// read what was sent last.
     fn close(&mut self, token: Token) {
         let _ = self.host.step(Step::Closed { token }, &[]);
         let Some(mut stream) = self.sockets.take(token) else {
@@ -229,7 +229,7 @@ impl<P: Party> Driver<P> {
     }
 }
 
-/// Whether an error of `accept` is of the connection that was to be accepted, and not of the next.
+/// Whether an error of `accept` concerns only the connection that was to be accepted.
 fn is_of_one(kind: ErrorKind) -> bool {
     matches!(
         kind,

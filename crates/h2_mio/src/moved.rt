@@ -1,4 +1,4 @@
-//! What a read or a write of a socket came to.
+//! The result of a read or a write of a socket.
 
 ghost use Rattle.std.specs.Prelude.{◌≡◌, ◌+◌, ◌++◌, [], length, take};
 ghost use Rattle.std.specs.Io.KnownBytes.{Appends};
@@ -7,12 +7,12 @@ ghost use Rattle.h2_mio.specs.Moving.{MovesWithin, count_moved, moved_at};
 use crate::transport::Transport;
 use std::io::ErrorKind;
 
-/// What a read or a write came to.
+/// The result of a read or a write.
 #[derive(Clone, Copy, Debug, PartialEq, Eq)]
 pub(crate) enum Moved {
-    /// So many octets were moved, one at least.
+    /// This many octets were moved, at least one.
     Octets(usize),
-    /// None can be moved now.
+    /// No octet can be moved now.
     Nothing,
     /// The peer has ended its side.
     Ended,
@@ -53,7 +53,7 @@ pub(crate) fn write_once<S: Transport>(stream: &mut S, first: &[u8], second: &[u
 
 // contract: hosts (own) A socket that would wait is asked again; one that fails is closed
 // rule: hosts (own) A socket that would wait is asked again; one that fails is closed
-/// What a read or a write came to that has failed.
+/// The result of a failed read or write.
 fn moved_at(kind: ErrorKind) -> Moved
     ensures { result ≡ moved_at kind }
 {

@@ -1,23 +1,24 @@
-//! What gives a host its connections.
+//! Makes the connections of a host.
 
 use std::alloc::Global;
 use std::io;
 use std::net::SocketAddr;
 
-/// Makes the connections of a host, whose calls do not wait.
+/// Makes the connections of a host. Its calls do not block.
 pub trait Opens<P> {
-    /// The connection of a peer that was accepted, in milliseconds of the host's time; none where
-    /// it is refused, as for want of memory.
+    /// Returns the connection for an accepted peer, or `None` to refuse it, as when out of
+    /// memory. `now` is the host's time in milliseconds.
     fn open(&mut self, alloc: Global, now: u64, peer: SocketAddr) -> Option<P>;
 
-    /// No connection is accepted from now on, and all are to end in order as soon as time passes.
+    /// Called once, when no more connections are accepted: all must begin a graceful shutdown at
+    /// the next [`Own::Passed`](h2_host::Own::Passed).
     fn leave(&mut self);
 
-    /// A connection has had its turn, or the sockets are waited for next: `more` says whether
-    /// more turns follow at once.
+    /// Called after each turn with `more` true, and before the sockets are waited for with
+    /// `more` false.
     ///
     /// # Errors
     ///
-    /// The host ends with this error.
+    /// On an error the host ends with it.
     fn turned(&mut self, more: bool) -> io::Result<()>;
 }

@@ -25,7 +25,7 @@ pub(crate) struct Sockets<S> {
 }
 
 impl<S: Drop> Sockets<S> {
-    /// No sockets.
+    /// Creates an empty table.
     pub(crate) fn new(alloc: Global) -> Sockets<S>
         ensures { result.slots.items ≡ [] }
     {
@@ -34,12 +34,12 @@ impl<S: Drop> Sockets<S> {
         }
     }
 
-    /// Keeps the socket of a connection, in place of the one that had its place before.
+    /// Stores the socket of a connection, in place of the one that had its place before.
     ///
     /// # Errors
     ///
-    /// [`AllocError`] where an allocation was refused, and where the place is none that a host
-    /// gives next: then nothing is kept.
+    /// [`AllocError`] if an allocation was refused, or the place is not the next that a host
+    /// gives: nothing is stored.
     pub(crate) fn put(&mut self, token: Token, stream: S) -> Result<(), AllocError>
         ensures kept { IfOk result (λ done. socket_of_token self.new.slots.items token
             ≡ Some (record { generation = token.generation; stream = stream; hung_up = false })) }
@@ -65,7 +65,7 @@ impl<S: Drop> Sockets<S> {
 
     // contract: hosts (own) An old token names no socket
     // rule: hosts (own) An old token names no socket
-    /// The socket of a connection; none where the token isn't of now.
+    /// The socket of a connection; none if the token is stale.
     pub(crate) fn get_mut(&mut self, token: Token) -> Option<&mut Socket<S>>
         ensures { option_copied_mut result ≡ socket_of_token self.old.slots.items token }
     {
@@ -75,7 +75,7 @@ impl<S: Drop> Sockets<S> {
         }
     }
 
-    /// Takes the socket of a connection away; none where the token isn't of now.
+    /// Removes and returns the socket of a connection; none if the token is stale.
     pub(crate) fn take(&mut self, token: Token) -> Option<S>
         ensures taken { result
             ≡ option_map (λ one. one.stream) (socket_of_token self.old.slots.items token) }

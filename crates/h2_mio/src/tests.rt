@@ -1,6 +1,6 @@
 //! Turns over a transport in memory.
 //!
-//! - `memory`: the transport. `counter`: a party that keeps what has come.
+//! - `memory`: the transport. `counter`: a party that stores what it receives.
 
 mod counter;
 mod memory;
@@ -31,7 +31,7 @@ fn socket_over(token: Token, stream: Memory<'_>) -> Socket<Memory<'_>> {
     }
 }
 
-/// Gives a connection the turn that is its own; none where it isn't.
+/// Gives a connection its turn; none if it is not its turn.
 fn turn<'a>(
     host: &mut Host<Counter<'a>>,
     token: Token,

@@ -9,14 +9,14 @@ use std::io::{self, IoSlice, Read, Write};
 
 /// What carries the octets of a connection, both ways: a socket. Its calls do not wait.
 pub(crate) trait Transport {
-    /// All octets that it has given so far, where it says so; a socket doesn't.
+    /// All octets that it has given so far, if stated; a socket does not.
     ghost given: { Self → Option (List ℕ) } = { λ _. None };
 
-    /// All octets that it has taken so far, where it says so.
+    /// All octets that it has taken so far, if stated.
     ghost taken: { Self → Option (List ℕ) } = { λ _. None };
 
-    /// Reads octets to the front of a buffer, and answers how many; 0 is the end of the input,
-    /// where the buffer has room.
+    /// Reads octets to the start of a buffer, and returns how many; 0 is the end of the input,
+    /// if the buffer has room.
     ///
     /// # Errors
     ///
@@ -27,8 +27,7 @@ pub(crate) trait Transport {
         ensures gives { WriteAppends (given self.old) (given self.new) result room.new }
         ensures takes_none { Appends (taken self.old) (taken self.new) [] };
 
-    /// Writes first octets of two parts, of which the first comes before the second, and answers
-    /// how many.
+    /// Writes a prefix of two parts, the first before the second, and returns its length.
     ///
     /// # Errors
     ///
@@ -40,7 +39,7 @@ pub(crate) trait Transport {
         ensures gives_none { Appends (given self.old) (given self.new) [] };
 }
 
-/// Two parts go in one call of the system.
+/// Two parts are written in one system call.
 impl Transport for TcpStream {
     fn read_some(&mut self, room: &mut [u8]) -> io::Result<usize> {
         self.read(room)

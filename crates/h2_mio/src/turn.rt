@@ -1,4 +1,4 @@
-//! The turn of one connection: what it reads, does and writes.
+//! The turn of one connection: reads, acts and writes.
 
 ghost use Rattle.std.specs.Prelude.{◌≡◌, [], length};
 ghost use Rattle.h2_host.specs.Steps.{AnswersOwn};
@@ -9,8 +9,7 @@ use crate::sockets::Socket;
 use crate::transport::Transport;
 use h2_host::{Answer, Host, MOST_TAKEN, Own, Party, Reply, Step, Token};
 
-/// So many writes are made in a turn, at most: what a turn may give goes in parts of 4,096 octets
-/// and more.
+/// The maximum number of writes in a turn, enough for parts of 4,096 octets or more.
 const MOST_WRITES: usize = 16;
 
 /// Whether a connection goes on.
@@ -18,15 +17,15 @@ const MOST_WRITES: usize = 16;
 pub(crate) enum Fate {
     /// It does.
     Goes,
-    /// It is over: its socket is to be closed.
+    /// It is over: its socket must be closed.
     Over,
 }
 
 // contract: hosts (own) In a turn a driver makes steps of one connection alone
 // contract: hosts (own) A connection gets just what its socket gave; its output alone goes there
 // rule: hosts (own) In a turn a driver makes steps of one connection alone
-/// Gives a connection the turn that is its own: octets are read once where it takes some, it does
-/// what it has to, and its output is written until the socket takes no more or the turn is over.
+/// Runs the turn of a connection: reads once if it takes input, lets it act, and writes its
+/// output until the socket takes no more or the turn is used up.
 pub(crate) fn give_turn<P: Party, S: Transport>(
     host: &mut Host<P>,
     token: Token,
@@ -47,9 +46,8 @@ pub(crate) fn give_turn<P: Party, S: Transport>(
     write_output(host, token, &mut socket.stream)
 }
 
-/// Reads once what the connection takes in a turn, if it takes anything. Where fewer octets come
-/// than there is room for, no more wait, which it learns by their number; unless the peer has ended
-/// its side: then it is ready still.
+/// Reads once, if the connection takes input. A short read tells the connection that the socket
+/// has no more, unless the peer has ended its side: then the socket stays readable.
 fn take_input<P: Party, S: Transport>(
     host: &mut Host<P>,
     token: Token,
@@ -88,8 +86,8 @@ fn take_input<P: Party, S: Transport>(
     }
 }
 
-/// Writes the output of a connection from where it lies, its first two parts at once, until nothing
-/// waits, the socket takes no more, or the turn is over.
+/// Writes the output of a connection from where it lies, two parts at a time, until none is
+/// queued, the socket takes no more, or the turn is used up.
 fn write_output<P: Party, S: Transport>(host: &mut Host<P>, token: Token, stream: &mut S) -> Fate
     ensures run { MakesTurn P.steps P.held_of P.output_of token
         (S.given stream.old) (S.given stream.new) (S.taken stream.old)
@@ -117,7 +115,8 @@ fn write_output<P: Party, S: Transport>(host: &mut Host<P>, token: Token, stream
     Fate::Goes
 }
 
-/// Writes what a connection that is over has to say, as a GOAWAY, as far as it goes at once.
+/// Writes the last output of a closed connection, such as GOAWAY, as much as the socket takes at
+/// once.
 fn last_words<P: Party, S: Transport>(host: &mut Host<P>, token: Token, stream: &mut S) -> Fate
     ensures run { MakesTurn P.steps P.held_of P.output_of token
         (S.given stream.old) (S.given stream.new) (S.taken stream.old)
@@ -127,7 +126,7 @@ fn last_words<P: Party, S: Transport>(host: &mut Host<P>, token: Token, stream: 
     Fate::Over
 }
 
-/// Makes a step of a connection that has no octets.
+/// Makes a step that has no octets.
 pub(crate) fn own_step<P: Party>(host: &mut Host<P>, token: Token, own: Own) -> Fate
     ensures answers { (reply : Reply P)
         × AnswersOwn P.steps P.held_of host.old host.new token own [] reply }
@@ -135,7 +134,7 @@ pub(crate) fn own_step<P: Party>(host: &mut Host<P>, token: Token, own: Own) -> 
     fate_of(host.step(Step::Own { token, own }, &[]))
 }
 
-/// Whether a connection goes on that was answered so.
+/// Whether a connection goes on after this reply.
 fn fate_of<P: Drop>(reply: Reply<P>) -> Fate {
     match reply {
         Reply::Own(Answer::Goes) | Reply::NotNow => Fate::Goes,

@@ -7,14 +7,14 @@ use h2_cli::{Hint, Status, hint_at_client, hint_at_server, hint_of_device, write
 use h2_engines::{LinkError, Why};
 use std::io::{self, ErrorKind, Write};
 
-/// How a connection has ended early, and what is likely the cause.
+/// How a connection ended early, and the likely cause.
 #[derive(Clone, Copy, Debug, PartialEq, Eq)]
 pub struct Ending {
-    /// How it has ended.
+    /// How it ended.
     pub error: LinkError,
-    /// What is likely the cause, where it is known.
+    /// The likely cause, if it is known.
     pub hint: Option<Hint>,
-    /// Why the connection has failed, if it has.
+    /// Why the connection failed, if it did.
     pub why: Option<Why>,
 }
 
@@ -22,7 +22,7 @@ impl From<LinkError> for Ending {
     ghost from_gives = { λ error ending. ending
         ≡ record { error = error; hint = None; why = None } };
 
-    /// An end without a hint.
+    /// Creates an ending without a hint.
     fn from(error: LinkError) -> Ending {
         Ending {
             error,
@@ -33,11 +33,10 @@ impl From<LinkError> for Ending {
 }
 
 // rule: engines (own) N1 to N7 end a command with their statuses
-/// The status of a command whose connection has ended so: [`Status::Device`] for
-/// [`LinkError::Device`] (N1) and [`LinkError::NoProgress`] (N5), [`Status::Fault`] for
-/// [`LinkError::Stream`] (N2), [`LinkError::CutOff`] (N4) and [`LinkError::Reset`] (N6),
-/// [`Status::Memory`] for [`LinkError::Memory`] (N3), and [`Status::Usage`] for
-/// [`LinkError::Refused`] (N7).
+/// Returns the exit status for this error: [`Status::Device`] for [`LinkError::Device`] (N1) and
+/// [`LinkError::NoProgress`] (N5), [`Status::Fault`] for [`LinkError::Stream`] (N2),
+/// [`LinkError::CutOff`] (N4) and [`LinkError::Reset`] (N6), [`Status::Memory`] for
+/// [`LinkError::Memory`] (N3), and [`Status::Usage`] for [`LinkError::Refused`] (N7).
 pub fn status_of(error: LinkError) -> Status
     ensures { result ≡ status_with error }
 {
@@ -51,8 +50,8 @@ pub fn status_of(error: LinkError) -> Status
 
 // rule: engines (own) N1 to N7 end a command with their statuses
 // rule (tested): engines (own) A hint says why a connection over a socket has failed
-/// Prints on standard error how a connection has ended, then the hint, and then why it has failed,
-/// where that is known of [`LinkError::Stream`] (N2) and the peer speaks HTTP/2. Answers the
+/// Prints on `err` how a connection ended, then the hint, then, for [`LinkError::Stream`] (N2),
+/// why the connection failed, unless the hint says that the peer speaks HTTP/1. Returns the exit
 /// status.
 pub fn report<E: Write>(ending: Ending, err: &mut E) -> Status
     ensures { result ≡ status_with ending.error }
@@ -65,7 +64,7 @@ pub fn report<E: Write>(ending: Ending, err: &mut E) -> Status
 }
 
 // rule (tested): engines (own) A hint says why a connection over a socket has failed
-// Writes why a connection has failed, where its line is N2 and no other protocol is the cause.
+// Writes why a connection failed, if its error is N2 and the peer does not speak HTTP/1.
 fn write_why<E: Write>(ending: Ending, err: &mut E) -> io::Result<()> {
     match (ending.error, ending.hint, ending.why) {
         (_, Some(Hint::Http1Server | Hint::Http1Client), _) => Ok(()),
@@ -76,8 +75,8 @@ fn write_why<E: Write>(ending: Ending, err: &mut E) -> io::Result<()> {
 
 // rule: engines (own) A hint after the line names the likely cause of N1 and N2
 // contract: engines (own) A hint after the line names the likely cause of N1 and N2
-// The hint at a client whose connection has ended so, by the first octets that it read and the last
-// error of its link.
+// The hint of a client for this error, by the first octets that it read and the last error of
+// its link.
 pub(crate) fn client_hint(
     error: LinkError,
     first: &[u8],
@@ -92,7 +91,7 @@ pub(crate) fn client_hint(
     }
 }
 
-// The same at a server.
+// The hint of a server, likewise.
 pub(crate) fn server_hint(
     error: LinkError,
     first: &[u8],

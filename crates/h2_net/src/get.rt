@@ -1,4 +1,4 @@
-//! Fetching the response to a GET.
+//! Fetches the response to a GET.
 
 ghost use Rattle.std.specs.Prelude.{◌≡◌, ◌<◌, ◌-◌, ◌^◌, IfOk, OnOk, option_map, nat_lt};
 ghost use Rattle.std.specs.Prelude.{◌&&◌, ◌⊎◌, None, [], if◌then◌else◌, Err, IfErr, List, Option};
@@ -31,8 +31,8 @@ use std::net::{Net, OpenStream, TcpStream};
 
 // rule: engines (own) A URL is asked for with GET
 // contract: engines (own) A hint after the line names the likely cause of N1 and N2
-/// Asks for a location with GET over a new connection, and answers its response once that is whole.
-/// A host's name is looked up by the network.
+/// Sends a GET for a location over a new connection, and returns the response once it is
+/// complete. The network resolves the host's name.
 ///
 /// # Errors
 ///
@@ -55,13 +55,13 @@ where
 
 // rule: engines (own) The words of get make its request and say what is printed
 // contract: engines (own) A hint after the line names the likely cause of N1 and N2
-/// Makes a request over a new connection to the host and the port of a location, and answers its
-/// response once that is whole. A host's name is looked up by the network.
+/// Sends a request over a new connection to a location's host and port, and returns the response
+/// once it is complete. The network resolves the host's name.
 ///
 /// # Errors
 ///
-/// [`LinkError::Device`] (N1) also where no connection can be made; else as [`fetch_link`]. The
-/// hint says what is likely the cause of [`LinkError::Device`] (N1) and [`LinkError::Stream`] (N2).
+/// [`LinkError::Device`] (N1) also if no connection can be made; otherwise as [`fetch_link`].
+/// The hint names the likely cause of [`LinkError::Device`] (N1) and [`LinkError::Stream`] (N2).
 pub fn fetch_location<N: Net>(
     net: &N,
     alloc: Global,
@@ -96,8 +96,8 @@ fn address_of(location: &Location) -> (&str, u16)
     (location.host.as_str(), location.port)
 }
 
-/// Makes a request over a link, as [`fetch_link`] does, and sends all that is held for it. Where
-/// the fetch fails the hint says what is likely the cause.
+/// Makes a request over a link, as [`fetch_link`] does, and flushes the link. If the fetch
+/// fails, the hint names the likely cause.
 fn fetch_with_hint<S: Read + WriteParts + OpenStream>(
     alloc: Global,
     link: &mut StreamLink<S>,
@@ -115,7 +115,7 @@ fn fetch_with_hint<S: Read + WriteParts + OpenStream>(
     let mut why = None;
     let fetched = fetch_link_why(alloc, link, Config::default(), message, &mut why);
     let last_error = link.last_error();
-    // A GOAWAY may be held. That it can't be sent changes nothing of what was fetched.
+    // A GOAWAY may be held. If it cannot be sent, what was fetched stays the same.
     let _ = link.flush();
     match fetched {
         Ok(fetched) => Ok(fetched),
@@ -128,7 +128,7 @@ fn fetch_with_hint<S: Read + WriteParts + OpenStream>(
 }
 
 // rule: engines (own) A URL is asked for with GET
-/// Asks for a location with GET over a link, and answers its response once that is whole.
+/// Sends a GET for a location over a link, and returns the response once it is complete.
 ///
 /// # Errors
 ///
@@ -160,11 +160,12 @@ fn request_to(alloc: Global, location: &Location) -> Result<Message, AllocError>
 }
 
 // rule: engines (own) A URL is asked for with GET
-/// The pseudo-fields of a request to a location (RFC 9113, section 8.3.1), without other fields.
+/// Returns the pseudo-header fields of a request to a location (RFC 9113, section 8.3.1),
+/// without other fields.
 ///
 /// # Errors
 ///
-/// [`AllocError`] where an allocation was refused.
+/// [`AllocError`] if an allocation was refused.
 pub fn head_to(alloc: Global, method: &[u8], location: &Location) -> Result<Vec<Field>, AllocError>
     ensures { IfOk result (λ head. head.items ≡ pseudo_fields_to method.now location.now) }
 {
@@ -174,7 +175,7 @@ pub fn head_to(alloc: Global, method: &[u8], location: &Location) -> Result<Vec<
 }
 
 // rule: engines (own) A URL is asked for with GET
-/// The pseudo-fields of a request of the scheme `http` with these values, without other fields.
+/// The pseudo-header fields of a request with scheme `http` and these values, without other fields.
 pub(crate) fn head_with(
     alloc: Global,
     method: &[u8],
@@ -208,12 +209,12 @@ fn add_field(
 }
 
 // rule: engines (own) A response is printed as its status, its phrase and its body
-/// Prints the status of a response and its phrase on one line, the status alone where it has none,
-/// and then the octets of the body as they are.
+/// Prints the status of a response and its reason phrase on one line, or the status alone if it
+/// has none, and then the octets of the body as they are.
 ///
 /// # Errors
 ///
-/// [`LinkError::Device`] (N1) where a write failed.
+/// [`LinkError::Device`] (N1) if a write failed.
 pub fn print_response<W: Write>(fetched: &Fetched, out: &mut W) -> Result<(), LinkError>
     ensures prints { OnOk result
         (PrintsResponse (W.contents out.old) (W.contents out.new) fetched.now) }
@@ -232,7 +233,7 @@ fn write_response<W: Write>(fetched: &Fetched, out: &mut W) -> io::Result<()>
 }
 
 // rule: engines (own) A response is printed as its status, its phrase and its body
-/// The phrase of a status (RFC 9110, section 15), if it has one.
+/// Returns the reason phrase of a status (RFC 9110, section 15), if it has one.
 pub fn phrase(status: u16) -> Option<&'static str>
     ensures { option_map (λ text. text.now) result
         ≡ (if nat_lt 99 status && nat_lt status 1000 then reason_phrase status else None) }
@@ -244,7 +245,7 @@ pub fn phrase(status: u16) -> Option<&'static str>
 }
 
 // rule: engines (own) A response is printed as its status, its phrase and its body
-/// Writes a status and its phrase as a line, the status alone where it has none.
+/// Writes a status and its reason phrase as a line, or the status alone if it has none.
 ///
 /// # Errors
 ///
@@ -261,7 +262,7 @@ pub fn write_status<W: Write>(value: &[u8], out: &mut W) -> io::Result<()>
 }
 
 // rule: engines (own) A response is printed as its status, its phrase and its body
-/// The phrase of the status with these digits, if it has one.
+/// The reason phrase of the status with these digits, if it has one.
 fn phrase_of(value: &[u8]) -> Option<&'static str>
     ensures { IsPhraseOf value.now (option_map (λ text. text.now) result) }
 {
@@ -271,7 +272,7 @@ fn phrase_of(value: &[u8]) -> Option<&'static str>
     }
 }
 
-/// The value of `:status`, which each response has (RFC 9113, section 8.3.2).
+/// Returns the value of `:status`, which each response has (RFC 9113, section 8.3.2).
 pub fn status_value(head: &[Field]) -> &[u8]
     ensures { result.now ≡ status_of head.now }
 {

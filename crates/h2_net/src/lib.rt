@@ -1,12 +1,11 @@
 //! HTTP/2 over sockets of TCP, cleartext and with prior knowledge (RFC 9113, section 3.3): a server
 //! of one connection at a time, a client that fetches one response, and both ends in one process.
 //!
-//! [`StreamLink`] is a link over a TCP stream: it holds what it is given to write, and sends it
-//! before it reads. [`target`] reads a URL of the scheme `http` that can be fetched (RFC 9110,
-//! section 4.2.1).
+//! [`StreamLink`] is a link over a TCP stream that collects writes and sends them before it
+//! reads. [`target`] reads a URL of the scheme `http` (RFC 9110, section 4.2.1).
 //!
-//! What serves and what fetches takes the network as a [`std::net::Net`], and the writers that it
-//! prints to.
+//! The calls that serve and fetch take the network as a [`std::net::Net`], and the writers that
+//! they print to.
 #![tactic(auto)]
 
 mod ending;

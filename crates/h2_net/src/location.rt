@@ -11,35 +11,35 @@ use http_uri::{Authority, Uri, UriError};
 use std::alloc::{AllocError, Global};
 use thiserror::Error;
 
-/// What a URL of the scheme `http` names (RFC 9110, section 4.2.1).
+/// The target of a URL with scheme `http` (RFC 9110, section 4.2.1).
 #[derive(Debug, Drop)]
 pub struct Location {
-    /// The host: a name or an IP address, this one without brackets.
+    /// The host: a name, or an IP address without brackets.
     pub host: String,
     /// The port, from 1 to 65,535.
     pub port: u16,
-    /// The host and the port as in the URL: what `:authority` says.
+    /// The host and the port as in the URL: the value of `:authority`.
     pub authority: String,
-    /// The path, which is `/` where the URL has none, and the query: what `:path` says.
+    /// The path, `/` if the URL has none, and the query: the value of `:path`.
     pub path: String,
 }
 
-/// Why a URL can't be fetched. Its text is for the user.
+/// Why a URL cannot be fetched. Its text is for the user.
 #[derive(Clone, Copy, Debug, PartialEq, Eq, Hash, Error)]
 pub enum TargetFault {
-    /// It is no URL.
+    /// It is not a valid URL.
     #[error("the URL is malformed")]
     Unread,
-    /// Its scheme isn't `http`.
+    /// Its scheme is not `http`.
     #[error("the URL does not begin with http://")]
     OtherScheme,
     /// It has no host.
     #[error("the URL has no host")]
     NoHost,
-    /// It has no port, or one that isn't from 1 to 65,535.
+    /// It has no port, or one that is not from 1 to 65,535.
     #[error("the URL needs a port from 1 to 65535, such as :80")]
     NoPort,
-    /// It has a userinfo, which is not to be sent (RFC 9113, section 8.3.1).
+    /// It has a userinfo, which must not be sent (RFC 9113, section 8.3.1).
     #[error("a user name in the URL is not supported")]
     UserInfo,
     /// Out of memory.
@@ -62,8 +62,7 @@ impl From<AllocError> for TargetFault {
 ///
 /// # Errors
 ///
-/// [`TargetFault`] names the first reason for which it can't be fetched, in the order in which they
-/// stand there.
+/// The first reason for which the URL cannot be fetched, in the order of [`TargetFault`].
 pub fn target(alloc: Global, url: &[u8]) -> Result<Location, TargetFault>
     ensures ok { IfOk result (Names url.now) }
     ensures err { IfErr result (IsRefusedUrl url.now) }
@@ -102,7 +101,7 @@ fn location_of(alloc: Global, uri: &Uri) -> Result<Location, TargetFault>
     })
 }
 
-/// An IPv6 address without its brackets, and any other host as it is.
+/// An IPv6 address without its brackets, or any other host as it is.
 fn without_brackets(host: &str) -> &str
     ensures { result.now ≡ without_brackets host.now }
 {
@@ -127,7 +126,7 @@ fn port_of(authority: &Authority) -> Option<u16>
     }
 }
 
-/// Whether a text is of decimal digits alone.
+/// Whether a text has only decimal digits.
 fn is_decimal(text: &str) -> bool
     ensures { result ≡ list_all is_ascii_digit text.now }
 {
@@ -135,7 +134,7 @@ fn is_decimal(text: &str) -> bool
 }
 
 // rule: engines (own) A URL is fetched that has scheme http, a host and a port
-/// The path of a URL, which is `/` where it has none, with the query.
+/// The path of a URL, `/` if it has none, with the query.
 fn path_of(alloc: Global, uri: &Uri) -> Result<String, AllocError>
     ensures { IfOk result (λ path. string_bytes path
         ≡ uri_path uri.now ++ query_part (uri_query uri.now)) }

@@ -1,4 +1,4 @@
-//! Both ends in one process, over one connection.
+//! A client and a server in one process, over one connection.
 
 ghost use Rattle.std.specs.Prelude.{◌≡◌, ◌≢◌, ◌≤◌, ◌<◌, ◌-◌, ◌^◌, ℕ, [], length, IfErr, IfOk, OnOk};
 ghost use Rattle.std.specs.Prelude.{Ok};
@@ -19,13 +19,13 @@ use std::alloc::{AllocError, Global};
 use std::io::{self, Read, Write};
 use std::net::{Ipv4Addr, Net, OpenListener, OpenStream, SocketAddr, TcpListener, TcpStream};
 
-/// So many octets an end writes in its turn, at most.
+/// The maximum number of octets that an end writes in its turn.
 const TURN: usize = 4_096;
 
-/// Where the octets of a body begin again.
+/// The period of the octets of a body.
 const PERIOD: u32 = 251;
 
-/// The two ends, and the two streams of their connection.
+/// The two ends, and the two sides of their connection.
 #[derive(Drop)]
 struct Ends<S> {
     client: Fetcher,
@@ -46,17 +46,17 @@ struct Carried {
 }
 
 // rule: engines (own) h2 loop posts octets, and its line says how many came
-/// Posts so many octets, of which octet k is k mod 251, to `/` of a server in this process, over
-/// one TCP connection of 127.0.0.1, and answers the response. Each end in turn writes at most 4,096
-/// octets, which the other then reads; it ends with a round in which neither writes.
+/// Posts `count` octets, octet k being k mod 251, to `/` of a server in this process over one
+/// TCP connection on 127.0.0.1, and returns the response. The ends take turns: each writes at
+/// most 4,096 octets, which the other then reads. It ends with a round in which neither writes.
 ///
 /// # Errors
 ///
-/// [`LinkError::Device`] (N1) where the connection failed or can't be made;
-/// [`LinkError::Memory`] (N3) where an allocation was refused; [`LinkError::CutOff`] (N4) where the
-/// response isn't whole at the end; [`LinkError::NoProgress`] (N5) also after 2^64 - 1 rounds.
-/// [`LinkError::Stream`] (N2), [`LinkError::Reset`] (N6), [`LinkError::Refused`] (N7) and each
-/// other [`LinkError::NoProgress`] (N5) would be faults of the ends.
+/// [`LinkError::Device`] (N1) if the connection failed or cannot be made, [`LinkError::Memory`]
+/// (N3) if an allocation was refused, [`LinkError::CutOff`] (N4) if the response is incomplete
+/// at the end, [`LinkError::NoProgress`] (N5) also after 2^64 - 1 rounds. [`LinkError::Stream`]
+/// (N2), [`LinkError::Reset`] (N6), [`LinkError::Refused`] (N7) and any other
+/// [`LinkError::NoProgress`] (N5) would be faults of the ends.
 pub fn exchange<N: Net>(net: &N, alloc: Global, count: u32) -> Result<Fetched, LinkError>
 where
     N::Stream: WriteParts,
@@ -67,7 +67,7 @@ where
 }
 
 // rule: engines (own) h2 loop posts octets, and its line says how many came
-/// Lets both ends write in turns, and answers the response to the client.
+/// Lets both ends write in turns, and returns the response to the client.
 fn exchange_between<S: Read + WriteParts + OpenStream + Drop>(
     alloc: Global,
     mut ends: Ends<S>,
@@ -80,7 +80,7 @@ fn exchange_between<S: Read + WriteParts + OpenStream + Drop>(
 }
 
 // rule: engines (own) h2 loop posts octets, and its line says how many came
-/// Lets both ends write in turns, as [`carry_all`] does, with room for what is carried.
+/// Lets both ends write in turns, as [`carry_all`] does, in a new buffer.
 fn carry_with_room<S: Read + WriteParts + OpenStream>(
     alloc: Global,
     ends: &mut Ends<S>,
@@ -93,7 +93,7 @@ fn carry_with_room<S: Read + WriteParts + OpenStream>(
     carry_all(ends, &mut carried)
 }
 
-/// Nothing that is carried yet, with room for what is read.
+/// Empty buffers, with room for what is read.
 fn new_carried(alloc: Global) -> Result<Carried, LinkError>
     ensures { IfErr result (λ error. error ≡ LinkError.Memory) }
 {
@@ -106,7 +106,7 @@ fn new_carried(alloc: Global) -> Result<Carried, LinkError>
 }
 
 // rule: engines (own) h2 loop posts octets, and its line says how many came
-/// The response of a client that has posted so, where it is whole.
+/// The response of a client that has posted, if it is complete.
 fn fetched_by(client: Fetcher, carries: Result<bool, LinkError>) -> Result<Fetched, LinkError>
     ensures { (count : ℕ) → PostsOn count carries client → ExchangesPost count result }
 {
@@ -115,7 +115,7 @@ fn fetched_by(client: Fetcher, carries: Result<bool, LinkError>) -> Result<Fetch
 }
 
 // rule: engines (own) h2 loop posts octets, and its line says how many came
-/// That the response is whole, as is said where its ends have carried all.
+/// Fails with N4 unless the response is complete.
 fn whole_or_cut_off(carries: Result<bool, LinkError>) -> Result<(), LinkError>
     ensures { (count : ℕ) (client : Fetcher) → PostsOn count carries client
         → PostsOn count result client }
@@ -128,7 +128,7 @@ fn whole_or_cut_off(carries: Result<bool, LinkError>) -> Result<(), LinkError>
 }
 
 // rule: engines (own) h2 loop posts octets, and its line says how many came
-/// Two ends, of which the client is to post so many octets, and their connection.
+/// Creates two ends, whose client will post this many octets, and their connection.
 fn new_ends<N: Net>(net: &N, alloc: Global, count: u32) -> Result<Ends<N::Stream>, LinkError>
 where
     N::Stream: WriteParts,
@@ -141,7 +141,7 @@ where
     ends_over(alloc, message, links)
 }
 
-/// Two ends over the links of a connection, of which the client is to make this request.
+/// Creates two ends over the links of a connection, whose client will make this request.
 fn ends_over<S: Drop>(
     alloc: Global,
     message: Message,
@@ -164,7 +164,7 @@ fn ends_over<S: Drop>(
     })
 }
 
-/// A client that is to make this request, and a server.
+/// Creates a client that will make this request, and a server.
 fn machines(alloc: Global, message: Message) -> Result<(Fetcher, Responder), LinkError>
     ensures posts { (count : ℕ) → message_value message ≡ post_request count
         → IfOk result (λ machines. IsPosting count machines.0) }
@@ -177,8 +177,8 @@ fn machines(alloc: Global, message: Message) -> Result<(Fetcher, Responder), Lin
 }
 
 // rule: engines (own) h2 loop posts octets, and its line says how many came
-/// Lets both ends write in turns, until a round in which neither does. Answers whether the response
-/// is whole.
+/// Lets both ends write in turns until a round in which neither does. Returns whether the
+/// response is complete.
 fn carry_all<S: Read + WriteParts + OpenStream>(
     ends: &mut Ends<S>,
     carried: &mut Carried,
@@ -201,11 +201,11 @@ fn carry_all<S: Read + WriteParts + OpenStream>(
 }
 
 // rule: engines (own) h2 loop posts octets, and its line says how many came
-/// Prints how many octets were posted, how many the response's body has, and its status.
+/// Prints the number of octets posted, the length of the response's body, and its status.
 ///
 /// # Errors
 ///
-/// [`LinkError::Device`] (N1) where a write failed.
+/// [`LinkError::Device`] (N1) if a write failed.
 pub fn print_exchange<W: Write>(count: u32, fetched: &Fetched, out: &mut W) -> Result<(), LinkError>
     ensures prints { OnOk result (Appends (W.contents out.old) (W.contents out.new)
         (exchange_line count fetched.now)) }
@@ -226,7 +226,7 @@ fn write_exchange<W: Write>(count: u32, fetched: &Fetched, out: &mut W) -> io::R
     out.flush()
 }
 
-/// The request that posts so many octets.
+/// The request that posts this many octets.
 fn post_of(alloc: Global, count: u32) -> Result<Message, AllocError>
     ensures { IfOk result (λ message. message_value message ≡ post_request count) }
 {
@@ -255,7 +255,7 @@ fn room_for_turn(alloc: Global) -> Result<Vec<u8>, LinkError>
     Ok(vec![in alloc; 0u8; TURN]?)
 }
 
-/// The two sides of a new connection of 127.0.0.1: the one that connects, and the one that accepts.
+/// The two sides of a new connection on 127.0.0.1: the one that connects, and the one that accepts.
 fn joined<N: Net>(
     net: &N,
     alloc: Global,
@@ -300,7 +300,7 @@ fn linked<S: Read + WriteParts + OpenStream + Drop>(
     ))
 }
 
-/// The client writes, and the server takes that.
+/// The client writes, and the server reads that.
 fn client_turn<S: Read + WriteParts + OpenStream>(
     ends: &mut Ends<S>,
     carried: &mut Carried,
@@ -320,7 +320,7 @@ fn client_turn<S: Read + WriteParts + OpenStream>(
     Ok(())
 }
 
-/// The server writes, and the client takes that. Answers whether the response has become whole.
+/// The server writes, and the client reads that. Returns whether the response is now complete.
 fn server_turn<S: Read + WriteParts + OpenStream>(
     ends: &mut Ends<S>,
     carried: &mut Carried,
@@ -341,8 +341,8 @@ fn server_turn<S: Read + WriteParts + OpenStream>(
     Ok(is_whole)
 }
 
-/// Writes octets at one side of a connection, as many as there is room for, and reads as many at
-/// the other. Answers how many.
+/// Writes octets at one side of a connection, at most as many as `room` takes, and reads as many
+/// at the other. Returns how many.
 fn carry<S: Read + WriteParts + OpenStream>(
     from: &mut StreamLink<S>,
     to: &mut StreamLink<S>,
@@ -362,7 +362,7 @@ fn carry<S: Read + WriteParts + OpenStream>(
     Ok(count)
 }
 
-/// Reads as many octets as there is room for.
+/// Reads until `room` is full.
 fn read_all<L: Link>(link: &mut L, room: &mut [u8]) -> Result<(), LinkError>
     requires { L.faults link.old < 2 ^ 64 - 1 }
     ensures length { length room.new ≡ length room.old }

@@ -1,4 +1,4 @@
-//! Writing octets that lie in several parts.
+//! Writes octets that lie in several parts.
 
 ghost use Rattle.std.specs.Prelude.{◌≡◌, take, drop};
 ghost use Rattle.std.specs.Io.{WritesAtMost};
@@ -9,9 +9,9 @@ use crate::stream_link::DIRECT;
 use std::io::{self, IoSlice, Write};
 use std::net::TcpStream;
 
-/// A stream that writes several parts at once, where it can.
+/// A stream that can write several parts in one call.
 pub trait WriteParts: Write {
-    /// Writes the first of the octets of these parts, in order, and answers how many.
+    /// Writes a prefix of the octets of these parts, in order, and returns its length.
     ///
     /// # Errors
     ///
@@ -22,7 +22,7 @@ pub trait WriteParts: Write {
             (io_slices_bytes parts.now) };
 }
 
-/// In one call of the system, of the first four parts that are not empty.
+/// Writes the first four nonempty parts in one system call.
 impl WriteParts for TcpStream {
     fn write_parts(&mut self, parts: &[IoSlice<'_>]) -> io::Result<usize> {
         TcpStream::write_vectored(self, parts)
@@ -30,7 +30,7 @@ impl WriteParts for TcpStream {
 }
 
 // rule: engines (own) A link over TCP holds 65,536 octets at most, then sends them
-/// Whether these parts have so many octets that they are sent at once.
+/// Whether these parts have [`DIRECT`] octets or more, which are sent at once.
 pub(crate) fn are_many(parts: &[IoSlice<'_>]) -> bool {
     let mut count = 0usize;
     for part in parts {
@@ -39,7 +39,7 @@ pub(crate) fn are_many(parts: &[IoSlice<'_>]) -> bool {
     count >= DIRECT
 }
 
-/// The part at a place; an empty one where there is none.
+/// The part at this index, or an empty one.
 pub(crate) fn part_at<'a>(parts: &[IoSlice<'a>], at: usize) -> IoSlice<'a>
     ensures { io_slice_bytes result ≡ io_slices_bytes (take 1 (drop at parts.now)) }
 {

@@ -1,4 +1,4 @@
-//! Sending octets, and taking the sent ones away.
+//! Sends octets, and removes those that were sent.
 
 ghost use Rattle.std.specs.Prelude.{◌≡◌, ◌≤◌, length, take, drop};
 ghost use Rattle.std.specs.Io.KnownBytes.{Appends};
@@ -8,8 +8,8 @@ use h2_link::write_some;
 use std::io::{self, ErrorKind, Write};
 
 // rule: engines (own) A link over TCP sends octets in order and once
-/// Writes until all octets are written, or a write fails or takes none. Answers how many first
-/// octets were written, and of which kind the error of a write was that failed.
+/// Writes until all octets are written, or a write fails or accepts none. Returns how many
+/// octets were written, and the kind of the error of a failed write.
 pub fn send<W: Write>(out: &mut W, octets: &[u8]) -> (usize, Option<ErrorKind>)
     ensures bound { result.0 ≤ length octets.now }
     ensures octets { Appends (W.contents out.old) (W.contents out.new) (take result.0 octets.now) }
@@ -26,7 +26,7 @@ pub fn send<W: Write>(out: &mut W, octets: &[u8]) -> (usize, Option<ErrorKind>)
 }
 
 // rule: engines (own) A link over TCP sends octets in order and once
-/// Takes so many first octets away.
+/// Removes the first `count` octets.
 pub fn remove_first(octets: &mut Vec<u8>, count: usize)
     requires { count ≤ length octets.old.items }
     ensures { octets.new.items ≡ drop count octets.old.items }
@@ -36,11 +36,11 @@ pub fn remove_first(octets: &mut Vec<u8>, count: usize)
     octets.truncate(left);
 }
 
-/// So many first octets are kept of what is read: as many as the preface has.
+/// How many of the first octets read are kept: the length of the preface.
 pub const MOST_FIRST: usize = 24;
 
-/// Adds the first octets of a piece to those that are kept, until there are 24. None is added where
-/// an allocation is refused.
+/// Adds the first octets of a piece to those kept, up to 24 in all. Adds none if an allocation
+/// is refused.
 pub fn keep_first(kept: &mut Vec<u8>, piece: &[u8])
     ensures { KeepsFirst kept.old.items piece.now kept.new.items }
 {
@@ -50,6 +50,6 @@ pub fn keep_first(kept: &mut Vec<u8>, piece: &[u8])
     } else {
         &piece[..room]
     };
-    // What is kept serves a hint alone.
+    // What is kept is used for a hint only.
     let _ = kept.extend_from_slice(first);
 }

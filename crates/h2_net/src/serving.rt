@@ -1,4 +1,4 @@
-//! Serving connections to a port.
+//! Serves connections to a port.
 
 ghost use Rattle.std.specs.Prelude.{◌≡◌, ℕ, Option, Result as Outcome, OnOk, IfErr, None, true};
 ghost use Rattle.h2_link.specs.declared.error.LinkError.{LinkError as Reason};
@@ -20,12 +20,12 @@ use std::io::{Read, Write};
 use std::net::{Ipv4Addr, Net, OpenListener, OpenStream, SocketAddr, TcpListener};
 
 // rule: engines (own) h2 serve serves so many connections, one after another
-/// Serves so many connections to a port of 127.0.0.1, one after another, as
-/// [`h2_engines::serve_link`] does with the default [`Config`], and answers the status of the first
+/// Serves `count` connections to a port on 127.0.0.1, one after another, as
+/// [`h2_engines::serve_link`] does with the default [`Config`]. Returns the status of the first
 /// that ended early, or [`Status::Good`].
 ///
-/// A connection that ends early has a line on standard error, with a hint where the cause is known,
-/// and the next one is served. Where the port can't be had no connection is served: that is
+/// If a connection ends early, a line is printed on `err`, with a hint if the cause is known,
+/// and the next one is served. If the port is not available, no connection is served:
 /// [`LinkError::Device`] (N1).
 pub fn serve_port<N: Net, E: Write>(
     net: &N,
@@ -51,8 +51,8 @@ where
 }
 
 // rule: engines (own) h2 serve serves so many connections, one after another
-/// Serves so many connections that a listener accepts, as [`serve_port`] does. One that can't be
-/// accepted counts as one that ended with [`LinkError::Device`] (N1).
+/// Serves `count` connections of a listener, as [`serve_port`] does. A failed accept counts as a
+/// connection that ended with [`LinkError::Device`] (N1).
 pub fn serve_connections<L: OpenListener, E: Write>(
     alloc: Global,
     listener: &L,
@@ -97,8 +97,8 @@ where
     serve_with_hint(alloc, &mut link)
 }
 
-/// Serves one connection, as [`serve_stream`] does. Where it ends early the hint says what is
-/// likely the cause.
+/// Serves one connection, as [`serve_stream`] does. If it ends early, the hint names the likely
+/// cause.
 fn serve_with_hint<S: Read + WriteParts + OpenStream>(
     alloc: Global,
     link: &mut StreamLink<S>,
@@ -128,9 +128,9 @@ fn serve_with_hint<S: Read + WriteParts + OpenStream>(
 
 // contract: engines (own) After N2 and N3 input is dropped up to 16 MiB
 // rule: engines (own) After N2 and N3 input is dropped up to 16 MiB
-/// Serves one connection, and sends all that is held for it. After [`LinkError::Stream`] (N2) and
-/// [`LinkError::Memory`] (N3) the peer has the time to read the GOAWAY. `why` says why the
-/// connection has failed, if it has.
+/// Serves one connection, and flushes its link. After [`LinkError::Stream`] (N2) and
+/// [`LinkError::Memory`] (N3) the link is drained, so that the peer can read the GOAWAY. `why`
+/// is set to the reason for which the connection failed, if it did.
 fn serve_stream<S: Read + WriteParts + OpenStream>(
     alloc: Global,
     link: &mut StreamLink<S>,

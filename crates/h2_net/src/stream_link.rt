@@ -17,28 +17,27 @@ use std::alloc::Global;
 use std::io::{ErrorKind, IoSlice, Read};
 use std::net::{OpenStream, Shutdown};
 
-/// So many octets are held before they are sent, at most.
+/// The maximum number of octets held before they are sent.
 const MOST_HELD: usize = 65_536;
 
-/// So many octets are sent from where they lie, where none are held.
+/// From this many octets on, a write is sent at once if nothing is held.
 pub(crate) const DIRECT: usize = 8_192;
 
-/// So many octets are read at once where they are dropped.
+/// The maximum number of octets per read while input is discarded.
 const DROPPED_PIECE: usize = 4_096;
 
-/// So many octets are dropped, at most: 16 MiB.
+/// The maximum number of octets discarded: 16 MiB.
 const MOST_DROPPED: usize = 16_777_216;
 
-/// A link over a TCP stream. It holds what it is given to write, up to 65,536 octets, and sends
-/// that at the next read, once it is so many octets, and where [`StreamLink::flush`] is called.
-/// 8,192 octets and more are sent at once, without a copy, where none are held.
+/// A link over a TCP stream. It holds up to 65,536 octets of writes, and sends them at the next
+/// read, once there are 65,536, or when [`StreamLink::flush`] is called. A write of 8,192 octets
+/// or more is sent at once, without a copy, if nothing is held.
 ///
-/// Where sending fails the call that sends fails, and of what was held what was not sent stays
-/// held: the next call that sends goes on with it, so octets are sent in order, and none twice.
-/// After a failed write of 8,192 octets or more it isn't known how many of these were sent:
-/// nothing may be written after them.
+/// If sending fails, the call fails, and the octets held that were not sent stay held: the next
+/// call that sends continues with them, so octets are sent in order and none twice. After a failed
+/// write of 8,192 octets or more it is unknown how many of these were sent: write nothing more.
 ///
-/// What is held where a link is dropped isn't sent.
+/// Octets still held when the link is dropped are not sent.
 #[derive(Drop)]
 pub struct StreamLink<S> {
     stream: S,
@@ -54,13 +53,12 @@ pub struct StreamLink<S> {
 impl<S: Read + WriteParts + OpenStream> StreamLink<S> {
     // rule: engines (own) A link over TCP holds 65,536 octets at most, then sends them
     // rule: engines (own) A link over TCP counts the calls that have failed
-    /// A link over a stream, with room for what it holds. The stream sends at once what it is given
-    /// (TCP_NODELAY).
+    /// Creates a link over a stream, with its buffers. Sets TCP_NODELAY.
     ///
     /// # Errors
     ///
-    /// [`LinkError::Device`] (N1) where the stream's option can't be set,
-    /// [`LinkError::Memory`] (N3) where an allocation was refused.
+    /// [`LinkError::Device`] (N1) if the option cannot be set, [`LinkError::Memory`] (N3) if an
+    /// allocation was refused.
     pub fn new(alloc: Global, stream: S) -> Result<StreamLink<S>, LinkError>
     where
         S: Drop,
@@ -96,21 +94,22 @@ impl<S: Read + WriteParts + OpenStream> StreamLink<S> {
         })
     }
 
-    /// The stream.
+    /// Returns the stream.
     pub fn get_ref(&self) -> &S
         ensures { result.now ≡ self.now.stream }
     {
         &self.stream
     }
 
-    /// The first octets that were read, 24 at most: as many as the preface has.
+    /// Returns the first octets that were read, at most 24: the length of the preface.
     pub fn first_octets(&self) -> &[u8]
         ensures { result.now ≡ self.now.first.items }
     {
         &self.first
     }
 
-    /// The kind of the last I/O error, if any. A write that accepted no octets is not an error.
+    /// Returns the kind of the last I/O error, if any. A write that accepted no octets is not an
+    /// error.
     pub fn last_error(&self) -> Option<ErrorKind>
         ensures { result ≡ self.now.last_error }
     {
@@ -127,13 +126,13 @@ impl<S: Read + WriteParts + OpenStream> StreamLink<S> {
     // rule: engines (own) A link over TCP holds 65,536 octets at most, then sends them
     // rule: engines (own) A link over TCP sends octets in order and once
     // rule: engines (own) A link over TCP counts the calls that have failed
-    /// Sends all that is held, in as many writes as it takes; one that a signal interrupts is
-    /// tried again.
+    /// Sends everything held, in as many writes as it takes; a write that a signal interrupts is
+    /// repeated.
     ///
     /// # Errors
     ///
-    /// [`LinkFault`] where a write failed or took none: some first octets may have been sent, and
-    /// the others, one at least, stay held.
+    /// [`LinkFault`] if a write failed or accepted no octets: a prefix may have been sent, and
+    /// the rest, at least one octet, stays held.
     pub fn flush(&mut self) -> Result<(), LinkFault>
         requires { self.old.failures < 2 ^ 64 - 1 }
         ensures sends { SendsThrough (S.contents self.old.stream)
@@ -157,7 +156,7 @@ impl<S: Read + WriteParts + OpenStream> StreamLink<S> {
 
     // rule: engines (own) A link over TCP sends octets in order and once
     // rule: engines (own) A link over TCP counts the calls that have failed
-    /// Sends octets, some at least, where none are held: all of them, or it fails.
+    /// Sends one octet or more while none are held: all of them, or it fails.
     fn send_directly(&mut self, octets: &[u8]) -> Result<usize, LinkFault>
         requires failures { self.old.failures < 2 ^ 64 - 1 }
         requires none { self.old.held.items ≡ [] }
@@ -183,9 +182,8 @@ impl<S: Read + WriteParts + OpenStream> StreamLink<S> {
     }
 
     // rule: engines (own) A link over TCP sends octets in order and once
-    /// Sends what is held, and then octets from where they lie, in one write, where these are many.
-    /// Answers how many of these were sent: none where the write failed, or took no more than was
-    /// held.
+    /// Sends what is held and then these octets, in one write, if they are many. Returns how
+    /// many of these were sent: 0 if the write failed or took no more than was held.
     fn send_parts(&mut self, parts: &[IoSlice<'_>]) -> usize
         ensures holds { TakesFirst (octets_passed S.contents self.old)
             (octets_passed S.contents self.new) (io_slices_bytes parts.now) result }
@@ -216,9 +214,9 @@ impl<S: Read + WriteParts + OpenStream> StreamLink<S> {
     }
 
     // rule: engines (own) After N2 and N3 input is dropped up to 16 MiB
-    /// Ends what is written, and reads and drops what comes until the peer ends too, at most 16
-    /// MiB. A stream that is closed while octets are unread resets the connection, and then the
-    /// peer may lose what was sent last. What is held isn't sent.
+    /// Shuts down writing, and discards input until the peer ends, at most 16 MiB. Closing a
+    /// socket with unread input resets the connection, and the peer may then lose what was sent
+    /// last. What is held is not sent.
     pub fn drain(&mut self)
         ensures { self.new ≡ record self.old { stream = self.new.stream; drained = true } }
     {
@@ -238,8 +236,8 @@ impl<S: Read + WriteParts + OpenStream> StreamLink<S> {
     }
 }
 
-/// A stream says nothing of what it holds after a read, nor of what is left to read after a write.
-/// So a link over it doesn't say what it has given and taken, and its calls say what each has done.
+/// A stream does not state what it holds after a read, or what is left to read after a write; so
+/// the contracts of this link are those of each call, not of all octets so far.
 impl<S: Read + WriteParts + OpenStream> Link for StreamLink<S> {
     ghost given = { λ link. None };
 
@@ -251,7 +249,7 @@ impl<S: Read + WriteParts + OpenStream> Link for StreamLink<S> {
 
     ghost faults = { λ link. link.failures };
 
-    /// Sends all that is held, and then reads. An end of the input that was read stays known.
+    /// Sends everything held, then reads. Once the input has ended, that is remembered.
     fn read(&mut self, buffer: &mut [u8]) -> Result<usize, LinkFault>
         requires { self.old.failures < 2 ^ 64 - 1 }
         ensures length { length buffer.new ≡ length buffer.old }
@@ -281,8 +279,9 @@ impl<S: Read + WriteParts + OpenStream> Link for StreamLink<S> {
         }
     }
 
-    /// Holds as many first octets as there is room for, and sends once 65,536 are held; many octets
-    /// are sent at once where none are held. There is no room only after a send that failed.
+    /// Holds a prefix of these octets, as many as there is room for, and sends everything once
+    /// 65,536 are held. 8,192 octets or more are sent at once if nothing is held. There is no
+    /// room only after a send that failed.
     fn write(&mut self, octets: &[u8]) -> Result<usize, LinkFault>
         requires { self.old.failures < 2 ^ 64 - 1 }
         ensures takes { Takes None None result octets.now }
@@ -318,8 +317,8 @@ impl<S: Read + WriteParts + OpenStream> Link for StreamLink<S> {
         Ok(count)
     }
 
-    /// Many octets are sent at once, from where they lie, after what is held; where that sends none
-    /// of them, and of few, the first part is written alone.
+    /// Sends 8,192 octets or more at once, after what is held. If that sends none of them, or
+    /// they are fewer, only the first part is written.
     fn write_parts(&mut self, parts: &[IoSlice<'_>]) -> Result<usize, LinkFault>
         requires { self.old.failures < 2 ^ 64 - 1 }
         ensures takes { Takes None None result (io_slices_bytes parts.now) }

@@ -1,8 +1,8 @@
-//! Both sides of a connection as one HTML page that needs nothing from elsewhere: [`page_of`]
-//! makes it of the lines that `h2 show --follow` prints.
+//! Makes one self-contained HTML page of both sides of a connection: [`page_of`] turns the lines
+//! of `h2 show --follow` into it.
 //!
-//! A browser draws the lines by the page's own script: two lifelines, a row a frame in order, a
-//! colour a stream, and windows as bars beside them. A click folds a stream.
+//! The page's script draws two lifelines, one row for each frame in order, one color for each
+//! stream, and bars for the windows. A click folds a stream.
 #![tactic(auto)]
 
 mod page;

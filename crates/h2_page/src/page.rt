@@ -1,4 +1,4 @@
-//! Lines of both sides of a connection as a page.
+//! Makes a page of the lines of both sides.
 
 ghost use Rattle.std.specs.Prelude.{◌≡◌, [], ◌∷◌, ◌++◌, ℕ, List, true, not, IfOk, OnOk};
 ghost use Rattle.std.specs.List.{list_all};
@@ -10,11 +10,11 @@ use std::alloc::{AllocError, Global};
 
 // contract: page (own) A page is its head, the lines, escaped, and its end
 // rule: page (own) A page is its head, the lines, escaped, and its end
-/// The page of the lines that `h2 show --follow` prints.
+/// Returns the page of the lines that `h2 show --follow` prints.
 ///
 /// # Errors
 ///
-/// [`AllocError`] when out of memory.
+/// [`AllocError`] if out of memory.
 pub fn page_of(alloc: Global, lines: &[u8]) -> Result<Vec<u8>, AllocError>
     ensures { IfOk result (λ page. page.items ≡ page_of lines.now) }
 {
@@ -50,7 +50,7 @@ fn add_escaped(lines: &[u8], page: &mut Vec<u8>) -> Result<(), AllocError>
 }
 
 // rule: page (own) No octet of a peer has a meaning in HTML
-// Whether HTML gives an octet a meaning.
+// Whether an octet has a meaning in HTML.
 fn has_meaning(octet: u8) -> bool
     ensures { result ≡ has_meaning octet }
 {
@@ -79,8 +79,8 @@ pub fn escaped_lines_are_text()
 {}
 
 // contract: page (own) A page is its head, the lines, escaped, and its end
-/// A page begins and ends as a document of HTML does, and its lines stand in a script of plain
-/// text, which a browser neither runs nor shows.
+/// A page is an HTML document whose lines are in a script of plain text, which a browser neither
+/// runs nor shows.
 pub fn lines_stand_in_a_text()
     ensures head { IsPageHead HEAD.now }
     ensures end { IsPageEnd END.now }

@@ -1,4 +1,4 @@
-//! What stands on a page before the lines, and after them. Neither has a double quote.
+//! The parts of a page before and after the lines. Neither has a double quote.
 
 /// The head of a page: its style, and the place of the lines.
 pub(crate) const HEAD: &str = r"<!doctype html>

@@ -1,4 +1,4 @@
-//! Why a response was not heard whole.
+//! Why a response was not received completely.
 
 ghost use Rattle.std.specs.Prelude.{◌≡◌};
 ghost use Rattle.h2_receive.specs.declared.errors.FetchError.TheVariants.{Handler, Link};
@@ -7,13 +7,13 @@ use h2_handlers::HandlerFault;
 use h2_link::LinkError;
 use thiserror::Error;
 
-/// Why a response was not heard whole.
+/// Why a response was not received completely.
 #[derive(Clone, Copy, Debug, PartialEq, Eq, Hash, Error)]
 pub enum FetchError {
-    /// The connection or the request has ended early, as it says.
+    /// The connection or the request ended early.
     #[error("{0}")]
     Link(LinkError),
-    /// The handler has refused the part that it heard last.
+    /// The handler returned this fault for the last part.
     #[error("{0}")]
     Handler(HandlerFault),
 }

@@ -1,4 +1,4 @@
-//! Fetching a response over a link, for a handler.
+//! Fetches a response over a link, for a handler.
 
 ghost use Rattle.std.specs.Prelude.{◌≡◌, ◌<◌, ◌-◌, ◌^◌};
 ghost use Rattle.h2_flow.specs.ConfigValues.{values_of};
@@ -15,23 +15,23 @@ use std::alloc::Global;
 
 // contract: engines (own) A handler hears a response part by part, as it comes
 // rule: engines (own) A handler hears a response part by part, as it comes
-/// Makes a request over a link, and calls the handler with each part of the response as it comes,
-/// until it is whole. Then, or where it ends early, the handler learns how it has ended. Before each
-/// read all that is owed is released, and what waits is written.
+/// Makes a request over a link, and calls the handler with each part of the response as it
+/// arrives, until it is complete. Then, or if it ends early, [`ResponseHandler::over`] is
+/// called. Before each read, credit is returned and queued output is written.
 ///
-/// The link stays with the caller, and is to be closed: it has served one connection. What was
-/// written may wait in it: a link over a stream is to be flushed first.
+/// The caller should flush a link over a stream, which may still hold output, and close it: it
+/// cannot serve another connection.
 ///
 /// # Errors
 ///
-/// [`FetchError::Handler`] where the handler has refused a part; [`FetchError::Link`] with what has
-/// ended the fetch: [`LinkError::Device`] (N1) where the link failed; [`LinkError::Stream`] (N2)
-/// where the connection failed, once its GOAWAY was written; [`LinkError::Memory`] (N3) where an
-/// allocation was refused; [`LinkError::CutOff`] (N4) where the input ended;
-/// [`LinkError::NoProgress`] (N5) where a write took nothing, and after 2^64 - 1 rounds;
-/// [`LinkError::Reset`] (N6) where the stream was reset, by either end, or was not processed;
-/// [`LinkError::Refused`] (N7) where the message breaks a rule or its fields are too many. The
-/// handler has heard all parts that came before, but for memory, where the last ones may be lost.
+/// [`FetchError::Handler`] if the handler returned a fault; otherwise [`FetchError::Link`] with
+/// [`LinkError::Device`] (N1) if the link failed, [`LinkError::Stream`] (N2) if the connection
+/// failed, once its GOAWAY was written, [`LinkError::Memory`] (N3) if an allocation was refused,
+/// [`LinkError::CutOff`] (N4) if the input ended, [`LinkError::NoProgress`] (N5) if a write
+/// accepted nothing, and after 2^64 - 1 rounds, [`LinkError::Reset`] (N6) if the stream was
+/// reset by either end or was not processed, [`LinkError::Refused`] (N7) if the request breaks a
+/// rule or has too many fields. The handler was called with all parts received before; after N3
+/// the last ones may be lost.
 pub fn fetch_handler<H: ResponseHandler, L: Link>(
     alloc: Global,
     link: &mut L,
@@ -53,7 +53,7 @@ pub fn fetch_handler<H: ResponseHandler, L: Link>(
 }
 
 // rule: engines (own) A handler hears a response part by part, as it comes
-/// Hears the parts of a response until it is whole.
+/// Passes the parts of a response to the handler until it is complete.
 fn hear_all<H: ResponseHandler, L: Link>(
     alloc: Global,
     link: &mut L,
@@ -81,7 +81,7 @@ fn hear_all<H: ResponseHandler, L: Link>(
     Err(FetchError::Link(LinkError::NoProgress))
 }
 
-/// Whether the response is whole with a part.
+/// Whether this part completes the response.
 fn ends_response(part: &ResponsePart) -> bool
     ensures { result ≡ ends_response part.now }
 {

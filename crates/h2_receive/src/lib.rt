@@ -1,8 +1,8 @@
-//! A request over any link (RFC 9113), whose response a handler hears part by part, as it comes.
+//! Makes a request over any link (RFC 9113); a handler receives the response part by part.
 //!
-//! [`fetch_handler`] makes the request, reads, and calls the handler with each part, until the
-//! response is whole. Whoever wants to ask for the parts instead uses `PartFetch` of `h2_fetch`, on
-//! which this stands.
+//! [`fetch_handler`] makes the request, reads, and calls the handler with each part until the
+//! response is complete. To ask for the parts instead, use `PartFetch` of `h2_fetch`, on which
+//! this is built.
 #![tactic(auto)]
 
 mod errors;

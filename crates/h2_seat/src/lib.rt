@@ -1,7 +1,7 @@
-//! One connection of a host: a server with its handler, its times and its budget.
+//! One connection of a host: a server with its handler, its timers and its flood budget.
 //!
-//! A [`Seat`] is a [`Party`](h2_host::Party) of a [`Host`](h2_host::Host): it takes octets, gives
-//! octets, and ends what has taken too long and what is a flood.
+//! A [`Seat`] is a [`Party`](h2_host::Party) of a [`Host`](h2_host::Host): it takes input, gives
+//! output, and closes a connection that is too slow or floods.
 #![tactic(auto)]
 
 mod limits;

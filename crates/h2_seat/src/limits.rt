@@ -2,22 +2,22 @@
 
 use h2_times::{FloodLimits, TimeLimits};
 
-/// How long a connection may take for something, and what it may send that brings nothing.
+/// The time limits and flood limits of one connection.
 #[derive(Clone, Copy, Debug, PartialEq, Eq)]
 pub struct SeatLimits {
-    /// How long it may take for something.
+    /// The time limits.
     pub times: TimeLimits,
-    /// What it may send in a stretch of time.
+    /// The flood limits.
     pub floods: FloodLimits,
-    /// For the output to go once the connection is to end, in milliseconds: counted anew each time
-    /// that [`SeatLimits::least_closing`] octets of bodies were sent or have come.
+    /// Milliseconds for the output to be sent once the connection is closing. The time starts
+    /// again whenever [`SeatLimits::least_closing`] more octets of bodies were sent or received.
     pub closing: u64,
-    /// How many octets of bodies must move in [`SeatLimits::closing`], as long as any are left.
+    /// The octets of bodies that must be sent or received within [`SeatLimits::closing`].
     pub least_closing: u64,
 }
 
 impl Default for SeatLimits {
-    /// The defaults of both, and 5 s to close or for 65,536 octets of bodies.
+    /// The defaults of both, and 5 seconds to close or for each 65,536 octets of bodies.
     fn default() -> SeatLimits {
         SeatLimits {
             times: TimeLimits::default(),

@@ -1,4 +1,4 @@
-//! A connection as a host has it.
+//! The connection as a party of a host.
 
 use crate::seat::Seat;
 use h2_handlers::Handler;

@@ -1,4 +1,4 @@
-//! One connection of a host: a server with its handler, its times and its budget.
+//! One connection of a host: a server with its handler, its timers and its flood budget.
 
 ghost use Rattle.std.specs.Prelude.{◌≡◌, [], IfOk, Some};
 ghost use Rattle.h2_flow.specs.ConfigValues.{values_of};
@@ -17,27 +17,27 @@ use h2_host::Bound;
 use h2_times::{Budget, Times};
 use std::alloc::Global;
 
-/// Where a connection is.
+/// The phase of a connection.
 #[derive(Clone, Copy, Debug, PartialEq, Eq)]
 pub(crate) enum Phase {
-    /// It goes on.
+    /// The connection is up.
     Up,
-    /// GOAWAY waits or went, since this time: it ends once all went.
+    /// GOAWAY was queued; the connection closes once its output is drained.
     Ending {
         /// Why.
         why: Why,
-        /// Since when.
+        /// The time, in milliseconds, from which [`SeatLimits::closing`] counts.
         since: u64,
     },
-    /// It is over.
+    /// The connection is closed.
     Over(Why),
 }
 
-/// One connection: a server, what answers its requests, and what is known of its transport.
+/// One connection: a server, the handler of its requests, and the state of its transport.
 #[derive(Drop)]
 pub struct Seat<H, W> {
     pub(crate) handled: Handled<H, W>,
-    /// What came and was too much for its turn, from `used` on.
+    /// Input that was too much for its turn, from `used` on.
     pub(crate) kept: Vec<u8>,
     pub(crate) used: usize,
     pub(crate) limits: SeatLimits,
@@ -45,27 +45,26 @@ pub struct Seat<H, W> {
     pub(crate) budget: Budget,
     pub(crate) time: u64,
     pub(crate) went: u64,
-    /// How many octets of bodies had been sent and had come as its time to end was last counted
-    /// anew.
+    /// The octets of bodies sent and received when the time to close was last restarted.
     pub(crate) moved: u64,
-    /// Whether octets came since its last turn.
+    /// Whether octets were received since its last turn.
     pub(crate) took: bool,
     pub(crate) reads: bool,
     pub(crate) writes: bool,
     pub(crate) ended: bool,
     pub(crate) phase: Phase,
-    /// How many octets it holds, as of the last step.
+    /// The octets that it held after the last step.
     pub(crate) holds: usize,
-    /// Whether there is something to do in a turn, as of the last step.
+    /// Whether it had something to do in a turn after the last step.
     pub(crate) ready: bool,
 }
 
 impl<W: Drop, H: Handler<Work = W>> Seat<H, W> {
-    /// A new connection, whose opening waits.
+    /// Creates a connection. Its connection preface (RFC 9113, section 3.4) is queued.
     ///
     /// # Errors
     ///
-    /// [`Stop::Memory`] where an allocation was refused.
+    /// [`Stop::Memory`] if an allocation was refused.
     pub fn new(
         alloc: Global,
         config: Config,
@@ -101,7 +100,7 @@ impl<W: Drop, H: Handler<Work = W>> Seat<H, W> {
         })
     }
 
-    /// Why it is over, or ends; none while it goes on.
+    /// Returns why it is closing or closed, or `None` while it is up.
     pub fn why(&self) -> Option<Why>
         ensures { result ≡ why_of self.now.phase }
     {
@@ -111,7 +110,8 @@ impl<W: Drop, H: Handler<Work = W>> Seat<H, W> {
         }
     }
 
-    /// Begins to end it in order: GOAWAY with NO_ERROR, and what was asked is answered still.
+    /// Begins a graceful shutdown: queues GOAWAY with NO_ERROR; pending requests are still
+    /// answered.
     pub fn leave(&mut self)
         ensures handles { SeatHandles (relations H.heads H.bodies H.trails H.gives H.ends) self.old
             self.new }
@@ -120,14 +120,14 @@ impl<W: Drop, H: Handler<Work = W>> Seat<H, W> {
         self.go_away(Why::Asked);
     }
 
-    /// Whether it is over.
+    /// Whether it is closed.
     pub(crate) fn is_over(&self) -> bool
         ensures { result ≡ is_phase_over self.now.phase }
     {
         matches!(self.phase, Phase::Over(_))
     }
 
-    /// Whether the connection has failed, or is over.
+    /// Whether the connection has failed or is closed.
     pub(crate) fn is_failed(&self) -> bool
         ensures { IsFailedOrOver self.now result }
     {
@@ -136,7 +136,7 @@ impl<W: Drop, H: Handler<Work = W>> Seat<H, W> {
 
     // rule: hosts (own) A connection takes octets while it is up and little of its output waits
     // contract: hosts (own) A connection takes octets while it is up and little of its output waits
-    /// Whether it takes octets now.
+    /// Whether it takes input now.
     pub(crate) fn may_take(&self) -> bool
         ensures { TakesNow self.now result }
     {
@@ -144,7 +144,7 @@ impl<W: Drop, H: Handler<Work = W>> Seat<H, W> {
         may && !self.handled.is_full()
     }
 
-    /// Ends the connection with a code, where it is up.
+    /// Fails the connection with a code, unless it has failed before, and begins to close it.
     pub(crate) fn fail(&mut self, code: Code, why: Why)
         ensures handles { SeatHandles (relations H.heads H.bodies H.trails H.gives H.ends) self.old
             self.new }
@@ -159,7 +159,7 @@ impl<W: Drop, H: Handler<Work = W>> Seat<H, W> {
         };
     }
 
-    /// Begins to end it in order, where it is up.
+    /// Begins a graceful shutdown, if it is up.
     pub(crate) fn go_away(&mut self, why: Why)
         ensures handles { SeatHandles (relations H.heads H.bodies H.trails H.gives H.ends) self.old
             self.new }
@@ -178,7 +178,7 @@ impl<W: Drop, H: Handler<Work = W>> Seat<H, W> {
         };
     }
 
-    /// Ends what can't go on.
+    /// Ends a connection that cannot go on.
     pub(crate) fn stop(&mut self, stop: Stop)
         ensures handles { SeatHandles (relations H.heads H.bodies H.trails H.gives H.ends) self.old
             self.new }
@@ -199,7 +199,7 @@ impl<W: Drop, H: Handler<Work = W>> Seat<H, W> {
     }
 
     // rule (contract): hosts (own) A connection that is refused is over and holds none
-    /// It is refused: it is over at once, and holds nothing more but its output.
+    /// Refuses the connection: it is closed at once, and holds only its output.
     pub(crate) fn refuse(&mut self, bound: Bound)
         ensures handles { SeatHandles (relations H.heads H.bodies H.trails H.gives H.ends) self.old
             self.new }
@@ -209,7 +209,7 @@ impl<W: Drop, H: Handler<Work = W>> Seat<H, W> {
         self.end(Why::Refused(bound));
     }
 
-    /// It is over.
+    /// Closes the connection.
     pub(crate) fn end(&mut self, why: Why)
         ensures handles { SeatHandles (relations H.heads H.bodies H.trails H.gives H.ends) self.old
             self.new }

@@ -16,11 +16,11 @@ use h2_handlers::{Code, Handler};
 use h2_host::{Answer, Bound, MOST_TAKEN, Own};
 use h2_times::{Counts, Flood, Late, Progress};
 
-/// The octets of the preface and of the head of a frame (RFC 9113, sections 3.4 and 4.1).
+/// The octets of the preface and of a frame header (RFC 9113, sections 3.4 and 4.1).
 const OPENING: u64 = 33;
 
-/// So many parts of requests are told to a handler in a turn, at most: small requests cost the
-/// octets of a turn little, and their work much.
+/// The maximum number of parts of requests passed to the handler in a turn: it bounds the work
+/// of many small requests.
 const MOST_TOLD: usize = 16;
 
 impl<W: Drop, H: Handler<Work = W>> Seat<H, W> {
@@ -28,7 +28,8 @@ impl<W: Drop, H: Handler<Work = W>> Seat<H, W> {
     // contract: hosts (own) A connection ends for what is above its budget
     // contract: hosts (own) A connection that ends goes on as long as bodies move
     // contract: hosts (own) A connection that is refused is over and holds none
-    /// Makes a step, and what follows from it; one that is over makes none any more.
+    /// Makes a step, then checks the flood budget and whether the output is drained. A closed
+    /// connection makes none.
     pub(crate) fn act(&mut self, own: Own, octets: &[u8], room: &mut [u8])
         ensures handles { SeatHandles (relations H.heads H.bodies H.trails H.gives H.ends) self.old
             self.new }
@@ -45,7 +46,7 @@ impl<W: Drop, H: Handler<Work = W>> Seat<H, W> {
         self.note();
     }
 
-    /// What it answers to a step.
+    /// Returns the answer to a step.
     pub(crate) fn answer(&self) -> Answer
         ensures { result ≡ answer_in self.now.phase }
     {
@@ -83,8 +84,8 @@ impl<W: Drop, H: Handler<Work = W>> Seat<H, W> {
         }
     }
 
-    /// Takes octets, and keeps those that are too much for this turn. Where they are fewer than a
-    /// turn takes, no more wait.
+    /// Takes input, and keeps what is too much for this turn. If there were fewer octets than a
+    /// turn takes, the socket has no more.
     fn came(&mut self, octets: &[u8])
         ensures handles { SeatHandles (relations H.heads H.bodies H.trails H.gives H.ends) self.old
             self.new }
@@ -105,13 +106,14 @@ impl<W: Drop, H: Handler<Work = W>> Seat<H, W> {
         }
     }
 
-    /// How many parts of requests are told in this turn: one, where a tenth of a budget is spent.
+    /// The number of parts passed to the handler in this turn: 1 once a tenth of a flood budget
+    /// is spent.
     fn most_told(&self) -> usize {
         let is_near = self.budget.is_near(self.counts(), &self.limits.floods);
         if is_near { 1 } else { MOST_TOLD }
     }
 
-    /// Takes of the octets that were kept.
+    /// Takes from the input that was kept.
     fn take_kept(&mut self)
         ensures handles { SeatHandles (relations H.heads H.bodies H.trails H.gives H.ends) self.old
             self.new }
@@ -144,7 +146,7 @@ impl<W: Drop, H: Handler<Work = W>> Seat<H, W> {
         self.send(room);
     }
 
-    /// Takes of the octets that were kept, where none came in this turn.
+    /// Takes from the input that was kept, if none was received in this turn.
     fn take_waiting(&mut self)
         ensures handles { SeatHandles (relations H.heads H.bodies H.trails H.gives H.ends) self.old
             self.new }
@@ -157,7 +159,7 @@ impl<W: Drop, H: Handler<Work = W>> Seat<H, W> {
         }
     }
 
-    /// Sends what can go, where it is up.
+    /// Sends what can go, if the connection is up.
     fn send(&mut self, room: &mut [u8])
         ensures handles { SeatHandles (relations H.heads H.bodies H.trails H.gives H.ends) self.old
             self.new }
@@ -176,7 +178,7 @@ impl<W: Drop, H: Handler<Work = W>> Seat<H, W> {
         }
     }
 
-    /// Takes away what was written.
+    /// Removes the output that was written.
     fn take_away(&mut self, count: usize)
         ensures handles { SeatHandles (relations H.heads H.bodies H.trails H.gives H.ends) self.old
             self.new }
@@ -188,7 +190,7 @@ impl<W: Drop, H: Handler<Work = W>> Seat<H, W> {
         }
     }
 
-    /// Time has passed.
+    /// Notes the time, in milliseconds.
     fn pass(&mut self, now: u64)
         ensures handles { SeatHandles (relations H.heads H.bodies H.trails H.gives H.ends) self.old
             self.new }
@@ -202,7 +204,7 @@ impl<W: Drop, H: Handler<Work = W>> Seat<H, W> {
         self.end_late();
     }
 
-    /// Ends it where it has had its time to end, or something has taken too long.
+    /// Closes it if its time to close is over, or begins to if something takes too long.
     #[tactic(auto, using(crate::proofs::SeatSteps::passed_up))]
     fn end_late(&mut self)
         ensures handles { SeatHandles (relations H.heads H.bodies H.trails H.gives H.ends) self.old
@@ -220,7 +222,7 @@ impl<W: Drop, H: Handler<Work = W>> Seat<H, W> {
     }
 
     // rule: hosts (own) A connection ends for what has taken too long
-    /// Ends it where something has taken too long.
+    /// Ends it if something takes too long.
     fn end_overdue(&mut self)
         ensures handles { SeatHandles (relations H.heads H.bodies H.trails H.gives H.ends) self.old
             self.new }
@@ -237,7 +239,7 @@ impl<W: Drop, H: Handler<Work = W>> Seat<H, W> {
         }
     }
 
-    /// What the peer has sent that asks for work.
+    /// The counts of what the peer sent that may be a flood.
     pub(crate) fn counts(&self) -> Counts
         ensures { AreCounts self.now.handled.server.end.conn result }
     {
@@ -250,7 +252,7 @@ impl<W: Drop, H: Handler<Work = W>> Seat<H, W> {
         }
     }
 
-    /// What goes on.
+    /// The progress of everything that has a time limit.
     fn progress(&self) -> Progress {
         let conn = self.handled.conn();
         let frames = conn.place().saturating_sub(conn.held() as u64);
@@ -272,8 +274,8 @@ impl<W: Drop, H: Handler<Work = W>> Seat<H, W> {
     }
 
     // rule: hosts (own) A connection ends for what is above its budget
-    /// What follows from a step: whether a budget is passed, and whether all went that is to go
-    /// before the end.
+    /// Checks after a step whether a flood budget is exceeded, and whether an ended peer has got
+    /// everything.
     fn note(&mut self)
         ensures handles { SeatHandles (relations H.heads H.bodies H.trails H.gives H.ends) self.old
             self.new }
@@ -301,7 +303,8 @@ impl<W: Drop, H: Handler<Work = W>> Seat<H, W> {
 
     // rule: hosts (own) A connection ends for what is above its budget
     // rule: hosts (own) A connection that ends goes on as long as bodies move
-    /// What follows from a step at one that ends: whether all went, or a budget is passed.
+    /// Checks after a step of a closing connection whether its output is drained, or a flood
+    /// budget is exceeded.
     fn note_ending(&mut self, why: Why, since: u64)
         ensures handles { SeatHandles (relations H.heads H.bodies H.trails H.gives H.ends) self.old
             self.new }
@@ -320,8 +323,7 @@ impl<W: Drop, H: Handler<Work = W>> Seat<H, W> {
     }
 
     // rule: hosts (own) A connection ends for what is above its budget
-    /// Ends one that ends already for what is a flood, unless it has failed: then nothing more
-    /// comes.
+    /// Fails a closing connection for a flood, unless it has failed: then it takes no more input.
     fn end_flooding(&mut self, flood: Flood, why: Why, since: u64)
         ensures handles { SeatHandles (relations H.heads H.bodies H.trails H.gives H.ends) self.old
             self.new }
@@ -336,7 +338,8 @@ impl<W: Drop, H: Handler<Work = W>> Seat<H, W> {
     }
 
     // rule: hosts (own) A connection that ends goes on as long as bodies move
-    /// Counts its time to end anew, where enough octets of bodies have moved since it was counted.
+    /// Restarts the time to close if enough octets of bodies were sent and received since the
+    /// last start.
     fn end_later(&mut self, why: Why, since: u64)
         ensures same { self.new.handled ≡ self.old.handled }
         ensures phase { self.old.phase ≡ phases.Ending why since
@@ -354,14 +357,14 @@ impl<W: Drop, H: Handler<Work = W>> Seat<H, W> {
         };
     }
 
-    /// Whether nothing waits, and nothing more can be sent.
+    /// Whether nothing is queued, and nothing more can be sent.
     fn is_sent(&self) -> bool {
         let waits = self.handled.conn().waiting() > 0 || !self.kept.is_empty();
         !waits && !self.handled.may_send()
     }
 
-    /// Keeps how many octets it holds, and whether there is something to do in a turn. One that is
-    /// over holds none, and is ready.
+    /// Stores how many octets it holds, and whether it has something to do in a turn. A closed
+    /// connection holds nothing, and is ready.
     pub(crate) fn count(&mut self)
         ensures same { self.new.handled ≡ self.old.handled }
         ensures phase { self.new.phase ≡ self.old.phase }
@@ -390,8 +393,8 @@ impl<W: Drop, H: Handler<Work = W>> Seat<H, W> {
     }
 }
 
-/// How many octets the replies to so many PING and SETTINGS have: 17 and 9 each (RFC 9113, sections
-/// 6.7 and 6.5).
+/// The octets of the replies to these PING and SETTINGS frames, 17 and 9 each (RFC 9113,
+/// sections 6.7 and 6.5).
 fn replies_to(pings: u32, settings: u32) -> u64
     ensures { result ≡ pings * 17 + settings * 9 }
 {

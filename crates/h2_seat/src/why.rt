@@ -1,22 +1,22 @@
-//! Why a connection of a host is over.
+//! Why a connection of a host is closed.
 
 use h2_ends::Code;
 use h2_host::Bound;
 use h2_times::{Flood, Late};
 
-/// Why a connection is over, or ends.
+/// Why a connection is closing or closed.
 #[derive(Clone, Copy, Debug, PartialEq, Eq)]
 pub enum Why {
-    /// The peer has ended its side, and all that could be sent was.
+    /// The peer ended its side, and everything that could be sent was sent.
     Ended,
-    /// It was asked to leave ([`Seat::leave`](crate::Seat::leave)).
+    /// A graceful shutdown was asked for ([`Seat::leave`](crate::Seat::leave)).
     Asked,
-    /// Something has taken too long.
+    /// Something took too long.
     Late(Late),
-    /// The peer has sent too much that asks for work and brings nothing.
+    /// The peer flooded the connection.
     Flood(Flood),
-    /// It was refused: it held too much, or memory was refused.
+    /// It held too much memory, or an allocation was refused.
     Refused(Bound),
-    /// The connection has failed, with this code.
+    /// The connection failed with this code.
     Failed(Code),
 }

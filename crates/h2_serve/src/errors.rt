@@ -1,4 +1,4 @@
-//! How serving ends.
+//! The errors with which serving ends.
 
 ghost use Rattle.std.specs.Prelude.{◌≡◌, Err, IfErr, IfOk, Ok};
 ghost use Rattle.h2_ends.specs.declared.refusal.EndRefusal.TheVariants.{Conn};
@@ -11,7 +11,7 @@ use h2_handlers::Code;
 use h2_link::LinkError;
 
 // rule: engines (own) N2 has the code with which the connection failed; memory is N3
-/// How serving ends once the connection has failed with a code.
+/// The error for a connection that failed with this code.
 pub(crate) fn error_of_code(code: Code) -> LinkError
     ensures error { result ≡ error_with code }
     ensures kind { IsOfDriving result }
@@ -23,7 +23,7 @@ pub(crate) fn error_of_code(code: Code) -> LinkError
 }
 
 // rule: engines (own) N5 comes only where a write has taken nothing
-/// What a call that puts output out has answered; or, where it was refused, how serving ends.
+/// The result of a call that takes output; a refusal becomes the error with which serving ends.
 pub(crate) fn unless_refused<T>(answer: Result<T, Refusal>) -> Result<T, LinkError>
     ensures ok { IfOk result (λ value. answer ≡ Ok value) }
     ensures err { IfErr result (λ error. (refusal : Refusal) × (answer ≡ Err refusal)

@@ -1,8 +1,8 @@
-//! Serving a connection over any link (RFC 9113), its requests answered by a handler.
+//! Serves a connection over any link (RFC 9113); a handler answers its requests.
 //!
-//! [`serve_handler`] reads, tells the handler what comes, sends what it answers, whole or part by
-//! part, and writes, until the input has ended. It waits in the calls of the link alone: whoever
-//! serves many connections gives each a thread, or uses `h2_hosting`.
+//! [`serve_handler`] reads, passes requests to the handler, and writes its responses, complete
+//! or in parts, until the input ends. It blocks only in the calls of the link. For many
+//! connections use a thread for each, or `h2_hosting`.
 #![tactic(auto)]
 
 mod errors;

@@ -1,4 +1,4 @@
-//! Serving a connection over a link.
+//! Serves a connection over a link.
 
 ghost use Rattle.std.specs.Prelude.{◌≡◌, ◌<◌, ◌-◌, ◌^◌, IfErr, IfOk, OnOk, length, true};
 ghost use Rattle.h2_flow.specs.ConfigValues.{values_of};
@@ -16,36 +16,36 @@ use h2_handlers::{Code, Config, Handled, Handler, Stop};
 use h2_link::{Link, LinkError};
 use std::alloc::Global;
 
-/// How many octets are read at a time, at most.
+/// The maximum number of octets per read.
 const PIECE: usize = 16_384;
 
-/// How many octets a handler is asked for at a time, at most.
+/// The maximum number of octets asked of a handler at a time.
 const PART: usize = 16_384;
 
 // contract: engines (own) A handler answers over any link
 // contract: engines (own) Where serving ends well each request was answered whole or reset
 // rule: engines (own) A handler answers over any link
 // rule: engines (own) Where serving ends well each request was answered whole or reset
-/// Serves a connection until its input ends, with a handler that answers its requests, and answers
-/// how many requests came. What the handler is told and asked, and what is sent of its answers, is
-/// what [`Handled`] says. At the end the handler has learned of each exchange that it is over.
+/// Serves a connection until its input ends, and returns the number of requests received.
+/// [`Handled`] says what the handler is called with and how its replies are sent. At the end the
+/// handler has been told of each exchange that it is over.
 ///
-/// All that could be sent is written before each read, as far as the windows of the client go: so
-/// a client that resets a stream, or asks for something else, is heard once they are used up. A
-/// handler that had no part ([`h2_handlers::Part::Later`]) is asked again after each read, and at
-/// no other time: one that waits for something else has to wait in `part`.
+/// Before each read, everything that the client's windows allow is written; so a client's reset
+/// or request is seen only once they are used up. A handler that returned
+/// [`h2_handlers::Part::Later`] is asked again after each read, and at no other time; to wait
+/// for anything else it must block in `part`.
 ///
-/// What was written may wait in the link: a link over a stream is to be flushed once this returns,
-/// and drained after an error, so that the client gets the GOAWAY.
+/// The link may still hold output: flush a link over a stream once this returns, and drain it
+/// after an error, so that the client gets the GOAWAY.
 ///
 /// # Errors
 ///
-/// [`LinkError::Device`] (N1) where the link failed; [`LinkError::Stream`] (N2) where the
-/// connection failed, once its GOAWAY was written: with ENHANCE_YOUR_CALM too where no stream can
-/// be reset any more; [`LinkError::Memory`] (N3) where an allocation was refused;
-/// [`LinkError::CutOff`] (N4) where the input ended inside the preface or a frame, or while a
-/// stream was active; [`LinkError::NoProgress`] (N5) where a write took nothing, and, which is not
-/// expected, after 2^64 - 1 rounds.
+/// [`LinkError::Device`] (N1) if the link failed; [`LinkError::Stream`] (N2) if the connection
+/// failed, once its GOAWAY was written, with ENHANCE_YOUR_CALM also if a stream had to be reset
+/// after 1,000 others; [`LinkError::Memory`] (N3) if an allocation was refused;
+/// [`LinkError::CutOff`] (N4) if the input ended inside the preface or a frame, or while a
+/// stream was active; [`LinkError::NoProgress`] (N5) if a write accepted nothing, and after
+/// 2^64 - 1 rounds.
 pub fn serve_handler<W: Drop, H: Handler<Work = W>, L: Link>(
     alloc: Global,
     link: &mut L,
@@ -111,7 +111,7 @@ fn drive<W: Drop, H: Handler<Work = W>, L: Link>(
 }
 
 // rule: engines (own) A handler answers over any link
-/// Tells the handler all that a piece brings. Where the output is full, what waits is written
+/// Passes everything in a piece of input to the handler. While the output is full, it is written
 /// first.
 fn take_all<W: Drop, H: Handler<Work = W>, L: Link>(
     handled: &mut Handled<H, W>,
@@ -143,7 +143,7 @@ fn take_all<W: Drop, H: Handler<Work = W>, L: Link>(
 }
 
 // rule: engines (own) A handler answers over any link
-/// Returns what is owed, sends all that can be sent of what the handler answers, and writes it.
+/// Returns credit, sends everything that can be sent, and writes it.
 fn send_all<W: Drop, H: Handler<Work = W>, L: Link>(
     handled: &mut Handled<H, W>,
     room: &mut [u8],
@@ -172,9 +172,8 @@ fn send_all<W: Drop, H: Handler<Work = W>, L: Link>(
 }
 
 // rule: engines (own) N2 has the code with which the connection failed; memory is N3
-/// How serving ends where the connection can't go on: with N3 where it is up. Where no stream can
-/// be reset any more it fails with ENHANCE_YOUR_CALM; and once it has failed, all that waits is
-/// written.
+/// The error for a connection that cannot go on: N3 if it has not failed. After too many resets
+/// the connection fails with ENHANCE_YOUR_CALM. Once it has failed, its output is written.
 fn end_for<W: Drop, H: Handler<Work = W>, L: Link>(
     handled: &mut Handled<H, W>,
     link: &mut L,

@@ -1,4 +1,4 @@
-//! What a server with a handler writes to a link.
+//! Writes the output of a server with a handler to a link.
 
 ghost use Rattle.std.specs.Prelude.{◌≡◌, ◌<◌, ◌-◌, ◌^◌, IfErr};
 ghost use Rattle.h2_engines.specs.Failures.{EndsWriting, failures_at_end};
@@ -12,7 +12,7 @@ use h2_handlers::{Handled, Handler};
 use h2_link::{Link, LinkError};
 
 // rule: engines (own) Over a link input is used in order and all output is written
-/// Writes all output that waits, from where it lies. What was not written is lost where it fails.
+/// Writes all queued output from where it lies. If a write fails, what was not written is lost.
 pub(crate) fn write_out<W: Drop, H: Handler<Work = W>, L: Link>(
     handled: &mut Handled<H, W>,
     link: &mut L,

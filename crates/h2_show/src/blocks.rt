@@ -20,15 +20,15 @@ use std::alloc::{AllocError, Global};
 pub(crate) struct Blocks {
     gather: Gather,
     decoder: Decoder,
-    /// The fields of the last block, whose room is used again.
+    /// The fields of the last block; its memory is reused.
     list: FieldList,
 }
 
-/// Why a frame isn't taken.
+/// Why a frame is not accepted.
 #[derive(Clone, Copy, Debug, PartialEq, Eq)]
 pub enum BlockError {
-    /// The frame doesn't group, or ends a block that doesn't decode: a connection error with this
-    /// code.
+    /// The frame is not allowed here, or ends a block that does not decode: a connection error
+    /// with this code.
     Fault(Code),
     /// Out of memory.
     Memory,
@@ -51,18 +51,18 @@ impl From<Fault> for BlockError {
     fn from(fault: Fault) -> BlockError {
         match fault {
             Fault::Memory => BlockError::Memory,
-            // A decoder that has failed isn't asked again.
+            // A decoder that has failed is not called again.
             Fault::Compression | Fault::Failed => BlockError::Fault(Code::CompressionError),
         }
     }
 }
 
 impl Blocks {
-    /// No frame was taken.
+    /// Creates a decoder for a new stream of frames.
     ///
     /// # Errors
     ///
-    /// [`AllocError`] when out of memory.
+    /// [`AllocError`] if out of memory.
     pub(crate) fn new(alloc: Global) -> Result<Blocks, AllocError>
         ensures represents { IfOk result (λ blocks. BlocksRepresent blocks []) }
         ensures shows { IfOk result (λ blocks. BlocksShow blocks [] []) }
@@ -76,7 +76,7 @@ impl Blocks {
         })
     }
 
-    /// The maximum of the decoder's table.
+    /// The maximum size of the decoder's table.
     pub(crate) fn table_maximum(&self) -> u32
         ensures { result ≡ self.now.decoder.table.maximum }
     {
@@ -85,12 +85,12 @@ impl Blocks {
 
     // contract: 4.3 A block that does not decode is COMPRESSION_ERROR, of the connection
     // contract: show (own) A list above 65,536 octets has one line, without fields
-    /// Takes the next frame, and returns what [`Blocks::list`] has of the block that it ends.
+    /// Takes the next frame. If it ends a block, returns whether [`Blocks::list`] has its fields.
     ///
     /// # Errors
     ///
-    /// [`BlockError::Fault`] where the frame doesn't group (RFC 9113, section 6.10), or ends a
-    /// block that doesn't decode (section 4.3); [`BlockError::Memory`] when out of memory.
+    /// [`BlockError::Fault`] if the frame is not allowed here (RFC 9113, section 6.10), or ends
+    /// a block that does not decode (section 4.3); [`BlockError::Memory`] if out of memory.
     pub(crate) fn take(&mut self, frame: FrameRef<'_>) -> Result<Option<Decoded>, BlockError>
         ensures ok { OnOk result ((frames : Items Frame) → BlocksRepresent self.old frames
             → BlocksRepresent self.new (frames ++ frame_of frame.entry ∷ [])) }
@@ -122,14 +122,14 @@ impl Blocks {
         Ok(self.decoder.decode_into(octets, MAX_LIST, &mut self.list)?)
     }
 
-    /// The fields of the last block; none where they were too large.
+    /// The fields of the last block; none if they were too large.
     pub(crate) fn list(&self) -> &FieldList
         ensures { result.now ≡ self.now.list }
     {
         &self.list
     }
 
-    /// Whether a block has begun and isn't complete.
+    /// Whether a block has begun and is incomplete.
     pub(crate) fn is_inside(&self) -> bool
         ensures { result ≡ is_some self.now.gather.begun }
     {

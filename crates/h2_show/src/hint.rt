@@ -1,18 +1,18 @@
-//! What is likely wrong with the options, or with the input.
+//! Hints about the options or the input.
 
 use crate::viewer::ShowError;
 use h2_cli::{answers_http1, asks_http1, is_blank, is_capture};
 use h2_frame::HEAD_LEN;
 use h2_wire::WireFault;
 
-/// What is likely wrong with the options, or with the input, where its first octets are at fault.
+/// What is likely wrong with the options or the input, if the first octets are at fault.
 #[derive(Clone, Copy, Debug, PartialEq, Eq, Hash)]
 pub enum Hint {
-    /// The input is a capture of packets, and not octets of HTTP/2.
+    /// The input is a packet capture, not octets of HTTP/2.
     Capture,
-    /// The input is HTTP/1.1, and not HTTP/2.
+    /// The input is HTTP/1.1.
     Http1,
-    /// The octets are those of a client, where a server's are expected.
+    /// The octets are those of a client, though a server's are expected.
     ClientPreface,
     /// The input looks like hexadecimal text.
     Hexadecimal,
@@ -22,15 +22,14 @@ pub enum Hint {
 
 impl Hint {
     // rule (tested): show (own) A hint names a capture, or the option that is likely missing
-    /// The hint for octets that came as they are: none unless their beginning says what they are,
-    /// or the preface is at fault. `piece` is the piece with the fault, and `place` the number of
-    /// the octet at fault.
+    /// The hint for binary input: none unless its first octets say what it is, or the preface is at
+    /// fault. `piece` is the piece with the fault, and `place` the number of the octet at fault.
     pub(crate) fn for_octets(error: &ShowError, piece: &[u8], place: u64) -> Option<Hint> {
         let is_bad_preface = match error {
             ShowError::Wire(WireFault::BadPreface) => true,
             _ => false,
         };
-        // A fault of a head is found at its last octet.
+        // A fault of a frame header is found at its last octet.
         let of_input = if place <= HEAD_LEN as u64 {
             Hint::for_input(piece, is_bad_preface)
         } else {
@@ -43,8 +42,8 @@ impl Hint {
     }
 
     // rule (tested): show (own) A hint names a capture, or the option that is likely missing
-    /// What the first piece of an input says of it by itself: that it is a capture, or HTTP/1.1;
-    /// or, unless a client's preface is expected, that it begins with one.
+    /// Returns what the first piece of an input shows: a packet capture, HTTP/1.1, or, unless
+    /// `expects_preface`, a client's preface.
     pub fn for_input(piece: &[u8], expects_preface: bool) -> Option<Hint> {
         if is_capture(piece) {
             return Some(Hint::Capture);
@@ -59,8 +58,8 @@ impl Hint {
     }
 
     // rule (tested): show (own) A hint names a capture, or the option that is likely missing
-    /// The hint where the first octets aren't the preface, by the piece with the octet at fault.
-    /// `is_first` says that this is the first octet of all.
+    /// Returns the hint for first octets that are not the preface, by the piece with the octet
+    /// at fault. `is_first` says that it is the first octet of all.
     pub fn for_start(piece: &[u8], is_first: bool) -> Hint {
         if is_first && piece.iter().all(|octet| is_hexadecimal(*octet)) {
             return Hint::Hexadecimal;
@@ -69,7 +68,8 @@ impl Hint {
     }
 
     // rule (tested): show (own) A hint names a capture, or the option that is likely missing
-    /// The same hint for octets that came in hexadecimal, which they aren't once more.
+    /// Returns the hint for octets decoded from hexadecimal: [`Hint::FromServer`] in place of
+    /// [`Hint::Hexadecimal`].
     pub fn of_decoded(self) -> Hint {
         match self {
             Hint::Hexadecimal => Hint::FromServer,

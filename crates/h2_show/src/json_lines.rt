@@ -30,7 +30,7 @@ use std::alloc::{AllocError, Global};
 use std::io::{self, Write};
 
 // rule: show (own) With --json each line is a JSON object
-/// Prints an object of a place and a type alone.
+/// Prints an object with a position and a type only.
 pub(crate) fn write_json_line<W: Write>(
     alloc: Global,
     at: u64,
@@ -46,8 +46,8 @@ pub(crate) fn write_json_line<W: Write>(
 }
 
 // rule: show (own) With --json each line is a JSON object
-/// Prints the object of a frame whose first octet stands at `at`, with the list of the block that it
-/// ends, where it ends one; and the object of a list that is too large.
+/// Prints the object of a frame at position `at`, with the list of the block that it ends, if
+/// any; then the object of a list that is too large.
 pub(crate) fn write_json_frame<W: Write>(
     alloc: Global,
     at: u64,
@@ -86,7 +86,7 @@ fn write_too_large<W: Write>(
     }
 }
 
-// The same of a block that has ended.
+// Prints the object of a list that is too large, for a block that has ended.
 fn write_ended<W: Write>(
     alloc: Global,
     at: u64,
@@ -121,7 +121,7 @@ pub(crate) fn write_json_fault<W: Write>(
     end_line(writer, out)
 }
 
-/// Prints the object of the octets that are left, the first of which stands at `at`.
+/// Prints the object of an incomplete frame or preface at position `at`.
 pub(crate) fn write_json_rest<W: Write>(
     alloc: Global,
     at: u64,
@@ -156,7 +156,7 @@ fn type_name(kind: Kind) -> &'static str
     }
 }
 
-// Begins an object with its place and its type.
+// Begins an object with its position and its type.
 fn begin_line(writer: &mut Writer, at: u64, name: &str) -> Result<(), AllocError>
     ensures { WritesTokens result writer.old writer.new
         (begin_object ∷ members_written (first_members at name.now)) }
@@ -199,7 +199,7 @@ fn flag_member(writer: &mut Writer, name: &str, value: bool) -> Result<(), Alloc
     writer.boolean(value)
 }
 
-// A member of a name, where there is one.
+// The member for a name, if there is one.
 fn name_member(writer: &mut Writer, found: Option<&'static str>) -> Result<(), AllocError>
     ensures { WritesTokens result writer.old writer.new
         (members_written (name_members (option_map (λ text. text.now) found.entry))) }
@@ -210,7 +210,7 @@ fn name_member(writer: &mut Writer, found: Option<&'static str>) -> Result<(), A
     }
 }
 
-// A member of a pad length, where there is one.
+// The member for a pad length, if there is one.
 fn pad_member(writer: &mut Writer, pad: Option<u8>) -> Result<(), AllocError>
     ensures { WritesTokens result writer.old writer.new (members_written (pad_members pad)) }
 {
@@ -221,7 +221,7 @@ fn pad_member(writer: &mut Writer, pad: Option<u8>) -> Result<(), AllocError>
 }
 
 // rule: show (own) Settings and error codes have their names where words ask for them
-// An error code, and its name where it has one.
+// An error code, and its name if it has one.
 fn code_members(writer: &mut Writer, code: u32) -> Result<(), AllocError>
     ensures { WritesTokens result writer.old writer.new (members_written (code_members code)) }
 {
@@ -328,7 +328,7 @@ fn settings_members(writer: &mut Writer, ack: bool, pairs: Pairs<'_>) -> Result<
     writer.end_array()
 }
 
-// An object of a pair of SETTINGS.
+// The object of a setting.
 fn write_pair(writer: &mut Writer, id: u16, value: u32) -> Result<(), AllocError>
     ensures { WritesTokens result writer.old writer.new (json_tokens (pair_json (id, value))) }
 {
@@ -339,7 +339,7 @@ fn write_pair(writer: &mut Writer, id: u16, value: u32) -> Result<(), AllocError
     writer.end_object()
 }
 
-// The fields of the block that a frame ends, where they are shown.
+// The fields of the block that a frame ends, if they are shown.
 fn list_members(
     alloc: Global,
     writer: &mut Writer,
@@ -370,7 +370,7 @@ fn fields_member(alloc: Global, writer: &mut Writer, list: &FieldList) -> Result
     writer.end_array()
 }
 
-// An object of a field.
+// The object of a field.
 fn write_json_field(
     alloc: Global,
     writer: &mut Writer,

@@ -1,11 +1,10 @@
-//! Streams of HTTP/2 as lines of text: a line a frame, the header fields of each block, and the
-//! fault that ends a stream.
+//! Prints a stream of HTTP/2 as lines of text: one line for each frame, the fields of each
+//! block, and the fault that ends the stream.
 //!
-//! [`show_input`] reads from any reader and prints to any writer, so tests run it in memory.
-//! A [`Viewer`] shows one stream, piece by piece. A [`Style`] says how the lines are printed.
-//! [`write_field`] prints a field for other commands too, and [`write_text`] a name or a value;
-//! [`hexadecimal_of`] gives the digits of a PING.
-//! What these share besides is in `h2_cli`.
+//! [`show_input`] reads from any reader and prints to any writer, so tests run in memory. A
+//! [`Viewer`] shows one stream, piece by piece, in a [`Style`]. [`write_field`] and
+//! [`write_text`] print a field, a name or a value for other commands; [`hexadecimal_of`] gives
+//! the digits of a PING. `h2_cli` has what commands share.
 #![tactic(auto)]
 
 mod blocks;

@@ -25,7 +25,7 @@ use std::io::{self, Write};
 /// The octets of a priority (RFC 9113, section 6.3).
 const PRIORITY: usize = 5;
 
-/// The octets of GOAWAY preceding its debug data (RFC 9113, section 6.8).
+/// The octets of GOAWAY before its debug data (RFC 9113, section 6.8).
 const GOAWAY: usize = 8;
 
 // rule: show (own) The line of a frame has its type, stream, octets and more
@@ -37,8 +37,8 @@ pub(crate) fn write_frame<W: Write>(frame: FrameRef<'_>, out: &mut W) -> io::Res
     writeln!(out, "{}", FrameLine(frame))
 }
 
-/// The line of a frame, without its end: the kind, the stream, the octets of the payload, and then
-/// what the kind adds. The words are divided by one space, and numbers are decimal.
+/// The line of a frame, without its newline: the type, the stream, the payload length, and what
+/// the type adds. Words are separated by one space, and numbers are decimal.
 #[derive(Clone, Copy)]
 pub(crate) struct FrameLine<'a>(pub(crate) FrameRef<'a>);
 
@@ -85,7 +85,7 @@ impl fmt::Display for FrameLine<'_> {
     }
 }
 
-/// A space and the word of a flag, where the flag is set.
+/// A space and the word of a flag, if it is set.
 #[derive(Clone, Copy)]
 pub(crate) struct Word<'a>(pub(crate) bool, pub(crate) &'a str);
 
@@ -100,7 +100,7 @@ impl fmt::Display for Word<'_> {
     }
 }
 
-/// A space and the pad length, where there is one.
+/// A space and the pad length, if there is one.
 #[derive(Clone, Copy)]
 struct Pad(Option<u8>);
 
@@ -125,13 +125,13 @@ impl fmt::Display for Hexadecimal {
     fn fmt<W: fmt::Write>(&self, f: &mut fmt::Formatter<W>) -> fmt::Result {
         match str::from_utf8(&hexadecimal_of(self.0)) {
             Ok(digits) => f.write_str(digits),
-            // Digits are text: no octets lead here.
+            // Unreachable: digits are text.
             Err(_) => Err(fmt::Error),
         }
     }
 }
 
-/// The digits of a PING's octets in hexadecimal, two an octet.
+/// Returns the octets of a PING as hexadecimal digits, two an octet.
 pub fn hexadecimal_of(octets: [u8; 8]) -> [u8; 16]
     ensures { result ≡ encode_lower octets }
 {
@@ -174,7 +174,7 @@ fn headers_length(fragment: &[u8], pad: Option<u8>, prioritized: bool) -> usize
         .saturating_add(priority)
 }
 
-/// The number of octets of a payload that are pad length and padding.
+/// The number of octets that the pad length and the padding take.
 fn padded(pad: Option<u8>) -> usize
     ensures value { result ≡ pad_octets pad }
     ensures bound { result < 257 }
@@ -185,7 +185,7 @@ fn padded(pad: Option<u8>) -> usize
     }
 }
 
-// Each kind of frame has a function of its own, so that only its locals are set up.
+// Each frame type has its own function, so that only its locals are set up.
 
 #[tactic(auto, unfolding(crate::specs::Lines::frame_words))]
 fn write_data<W: fmt::Write>(
@@ -314,7 +314,7 @@ fn write_settings<W: fmt::Write>(
 
 // contract: show (own) A list above 65,536 octets has one line, without fields
 // rule: show (own) A list above 65,536 octets has one line, without fields
-/// Prints the lines of the list of the block that a frame ends, where it ends one: one a field, or
+/// Prints the fields of the block that a frame ends, if any: one line for each, or one that says
 /// that the list is too large.
 pub(crate) fn write_list<W: Write>(
     decoded: Option<Decoded>,
@@ -345,9 +345,9 @@ fn write_fields<W: Write>(list: &FieldList, out: &mut W) -> io::Result<()>
 }
 
 // rule: show (own) The line of a field has its mark, its name and its value
-/// Prints the line of a field: two spaces, `!` where it is never indexed, the name, a colon and a
-/// space, and the value. Octets that aren't printable ASCII, and the backslash, are printed as `\x`
-/// and two hexadecimal digits.
+/// Prints the line of a field: two spaces, `!` if it is never indexed, the name, a colon and a
+/// space, and the value. Octets outside printable ASCII and backslashes are printed as `\x` and
+/// two hexadecimal digits.
 ///
 /// # Errors
 ///
@@ -364,8 +364,8 @@ pub fn write_field<W: Write>(field: FieldRef<'_>, out: &mut W) -> io::Result<()>
 }
 
 // rule: show (own) The line of a field has its mark, its name and its value
-/// Prints octets as text: those that aren't printable ASCII, and the backslash, as `\x00`, with two
-/// hexadecimal digits.
+/// Prints octets as text. Octets outside printable ASCII and backslashes are printed as `\x` and
+/// two hexadecimal digits.
 ///
 /// # Errors
 ///
@@ -381,7 +381,7 @@ pub fn write_text<W: Write>(octets: &[u8], out: &mut W) -> io::Result<()>
 }
 
 // rule: show (own) The line of a field has its mark, its name and its value
-// Prints octets as text, of which some are escaped.
+// Prints octets as text, some of them escaped.
 fn write_escaped<W: Write>(octets: &[u8], out: &mut W) -> io::Result<()>
     ensures { OnOk result (Appends (W.contents out.old) (W.contents out.new)
         (shown_octets octets.now)) }

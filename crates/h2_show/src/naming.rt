@@ -6,7 +6,7 @@ ghost use Rattle.h2_show.specs.Named.{code_name, setting_name};
 use h2_frame::Code;
 
 // rule: show (own) Settings and error codes have their names where words ask for them
-/// The name of a setting, where RFC 9113, section 6.5.2, has one: without `SETTINGS_`.
+/// Returns the name of a setting, without `SETTINGS_`, if RFC 9113, section 6.5.2, has one.
 pub fn setting_name(id: u16) -> Option<&'static str>
     ensures { option_map (λ name. name.now) result ≡ setting_name id }
 {
@@ -22,7 +22,7 @@ pub fn setting_name(id: u16) -> Option<&'static str>
 }
 
 // rule: show (own) Settings and error codes have their names where words ask for them
-/// The name of an error code, where RFC 9113, section 7, has one.
+/// Returns the name of an error code, if RFC 9113, section 7, has one.
 pub fn code_name(number: u32) -> Option<&'static str>
     ensures { option_map (λ name. name.now) result ≡ code_name number }
 {

@@ -8,9 +8,9 @@ ghost use Rattle.h2_show.specs.Report.{begins_with_preface};
 pub struct ShowOptions {
     /// Whether the input is hexadecimal text.
     pub hex: bool,
-    /// The end that sent the octets.
+    /// The endpoint that sent the octets.
     pub from: Side,
-    /// The most octets of a frame's payload (RFC 9113, section 4.2); a frame with more is a fault.
+    /// The maximum length of a frame's payload (RFC 9113, section 4.2); a longer one is a fault.
     pub max_frame: u32,
     /// How the lines are printed.
     pub style: Style,
@@ -19,26 +19,26 @@ pub struct ShowOptions {
 /// How lines are printed.
 #[derive(Clone, Copy, Debug, PartialEq, Eq)]
 pub enum Style {
-    /// As text, without names, places and colors.
+    /// As text, without names, positions and colors.
     Plain,
-    /// As text, with more.
+    /// As text, with some of these.
     Text(TextStyle),
-    /// As JSON: an object a line, with names and places.
+    /// As JSON: one object for each line, with names and positions.
     Json,
 }
 
-/// What text has more than the plain lines.
+/// What is added to the plain lines.
 #[derive(Clone, Copy, Debug, PartialEq, Eq)]
 pub struct TextStyle {
     /// Settings and error codes by name (RFC 9113, sections 6.5.2 and 7).
     pub names: bool,
-    /// The place of its first octet before each frame and the preface, from 1 on.
+    /// The position of the first octet before each frame and the preface, counted from 1.
     pub places: bool,
-    /// Colors, as a terminal takes them.
+    /// Colors, for a terminal.
     pub colors: bool,
 }
 
-/// An end of a connection.
+/// An endpoint of a connection.
 #[derive(Clone, Copy, Debug, PartialEq, Eq, Hash)]
 pub enum Side {
     /// The client, which begins with the preface (RFC 9113, section 3.4).
@@ -48,7 +48,7 @@ pub enum Side {
 }
 
 impl Side {
-    /// Whether the octets that the end sends begin with the preface.
+    /// Whether the octets that this endpoint sends begin with the preface.
     pub(crate) fn begins_with_preface(self) -> bool
         ensures { result ≡ begins_with_preface self }
     {

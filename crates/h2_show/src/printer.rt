@@ -26,19 +26,19 @@ use std::io::{self, Write};
 /// The octets of the preface (RFC 9113, section 3.4).
 const PREFACE: u64 = 24;
 
-/// Prints lines, and counts the octets that they show where the style shows places.
+/// Prints lines, and counts the octets shown if the style shows positions.
 #[derive(Debug, Drop)]
 pub(crate) struct Printer {
     alloc: Global,
     style: Style,
-    // Whether the line of the preface is still to be printed.
+    // Whether the line of the preface has not been printed yet.
     is_due: bool,
-    // The place of the next frame's first octet, or of the preface's, from 1 on.
+    // The position of the first octet of the next frame, or of the preface, counted from 1.
     next: u64,
 }
 
 impl Printer {
-    /// No line was printed.
+    /// Creates a printer.
     pub(crate) fn new(alloc: Global, options: ShowOptions) -> Printer
         ensures style { result.style ≡ options.style }
         ensures due { result.is_due ≡ begins_with_preface options.from }
@@ -52,7 +52,7 @@ impl Printer {
         }
     }
 
-    /// Prints the line of the preface where it is still to be printed and the preface is complete.
+    /// Prints the line of the preface, once it is complete and if it has not been printed.
     pub(crate) fn advance<W: Write>(&mut self, is_complete: bool, out: &mut W) -> io::Result<()>
         ensures due { OnOk result (self.new.is_due ≡ (if is_complete then false
             else self.old.is_due)) }
@@ -85,7 +85,7 @@ impl Printer {
     }
 
     // rule: show (own) The words choose names, places, colors and JSON
-    /// Prints the lines of a frame, and of the list of the block that it ends, where it ends one.
+    /// Prints the lines of a frame, and of the fields of the block that it ends, if any.
     pub(crate) fn frame<W: Write>(
         &mut self,
         frame: FrameRef<'_>,
@@ -125,7 +125,7 @@ impl Printer {
         }
     }
 
-    /// Prints the line of the octets that are left of a frame or of the preface.
+    /// Prints the line for an incomplete frame or preface.
     pub(crate) fn rest<W: Write>(&self, count: usize, out: &mut W) -> io::Result<()>
         ensures { OnOk result (Appends (W.contents out.old) (W.contents out.new)
             (text_from self.now.style self.now.next (rest_shown count ∷ []))) }
@@ -137,7 +137,7 @@ impl Printer {
         }
     }
 
-    /// Prints the line of a block that has begun and isn't complete.
+    /// Prints the line for an incomplete field block.
     pub(crate) fn unfinished<W: Write>(&self, out: &mut W) -> io::Result<()>
         ensures { OnOk result (Appends (W.contents out.old) (W.contents out.new)
             (text_from self.now.style self.now.next (unfinished_shown ∷ []))) }
@@ -150,7 +150,7 @@ impl Printer {
     }
 }
 
-// The octets of a frame with its head, or the greatest number.
+// The octets of a frame with its header, at most 2^64 - 1.
 fn frame_octets(frame: FrameRef<'_>) -> u64
     ensures { result ≡ saturated (9 + length (payload_of (frame_of frame.entry))) }
 {

@@ -1,4 +1,4 @@
-//! An input, shown to its end.
+//! Shows an input to its end.
 
 ghost use Rattle.std.specs.Prelude.{◌≡◌, ◌≢◌, ◌<◌, ℕ, List, length, [], true, Err};
 ghost use Rattle.std.specs.Prelude.{◌∷◌, option_map, IfOk, OnOk, IfErr, IfSome};
@@ -25,12 +25,12 @@ use std::io::{self, BufWriter, ErrorKind, Read, Write};
 pub struct Shown {
     /// How the command ends: [`Status::Good`] or [`Status::Fault`].
     pub status: Status,
-    /// What is likely wrong with the options or the input, where that shows.
+    /// What is likely wrong with the options or the input, if known.
     pub hint: Option<Hint>,
 }
 
-/// A writer that is lent: std does not say that a reference inside a `BufWriter` stays the same
-/// one, and the contract of [`show_input`] speaks of the writer's contents.
+/// A borrowed writer. std does not state that a reference inside a `BufWriter` stays the same,
+/// and the contract of [`show_input`] speaks of the writer's contents.
 #[derive(Drop)]
 pub struct Lent<'a, W> {
     /// The writer.
@@ -65,21 +65,20 @@ impl<W: Write> Write for Lent<'_, W> {
 // contract: show (own) Colors begin and end within each line
 // contract: show (own) With --json each line is a JSON object
 // contract: show (own) With --json octets that are not UTF-8 are in hexadecimal under another key
-/// Shows the input: a line for each frame, the fields of a block under the frame that ends it, and
-/// then a line for the fault that ends the stream, or for what its end leaves unfinished.
+/// Shows the input: a line for each frame, the fields of a block under the frame that ends it,
+/// and then a line for the fault that ends the stream, or for what the end of the input leaves
+/// unfinished.
 ///
-/// Of a reader whose octets are known, in whatever pieces it gives them, [`Status::Good`] comes
-/// only where they are complete frames to their end, after the preface where one is expected, or
-/// nothing, which group to complete field blocks that all decode; and [`Status::Fault`] only
-/// where, after frames that do, they end inside the preface, a frame or a block, or have an octet,
-/// a frame or a block at fault.
+/// Returns [`Status::Good`] only if the input is empty, or complete frames and field blocks,
+/// after the preface for a client; [`Status::Fault`] only if it has a fault, or ends inside the
+/// preface, a frame or a block. The pieces that the reader gives do not matter.
 ///
 /// # Errors
 ///
-/// [`Failure::Device`] where a read or a write has failed, [`Failure::Memory`] when out of memory, and
-/// [`Failure::BadHex`] where the input isn't the hexadecimal text that was announced. What was
-/// printed by then is written in any case, unless the writer itself fails: where it does so at the
-/// end, that is [`Failure::Device`], whatever its error.
+/// [`Failure::Device`] if a read or a write failed, [`Failure::Memory`] if out of memory, and
+/// [`Failure::BadHex`] if the input is not the hexadecimal text announced. What was printed
+/// before is written in any case, unless a write fails; if the last write fails, the error is
+/// [`Failure::Device`].
 pub fn show_input<R: Read, W: Write>(
     alloc: Global,
     options: ShowOptions,
@@ -96,7 +95,7 @@ pub fn show_input<R: Read, W: Write>(
 {
     let mut lines = BufWriter::with_capacity(alloc, PIECE, Lent { out })?;
     let shown = show_lines(alloc, options, input, &mut lines);
-    // Only a failed write has left something, which isn't written again.
+    // Only a failed write leaves something, and it is not written again.
     let (lent, _) = lines.into_parts();
     let Lent { out: written } = lent;
     // No effect at run time. The proof reads what `out` holds from this use of `written`.
@@ -106,7 +105,7 @@ pub fn show_input<R: Read, W: Write>(
 
 // contract: show (own) Lines are written before the next read and before the end
 // rule: show (own) Lines are written before the next read and before the end
-// Shows the input, and writes what is buffered at its end.
+// Shows the input, and flushes the buffer at its end.
 fn show_lines<R: Read, W: Write + Drop>(
     alloc: Global,
     options: ShowOptions,
@@ -119,7 +118,7 @@ fn show_lines<R: Read, W: Write + Drop>(
     ensures bad_hex { result ≡ Err Failure.BadHex
         → (options.hex ≡ true) × IfSome (R.remaining input.old) IsBadHex }
 
-    // Whatever else it ends with, what was printed is written.
+    // What was printed is written, unless a write failed.
     ensures written { result ≢ Err Failure.Device → writer_buffer lines.new ≡ [] }
     ensures shows { IfOk result (λ shown. IfSome (R.remaining input.old) (λ given.
         (printed : List ℕ) × ShowsInput options given shown.status printed
@@ -161,7 +160,7 @@ fn show_given<R: Read, W: Write + Drop>(
 }
 
 // rule: show (own) An input has one output: preface, frames, then how it ends
-// Shows the octets that an end sent, as they come.
+// Shows binary input as it arrives.
 fn show_octets<R: Read, W: Write + Drop>(
     alloc: Global,
     options: ShowOptions,
@@ -182,8 +181,8 @@ fn show_octets<R: Read, W: Write + Drop>(
 }
 
 // rule: show (own) An input has one output: preface, frames, then how it ends
-// Shows pieces that fit the buffer, until the input ends. The lines of each are written before the
-// next one is read.
+// Shows pieces that fit the buffer, until the input ends. The lines of each are written before
+// the next one is read.
 fn show_pieces<R: Read, W: Write + Drop>(
     viewer: &mut Viewer,
     input: &mut R,
@@ -193,7 +192,7 @@ fn show_pieces<R: Read, W: Write + Drop>(
     requires room { 0 < length buffer.old }
     requires written { writer_buffer lines.old ≡ [] }
 
-    // Of a reader whose octets are known, the status reports all of them, whatever pieces it gave.
+    // The status is for all octets of the input, whatever pieces the reader gave.
     ensures reports { IfOk result (λ shown. IfSome (R.remaining input.old)
         (λ octets. StatusReportsAfter viewer.old.cutter viewer.old.blocks octets shown.status)) }
     ensures shows { IfOk result (λ shown. IfSome (R.remaining input.old) (λ octets.
@@ -250,7 +249,7 @@ fn write_piece<W: Write + Drop>(
     Ok(lines.flush()?)
 }
 
-// Shows octets in hexadecimal, whose text is read to its end first.
+// Shows hexadecimal input, after its text was read to the end.
 fn show_hex<R: Read, W: Write>(
     alloc: Global,
     options: ShowOptions,
@@ -269,7 +268,7 @@ fn show_hex<R: Read, W: Write>(
     Ok(shown)
 }
 
-// Shows the octets that an end sent, all at once.
+// Shows the octets of an input all at once.
 fn show_all<W: Write>(
     alloc: Global,
     options: ShowOptions,

@@ -1,4 +1,4 @@
-//! Lines with names, places and colors.
+//! Lines with names, positions and colors.
 
 ghost use Rattle.std.specs.Prelude.{◌≡◌, ◌≤◌, ◌==◌, ◌++◌, [], flat_map, length, position};
 ghost use Rattle.std.specs.Prelude.{OnOk, Some, if◌then◌else◌};
@@ -23,7 +23,7 @@ use std::alloc::Global;
 use std::fmt;
 use std::io::{self, Write};
 
-// What a terminal takes: bold, faint, red, and as before (ECMA-48, SGR).
+// Escape sequences for bold, faint, red and normal (ECMA-48, SGR).
 const BOLD: &[u8] = b"\x1b[1m";
 
 const FAINT: &[u8] = b"\x1b[2m";
@@ -32,7 +32,7 @@ const RED: &[u8] = b"\x1b[31m";
 
 const RESET: &[u8] = b"\x1b[0m";
 
-/// Prints the line of the preface, whose first octet stands at `at`.
+/// Prints the line of the preface, at position `at`.
 pub(crate) fn write_styled_preface<W: Write>(
     style: TextStyle,
     at: u64,
@@ -49,8 +49,8 @@ pub(crate) fn write_styled_preface<W: Write>(
 }
 
 // rule: show (own) A frame's place is the number of its first octet, in ten digits
-/// Prints the lines of a frame whose first octet stands at `at`, and of the list of the block that
-/// it ends, where it ends one.
+/// Prints the lines of a frame at position `at`, and of the fields of the block that it ends, if
+/// any.
 pub(crate) fn write_styled_frame<W: Write>(
     alloc: Global,
     style: TextStyle,
@@ -70,7 +70,7 @@ pub(crate) fn write_styled_frame<W: Write>(
     write_styled_list(style.colors, decoded, list, out)
 }
 
-// Prints the words of a frame, the first of which is bold where there are colors.
+// Prints the words of a frame, the first one bold if there are colors.
 fn write_frame_words<W: Write>(
     alloc: Global,
     style: TextStyle,
@@ -101,7 +101,7 @@ pub(crate) fn write_styled_fault<W: Write>(
     out.write_all(b"\n")
 }
 
-/// Prints the line of the octets that are left.
+/// Prints the line for an incomplete frame or preface.
 pub(crate) fn write_styled_rest<W: Write>(
     style: TextStyle,
     count: usize,
@@ -116,7 +116,7 @@ pub(crate) fn write_styled_rest<W: Write>(
     out.write_all(b"\n")
 }
 
-/// Prints the line of a block that isn't complete.
+/// Prints the line for an incomplete field block.
 pub(crate) fn write_styled_unfinished<W: Write>(style: TextStyle, out: &mut W) -> io::Result<()>
     ensures { OnOk result (Appends (W.contents out.old) (W.contents out.new)
         (styled_line style 1 unfinished_shown)) }
@@ -128,7 +128,7 @@ pub(crate) fn write_styled_unfinished<W: Write>(style: TextStyle, out: &mut W) -
 }
 
 // rule: show (own) A frame's place is the number of its first octet, in ten digits
-// Prints a place and a space, where places are shown.
+// Prints a position and a space, if positions are shown.
 fn write_place<W: Write>(places: bool, at: u64, out: &mut W) -> io::Result<()>
     ensures { OnOk result (Appends (W.contents out.old) (W.contents out.new)
         (place_word places at)) }
@@ -151,7 +151,7 @@ fn write_if<W: Write>(condition: bool, octets: &[u8], out: &mut W) -> io::Result
 }
 
 // rule: show (own) Colors begin and end within each line
-// Prints words, the first of which is bold where there are colors.
+// Prints words, the first one bold if there are colors.
 fn write_bold<W: Write>(colors: bool, words: &[u8], out: &mut W) -> io::Result<()>
     ensures { OnOk result (Appends (W.contents out.old) (W.contents out.new)
         (first_in_bold colors words.now)) }
@@ -163,7 +163,7 @@ fn write_bold<W: Write>(colors: bool, words: &[u8], out: &mut W) -> io::Result<(
     out.write_all(&words[end..])
 }
 
-// How many octets the first of some words has.
+// The length of the first word.
 fn first_length(words: &[u8]) -> usize
     ensures value { result ≡ first_length words.now }
     ensures within { result ≤ length words.now }
@@ -174,7 +174,7 @@ fn first_length(words: &[u8]) -> usize
     }
 }
 
-// The place of the first space of some words, if there is one.
+// The index of the first space, if there is one.
 fn first_space(words: &[u8]) -> Option<usize>
     ensures { result ≡ position (λ octet. octet == 32) words.now }
 {
@@ -193,7 +193,7 @@ fn write_words(names: bool, frame: FrameRef<'_>, words: &mut Vec<u8>) -> io::Res
 }
 
 // rule: show (own) Settings and error codes have their names where words ask for them
-/// The line of a frame with names, without its end.
+/// The line of a frame with names, without its newline.
 #[derive(Clone, Copy)]
 struct NamedLine<'a>(FrameRef<'a>);
 
@@ -213,7 +213,7 @@ impl fmt::Display for NamedLine<'_> {
     }
 }
 
-/// A space and a name, where there is one.
+/// A space and a name, if there is one.
 #[derive(Clone, Copy)]
 struct Name(Option<&'static str>);
 
@@ -230,7 +230,7 @@ impl fmt::Display for Name {
     }
 }
 
-/// The name of a setting, or its number where it has none.
+/// The name of a setting, or its number if it has none.
 #[derive(Clone, Copy)]
 struct Setting(u16);
 
@@ -283,7 +283,7 @@ fn write_named_settings<W: fmt::Write>(
     Ok(())
 }
 
-// Prints the lines of the list of the block that a frame ends, where it ends one.
+// Prints the fields of the block that a frame ends, if any.
 fn write_styled_list<W: Write>(
     colors: bool,
     decoded: Option<Decoded>,

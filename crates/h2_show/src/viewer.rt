@@ -1,4 +1,4 @@
-//! Shows a stream of frames that comes in pieces.
+//! Shows a stream of frames that arrives in pieces.
 
 ghost use Rattle.std.specs.Prelude.{◌≡◌, ◌==◌, not, ◌&&◌, length, if◌then◌else◌, List, [], ◌∷◌};
 ghost use Rattle.std.specs.Prelude.{OnOk, IfOk, IfErr};
@@ -32,14 +32,14 @@ pub struct Viewer {
     printer: Printer,
 }
 
-/// Why no more of a stream is shown.
+/// Why a stream is not shown further.
 #[derive(Debug, Drop)]
 pub enum ShowError {
     /// An octet is at fault, or out of memory.
     Wire(WireFault),
-    /// A frame doesn't group, or ends a block that doesn't decode, or out of memory.
+    /// A frame is not allowed here or ends a block that does not decode, or out of memory.
     Block(BlockError),
-    /// A line wasn't printed.
+    /// A write failed.
     Output(io::Error),
 }
 
@@ -69,12 +69,12 @@ impl From<io::Error> for ShowError {
 
 impl Viewer {
     // rule: show (own) The words choose the limit of payloads
-    /// Begins with the first octet that `from` of the options sent. Payloads may have at most
-    /// `max_frame` octets, and lines have the style that the options say.
+    /// Creates a viewer for the octets that `from` sent, from the first one on, with the style
+    /// and the `max_frame` of the options.
     ///
     /// # Errors
     ///
-    /// [`AllocError`] when out of memory.
+    /// [`AllocError`] if out of memory.
     pub fn new(alloc: Global, options: ShowOptions) -> Result<Viewer, AllocError>
         ensures represents { IfOk result (λ viewer. ViewerRepresents viewer.cutter viewer.blocks
             (begins_with_preface options.from) (limits_of options) []) }
@@ -94,15 +94,15 @@ impl Viewer {
     // rule: show (own) The status is 0 only where the input is good to its end
     /// Prints what the piece completes.
     ///
-    /// By `ok` the piece was used to its end: the cutter and the blocks represent all octets so
-    /// far, however they were cut into pieces. By `err` the stream is at fault right after the
-    /// frames taken, or with the last of them. What is printed shows the octets so far: each frame
-    /// in order, and the fields of each block.
+    /// By `ok`, the piece was used to its end: the cutter and the blocks represent all octets so
+    /// far, in whatever pieces. By `err`, the stream is at fault right after the frames taken,
+    /// or with the last of them. The lines printed show the octets so far: each frame in order,
+    /// and the fields of each block.
     ///
     /// # Errors
     ///
-    /// [`ShowError::Wire`] and [`ShowError::Block`] with the fault of the stream, or when out of
-    /// memory; [`ShowError::Output`] where a line wasn't printed.
+    /// [`ShowError::Wire`] and [`ShowError::Block`] with the fault of the stream, or if out of
+    /// memory; [`ShowError::Output`] if a write failed.
     pub fn show_piece<W: Write>(&mut self, piece: &[u8], out: &mut W) -> Result<(), ShowError>
         ensures ok { OnOk result (ViewerContinues self.old.cutter self.old.blocks piece.now
             self.new.cutter self.new.blocks) }
@@ -137,7 +137,7 @@ impl Viewer {
 
     // contract: 4.2 (own) A cutter's limit is changed for heads that are still to come
     // rule: 4.2 (own) A cutter's limit is changed for heads that are still to come
-    /// Sets the most octets of a payload, for heads whose ninth octet hasn't come yet.
+    /// Sets the maximum payload length, for frames whose ninth octet has not arrived yet.
     pub fn set_max_frame(&mut self, max_frame: u32)
         ensures limited { ViewerLimited self.old.cutter self.old.blocks self.old.printer.is_due
             max_frame self.new.cutter self.new.blocks self.new.printer.is_due }
@@ -148,7 +148,8 @@ impl Viewer {
     }
 
     // rule: HPACK 4.2 A block without the update that a lower limit asks for is a fault
-    /// The maximum of the table with which the blocks so far were decoded (RFC 7541, section 4.2).
+    /// Returns the maximum size of the decoder's table after the blocks so far (RFC 7541,
+    /// section 4.2).
     pub fn table_maximum(&self) -> u32
         ensures { result ≡ self.now.blocks.decoder.table.maximum }
     {
@@ -161,8 +162,8 @@ impl Viewer {
     ///
     /// # Errors
     ///
-    /// Where the error isn't a fault of the stream, the same: `OutOfMemory` for that, and the
-    /// writer's error where a line wasn't printed. Those of the writer.
+    /// If `error` is not a fault of the stream, it is returned: `OutOfMemory`, or the writer's
+    /// error. A failed write of the line is returned too.
     pub fn show_error<W: Write>(&mut self, error: ShowError, out: &mut W) -> io::Result<Status>
         ensures status { IfOk result (λ status. (status ≡ Status.Fault) × IsStreamFault error) }
         ensures lines { OnOk result (Appends (W.contents out.old) (W.contents out.new)
@@ -201,8 +202,8 @@ impl Viewer {
     }
 
     // rule: show (own) The status is 1 only where the stream is cut off or at fault
-    /// Prints what the end of the input leaves unfinished: the octets left of a frame or of the
-    /// preface, or else a block.
+    /// Prints what the end of the input leaves unfinished: part of a frame or of the preface, or
+    /// else a block. Returns [`Status::Good`] if nothing is.
     ///
     /// # Errors
     ///
@@ -229,7 +230,7 @@ impl Viewer {
     }
 
     // rule: show (own) A fault is printed with the name of its code and its place
-    /// The number of octets used, or the number of the octet at fault, from 1 on.
+    /// Returns the number of octets used, or the position of the octet at fault, counted from 1.
     pub fn place(&self) -> u64
         ensures { result ≡ self.now.cutter.place }
     {

@@ -1,37 +1,39 @@
-//! What a peer sends that asks for work and brings nothing, against its budget.
+//! Counts what may be a flood, against the budget of a connection.
 
 ghost use Rattle.std.specs.Prelude.{◌≡◌};
 ghost use Rattle.h2_times.specs.Budgets.{flood_of, budget_after, is_near_flood};
 
 use crate::limits::FloodLimits;
 
-/// What is above its budget.
+/// The kind of flood that exceeds its budget.
 #[derive(Clone, Copy, Debug, PartialEq, Eq)]
 pub enum Flood {
-    /// RST_STREAM.
+    /// RST_STREAM frames.
     Resets,
-    /// Frames that say nothing.
+    /// Empty frames without effect.
     Empty,
-    /// Malformed requests.
+    /// Streams that the server resets: malformed requests, other stream errors, and streams
+    /// above a limit.
     Refused,
     /// Replies to PING and SETTINGS.
     Replies,
 }
 
-/// How much of each has come since the connection began.
+/// What was counted since the connection began.
 #[derive(Clone, Copy, Debug, PartialEq, Eq)]
 pub struct Counts {
-    /// RST_STREAM.
+    /// RST_STREAM frames.
     pub resets: u32,
-    /// Frames that say nothing.
+    /// Empty frames without effect.
     pub empty: u32,
-    /// Requests that are malformed or above a limit.
+    /// Streams that the server has reset: malformed requests, other stream errors, and streams
+    /// above a limit.
     pub refused: u32,
     /// Octets of replies.
     pub replies: u64,
 }
 
-/// What had come as the stretch began.
+/// The counts at the start of the current period.
 #[derive(Clone, Copy, Debug, PartialEq, Eq)]
 pub struct Budget {
     began: u64,
@@ -39,7 +41,7 @@ pub struct Budget {
 }
 
 impl Budget {
-    /// Of a new connection.
+    /// Creates the budget of a new connection, at the time `now`.
     pub fn new(now: u64) -> Budget {
         Budget {
             began: now,
@@ -52,7 +54,7 @@ impl Budget {
         }
     }
 
-    /// The same as time passes: a new stretch once this one is over.
+    /// Returns the budget at the time `now`: a new period starts once this one is over.
     pub fn after(self, counts: Counts, limits: &FloodLimits, now: u64) -> Budget
         ensures { result ≡ budget_after self counts limits.now.stretch now }
     {
@@ -67,7 +69,7 @@ impl Budget {
 
     // rule: hosts (own) What is above its budget in a stretch is a flood
     // contract: hosts (own) What is above its budget in a stretch is a flood
-    /// What is above its budget in this stretch, the first of several in the order of [`Flood`].
+    /// Returns the first kind, in the order of [`Flood`], that exceeds its budget in this period.
     pub fn above(&self, counts: Counts, limits: &FloodLimits) -> Option<Flood>
         ensures { result ≡ flood_of self.now.before counts limits.now }
     {
@@ -84,7 +86,7 @@ impl Budget {
         }
     }
 
-    /// Whether more than a tenth of some budget is spent in this stretch.
+    /// Whether more than a tenth of some budget is spent in this period.
     pub fn is_near(&self, counts: Counts, limits: &FloodLimits) -> bool
         ensures { result ≡ is_near_flood self.now.before counts limits.now }
     {

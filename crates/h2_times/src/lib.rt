@@ -1,6 +1,5 @@
-//! What has taken too long at a connection, and what is a flood: functions of numbers that whoever
-//! has a clock calls. They read no clock, and know nothing of a connection but its [`Progress`] and
-//! its [`Counts`].
+//! Time limits and flood limits of a connection, as functions of numbers. They read no clock,
+//! and know of a connection only its [`Progress`] and its [`Counts`].
 #![tactic(auto)]
 
 mod budget;

@@ -1,43 +1,44 @@
-//! The numbers of time-outs and of floods, each with its reason.
+//! The time limits and flood limits, each with its reason.
 
-/// How long a connection may take for something, in milliseconds; 0 is no limit.
+/// Time limits in milliseconds; 0 is no limit.
 #[derive(Clone, Copy, Debug, PartialEq, Eq)]
 pub struct TimeLimits {
-    /// For the preface and the first frame. Ten times a bad round trip.
+    /// For the preface and the first frame: ten bad round trips.
     pub opening: u64,
-    /// For a frame that has begun, or a head of several frames. 16,393 octets in 30 s are 546
-    /// octets a second.
+    /// For a frame that has begun, or a field block of several frames. 16,393 octets in 30
+    /// seconds are 546 octets a second.
     pub frame: u64,
-    /// For the next [`TimeLimits::least_body`] octets of bodies, while a request isn't complete.
+    /// For the next [`TimeLimits::least_body`] octets of bodies, while a request is incomplete.
     pub body: u64,
-    /// How many octets of bodies must come in [`TimeLimits::body`].
+    /// The octets of bodies that must arrive within [`TimeLimits::body`].
     pub least_body: u64,
-    /// For the next octet of the output, while some waits.
+    /// For the next octet of output to be written, while some is queued.
     pub writing: u64,
-    /// For the next octet of an answer, while one waits.
+    /// For the next octet of a response's body to be sent, while a response waits.
     pub answering: u64,
-    /// For the next request, while there is no exchange.
+    /// For the next request, while no exchange is open.
     pub idle: u64,
 }
 
-/// What a connection may send in a stretch of time that asks for work and brings nothing.
+/// Flood limits: what a connection may send within a period.
 #[derive(Clone, Copy, Debug, PartialEq, Eq)]
 pub struct FloodLimits {
-    /// The stretch, in milliseconds.
+    /// The period, in milliseconds.
     pub stretch: u64,
-    /// RST_STREAM. A browser that leaves five pages of 100 streams each sends 500.
+    /// RST_STREAM frames. A browser that leaves five pages of 100 streams each sends 500.
     pub resets: u32,
-    /// Frames without octets that say nothing. A good client sends hardly one.
+    /// Empty frames without effect. A good client sends hardly any.
     pub empty: u32,
-    /// Requests that are malformed or above a limit. A good client sends none.
+    /// Streams that the server resets: malformed requests, other stream errors, and streams
+    /// above a limit. A good client causes none.
     pub refused: u32,
-    /// Octets of replies to PING and SETTINGS: 17 and 9 each.
+    /// Octets of replies to PING and SETTINGS, 17 and 9 each.
     pub replies: u64,
 }
 
 impl Default for TimeLimits {
-    /// 10 s to open, 30 s for a frame and for 1,024 octets of a body, 60 s for the next octet that
-    /// goes, and 75 s without an exchange.
+    /// 10 seconds to open, 30 for a frame and for 1,024 octets of a body, 60 for the next octet
+    /// sent, and 75 without a request.
     fn default() -> TimeLimits {
         TimeLimits {
             opening: 10_000,
@@ -52,7 +53,8 @@ impl Default for TimeLimits {
 }
 
 impl Default for FloodLimits {
-    /// In 10 s 500 resets, 500 empty frames, 50 refused requests and 32,768 octets of replies.
+    /// In 10 seconds: 500 RST_STREAM frames, 500 empty frames, 50 streams reset by the server,
+    /// and 32,768 octets of replies.
     fn default() -> FloodLimits {
         FloodLimits {
             stretch: 10_000,

@@ -1,11 +1,11 @@
-//! Since when things go on at a connection, and what has taken too long.
+//! The running timers of a connection, and what takes too long.
 
 ghost use Rattle.std.specs.Prelude.{◌≡◌};
 ghost use Rattle.h2_times.specs.Times.{since_after, is_late, overdue_of, times_after};
 
 use crate::limits::TimeLimits;
 
-/// What has taken too long.
+/// What took too long.
 #[derive(Clone, Copy, Debug, PartialEq, Eq)]
 pub enum Late {
     /// The preface and the first frame.
@@ -14,50 +14,50 @@ pub enum Late {
     Frame,
     /// The body of a request.
     Body,
-    /// The peer took none of the output.
+    /// The peer accepted no output.
     Writing,
-    /// The peer let no octet of an answer go.
+    /// No octet of a response could be sent.
     Answering,
     /// No request came.
     Idle,
 }
 
-/// What goes on at a connection, and how far it is.
+/// The progress of everything at a connection that has a time limit.
 #[derive(Clone, Copy, Debug, PartialEq, Eq)]
 pub struct Progress {
-    /// Whether the first frame has come.
+    /// Whether the first frame was received.
     pub opened: bool,
     /// Whether a frame has begun.
     pub in_frame: bool,
-    /// How many octets of complete frames have come; 0 in a field block, so that a head which is
-    /// never ended is late however often a frame of it comes.
+    /// The octets of complete frames received; 0 within a field block, so that the limit holds
+    /// for the block and not for each of its frames.
     pub frames: u64,
-    /// Whether some request isn't complete.
+    /// Whether some request is incomplete.
     pub reading: bool,
-    /// How many octets of bodies have come.
+    /// The octets of bodies received.
     pub body: u64,
-    /// Whether output waits.
+    /// Whether output is queued.
     pub waits: bool,
-    /// How many octets of output went.
+    /// The octets of output written.
     pub went: u64,
-    /// Whether an answer waits.
+    /// Whether a response waits.
     pub answering: bool,
-    /// How many octets of bodies were sent.
+    /// The octets of bodies sent.
     pub sent: u64,
-    /// Whether there is an exchange.
+    /// Whether an exchange is open.
     pub busy: bool,
-    /// How many requests have come.
+    /// The number of requests received.
     pub requests: u64,
 }
 
-/// Since when something goes on, and how far it was then; none where it does not go on.
+/// A timer: its start, if it runs, and the progress at that time.
 #[derive(Clone, Copy, Debug, PartialEq, Eq)]
 pub struct Since {
     at: Option<u64>,
     mark: u64,
 }
 
-/// Since when the things go on that have a limit.
+/// The timers of everything that has a limit.
 #[derive(Clone, Copy, Debug, PartialEq, Eq)]
 pub struct Times {
     opening: Since,
@@ -69,13 +69,13 @@ pub struct Times {
 }
 
 impl Since {
-    /// Nothing goes on.
+    /// A timer that is not running.
     fn new() -> Since {
         Since { at: None, mark: 0 }
     }
 
-    /// The same after a step: from now on where it did not go on before, or has gone on by `least`
-    /// at least.
+    /// Returns the timer after a step: it starts now if it was not running, or if the progress
+    /// grew by `least` or more.
     fn after(self, goes_on: bool, mark: u64, least: u64, now: u64) -> Since
         ensures { result ≡ since_after self goes_on mark least now }
     {
@@ -91,7 +91,7 @@ impl Since {
         self
     }
 
-    /// Whether it has gone on for so long; 0 is no limit.
+    /// Whether it has run for `limit` milliseconds or more; 0 is no limit.
     #[tactic(auto, unfolding(crate::specs::Times::is_late))]
     fn is_late(self, limit: u64, now: u64) -> bool
         ensures { result ≡ is_late self.at limit now }
@@ -104,7 +104,7 @@ impl Since {
 }
 
 impl Times {
-    /// Of a new connection.
+    /// Creates the timers of a new connection.
     pub fn new() -> Times {
         Times {
             opening: Since::new(),
@@ -116,7 +116,7 @@ impl Times {
         }
     }
 
-    /// The same after a step at which this goes on.
+    /// Returns the timers after a step with this progress.
     pub fn after(self, progress: Progress, limits: &TimeLimits, now: u64) -> Times
         ensures { result ≡ times_after self progress limits.now.least_body now }
     {
@@ -133,7 +133,7 @@ impl Times {
 
     // rule: hosts (own) What has taken too long is the first of what is late
     // contract: hosts (own) What has taken too long is the first of what is late
-    /// What has taken too long now, the first of several in the order of [`Late`].
+    /// Returns the first thing, in the order of [`Late`], that takes too long now.
     pub fn overdue(&self, limits: &TimeLimits, now: u64) -> Option<Late>
         ensures { result ≡ overdue_of self.now limits.now now }
     {

@@ -18,7 +18,7 @@ use std::io::{self, Read, Write};
 // rule: follow (own) The word --follow excludes --hex and --from
 // contract: follow (own) The status is 0 only where both sides are good to their ends
 // rule: follow (own) The status is 0 only where both sides are good to their ends
-/// Runs `h2 show` with words one of which is `--follow`.
+/// Runs `h2 show --follow`.
 pub(crate) fn cmd_follow<F: Files, R: Read, W: Write, E: Write>(
     files: &F,
     alloc: Global,
@@ -43,7 +43,7 @@ pub(crate) fn cmd_follow<F: Files, R: Read, W: Write, E: Write>(
 
 // contract: page (own) With --page a page is written to a file in place of the lines
 // rule: page (own) With --page a page is written to a file in place of the lines
-// Writes the page of a text to a file. Where the text is refused, there is none.
+// Writes the page of a text to a file. If the text is refused, no file is written.
 fn follow_page<F: Files, R: Read, E: Write>(
     files: &F,
     alloc: Global,
@@ -78,7 +78,7 @@ fn write_page<F: Files>(files: &F, alloc: Global, path: &str, lines: &[u8]) -> i
 }
 
 // rule: follow (own) The status is 0 only where both sides are good to their ends
-// Ends the command by what came of the text.
+// Ends the command with the result of the text.
 fn end_text<E: Write>(followed: Result<Followed, Unfollowed>, err: &mut E) -> Status
     ensures { MatchResult followed (λ shown. result ≡ shown.status)
         (λ unfollowed. result ≡ failure_status unfollowed.failure) }

@@ -34,19 +34,17 @@ use std::time::Clock;
 
 // contract: engines (own) The words of get make its request and say what is printed
 // rule: engines (own) The words of get make its request and say what is printed
-/// Runs `h2 get` with the words after `get`: fetches a URL with the request that the words ask for,
-/// whose body a file or `input` gives where they say so, and prints the status with its phrase, the
-/// fields where the words ask for them, and the body; as it comes, or into a file, where they ask
-/// for that. Several URLs are asked for at once over one connection, and their responses are
-/// printed one after another. With `has_progress` a line on standard error says how much of a file
-/// has come; with `--verbose` the frames of both sides stand there. A fetch that fails, or isn't
-/// done in the time that they give, has a line on standard error, and a hint where the cause is
-/// known.
+/// Runs `h2 get` with the words after `get`: fetches a URL, and prints the status with its phrase,
+/// with `--include` the fields, and the body, or writes the body to a file. `input` is standard
+/// input, read for `--data @-`. Several URLs are fetched at once over one connection, and their
+/// responses printed one after another. With `has_progress`, a line on standard error shows the
+/// progress of a file; with `--verbose`, standard error has the frames of both sides. A fetch that
+/// fails or exceeds `--timeout` prints a line on standard error, and a hint if the cause is known.
 ///
-/// The status is [`Status::Good`] for a response that has come, whatever its own status is, and for
-/// help; [`Status::Fault`] for a response that the words make a failure; [`Status::Usage`] for
-/// wrong words, a URL that can't be fetched and a request that breaks a rule; and else that of
-/// [`h2_net::status_of`]. Of several responses it is that of the first that has failed.
+/// The status is [`Status::Good`] for a complete response, whatever its own status is, and for
+/// help; [`Status::Fault`] for a response that `--fail` makes a failure; [`Status::Usage`] for
+/// wrong words, a URL that cannot be fetched and a request that breaks a rule; otherwise that of
+/// [`h2_net::status_of`]. For several responses it is that of the first that failed.
 pub fn cmd_get<N: Net + Files + Clock + Copy, R: Read, W: Write, E: Write>(
     net: &N,
     alloc: Global,
@@ -115,12 +113,12 @@ where
     )
 }
 
-// What is said of a fetch beside its options.
+// What a fetch needs besides its options.
 #[derive(Clone, Copy, Debug)]
 struct Limits {
-    // When it is to be over, if that is given.
+    // Its deadline, if it has one.
     deadline: Option<Deadline>,
-    // Whether it is said how much of a file has come.
+    // Whether the progress of a file is shown.
     has_progress: bool,
 }
 
@@ -166,8 +164,8 @@ where
 
 // rule: engines (own) The words of get make its request and say what is printed
 // rule: engines (own) get -o and --stream write the body as it comes, in order
-// Makes the request over a network and prints the response, as the options ask. Where the deadline
-// is over, an error of a device is due to that.
+// Makes the request over a network and prints the response, as the options ask. Once the
+// deadline is over, it is the cause of a device error.
 fn ask<N: Net, F: Files + Clock, W: Write, E: Write>(
     net: &N,
     files: &F,
@@ -205,7 +203,7 @@ pub(crate) fn is_over<C: Clock>(clock: &C, limit: Option<Deadline>) -> bool {
 }
 
 // rule: engines (own) get -o and --stream write the body as it comes, in order
-// Whether the options ask for the body as it comes.
+// Whether the body is printed or written as it arrives.
 fn is_in_parts(options: &GetOptions<'_>) -> bool
     ensures { result ≡ is_in_parts (asked_by options.now) }
 {
@@ -213,7 +211,7 @@ fn is_in_parts(options: &GetOptions<'_>) -> bool
 }
 
 // rule: engines (own) N1 to N7 end a command with their statuses
-// Prints the response that was fetched; or how the fetch has ended early, on standard error.
+// Prints the response, or on standard error how the fetch ended early.
 fn end_get<W: Write, E: Write>(
     options: &GetOptions<'_>,
     got: Result<Fetched, Ending>,
@@ -232,9 +230,9 @@ fn end_get<W: Write, E: Write>(
 
 // rule: engines (own) N1 to N7 end a command with their statuses
 // rule (tested): engines (own) A hint names --port, and says that fields are too many
-// Prints on standard error how a fetch has ended early, with the hint that is known: for N6 the
-// name of its code, and for N1 that the time is over, where it is. A request that breaks no rule is
-// refused only since its fields are too many.
+// Prints on standard error how a fetch ended early, with a hint: for N6 the name of its code,
+// for N1 that the time is over, if it is, for N7 that the fields are too many, the only reason
+// left for a request that breaks no rule.
 fn report_fetch<E: Write>(ending: Ending, is_late: bool, err: &mut E) -> Status
     ensures { result ≡ status_with ending.error }
 {
@@ -255,7 +253,7 @@ fn report_fetch<E: Write>(ending: Ending, is_late: bool, err: &mut E) -> Status
 }
 
 // rule: engines (own) With --fail a status of 400 or above ends get with status 1
-// Prints the response that was fetched, and on standard error that it is a failure, if it is.
+// Prints the response, and on standard error that it is a failure, if it is.
 fn end_fetched<W: Write, E: Write>(
     options: &GetOptions<'_>,
     fetched: &Fetched,
@@ -280,8 +278,8 @@ fn end_fetched<W: Write, E: Write>(
 
 // rule: engines (own) get -o and --stream write the body as it comes, in order
 // rule: engines (own) N1 to N7 end a command with their statuses
-// Prints on standard error how a response ends that was printed as it came, if it is a failure or
-// has ended early.
+// Prints on standard error that a response printed as it arrived is a failure, or how it ended
+// early.
 pub(crate) fn end_stream<E: Write>(
     options: &GetOptions<'_>,
     got: Result<Fetched, StreamEnding>,
@@ -297,7 +295,7 @@ pub(crate) fn end_stream<E: Write>(
 }
 
 // rule: engines (own) N1 to N7 end a command with their statuses
-// Prints on standard error why a response was not printed whole.
+// Prints on standard error why a response was not printed completely.
 pub(crate) fn end_unstreamed<E: Write>(
     options: &GetOptions<'_>,
     ending: StreamEnding,
@@ -314,7 +312,7 @@ pub(crate) fn end_unstreamed<E: Write>(
     }
 }
 
-// Prints on standard error that a file can't be written.
+// Prints on standard error that a file cannot be written.
 fn refuse_file<E: Write>(path: &str, err: &mut E) -> Status
     ensures { result ≡ Device }
 {
@@ -324,7 +322,8 @@ fn refuse_file<E: Write>(path: &str, err: &mut E) -> Status
 }
 
 // rule: engines (own) With --fail a status of 400 or above ends get with status 1
-// The status once a response was printed; on standard error stands that it is a failure, if it is.
+// The status of a response that was printed; prints on standard error that it is a failure, if
+// it is.
 fn end_response<E: Write>(options: &GetOptions<'_>, fetched: &Fetched, err: &mut E) -> Status
     ensures { result ≡ (if fails_as_asked (asked_by options.now) fetched.now then Fault else Good) }
 {
@@ -337,8 +336,7 @@ fn end_response<E: Write>(options: &GetOptions<'_>, fetched: &Fetched, err: &mut
 }
 
 // rule (tested): engines (own) A hint names --port, and says that fields are too many
-// Prints on standard error why a URL can't be fetched, and where it names no port and no word does
-// either, which word could.
+// Prints on standard error why a URL cannot be fetched, and names `--port` if there is no port.
 pub(crate) fn refuse_url<E: Write>(fault: TargetFault, port: Option<u16>, err: &mut E) -> Status
     ensures { RefusesUrl fault result }
 {
@@ -353,7 +351,7 @@ pub(crate) fn refuse_url<E: Write>(fault: TargetFault, port: Option<u16>, err: &
 }
 
 // rule: engines (own) The words of get make its request and say what is printed
-// Prints on standard error that the body can't be read, and which file it is.
+// Prints on standard error that the body cannot be read, and of which file.
 pub(crate) fn refuse_body<E: Write>(
     fault: BodyFault,
     options: &GetOptions<'_>,
@@ -383,7 +381,7 @@ pub(crate) fn refuse_request<E: Write>(fault: RequestFault, err: &mut E) -> Stat
     }
 }
 
-// The status after the words were refused on standard error, or that could not be printed.
+// The status after invalid words were reported, or if that failed.
 pub(crate) fn status_after(printed: io::Result<()>) -> Status
     ensures { result ≡ (if is_ok printed then Usage else Device) }
 {

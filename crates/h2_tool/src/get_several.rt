@@ -31,15 +31,15 @@ use std::net::Net;
 use std::time::Clock;
 
 // rule: engines (own) Several responses are printed in the order of their URLs
-/// Whether the options name more URLs than one.
+/// Whether the options name more than one URL.
 pub(crate) fn has_others(options: &GetOptions<'_>) -> bool
     ensures { result ≡ has_others (asked_by options.now) }
 {
     !options.others.is_empty()
 }
 
-/// So many URLs can be fetched at once: RFC 9113, section 6.5.2, recommends that a server lets a
-/// client have so many streams at least.
+/// The maximum number of URLs: RFC 9113, section 6.5.2, recommends that
+/// SETTINGS_MAX_CONCURRENT_STREAMS is at least 100.
 const MAX_URLS: usize = 100;
 
 // rule: engines (own) Several responses are printed in the order of their URLs
@@ -51,9 +51,9 @@ fn has_too_many(options: &GetOptions<'_>) -> bool
 }
 
 // rule: engines (own) Several responses are printed in the order of their URLs
-/// Asks for the URLs of the options at once over one connection, each with the request that they
-/// ask for, and prints the responses as they come, in the order of the URLs. What fails has a line
-/// on standard error; the status is that of the first that does.
+/// Fetches the URLs of the options at once over one connection, and prints the responses as they
+/// arrive, in the order of the URLs. Each failure has a line on standard error; the status is
+/// that of the first.
 pub(crate) fn get_several<N: Net + Files + Clock + Copy, R: Read, W: Write, E: Write>(
     net: &N,
     alloc: Global,
@@ -94,10 +94,10 @@ where
     ask_several_in_time(net, alloc, options, &first, messages, out, err)
 }
 
-/// Why the other URLs can't be fetched with the first.
+/// Why the other URLs cannot be fetched with the first.
 #[derive(Clone, Copy, Debug)]
 pub(crate) enum LocationsFault {
-    /// One of them can't be fetched.
+    /// One of them cannot be fetched.
     Url(TargetFault),
     /// One of them has another host or port.
     OtherHost,
@@ -132,8 +132,8 @@ fn locations_of(
     Ok(locations)
 }
 
-// Whether two locations are of one host and port. The case of a host doesn't count (RFC 3986,
-// section 3.2.2).
+// Whether two locations have the same host and port. Host names ignore case (RFC 3986, section
+// 3.2.2).
 fn is_same_host(one: &Location, other: &Location) -> bool
     ensures { result ≡ is_same_host one.now other.now }
 {
@@ -141,7 +141,7 @@ fn is_same_host(one: &Location, other: &Location) -> bool
 }
 
 // rule: engines (own) Several responses are printed in the order of their URLs
-// The requests for locations that the options ask for, the first one first, all with this body.
+// The requests for these locations, in order, all with this body.
 fn requests_of(
     alloc: Global,
     options: &GetOptions<'_>,
@@ -216,8 +216,8 @@ where
 }
 
 // rule: engines (own) Several responses are printed in the order of their URLs
-// Makes several requests over a network and prints the responses. Where the deadline is over, an
-// error of a device is due to that.
+// Makes several requests over a network and prints the responses. Once the deadline is over, it
+// is the cause of a device error.
 fn ask_several<N: Net, C: Clock, W: Write, E: Write>(
     net: &N,
     clock: &C,
@@ -240,7 +240,7 @@ where
 }
 
 // rule: engines (own) Several responses are printed in the order of their URLs
-// Prints on standard error how several responses have ended, or why none was asked for.
+// Prints on standard error how several responses ended, or why none was requested.
 fn end_several<E: Write>(
     options: &GetOptions<'_>,
     got: Result<SeveralStreamed, StreamEnding>,
@@ -256,8 +256,7 @@ fn end_several<E: Write>(
 }
 
 // rule: engines (own) Several responses are printed in the order of their URLs
-// Prints on standard error how each of several responses has ended, if it has failed. The status is
-// that of the first that has.
+// Prints on standard error how each failed response ended. The status is that of the first.
 fn end_each<E: Write>(
     options: &GetOptions<'_>,
     several: SeveralStreamed,
@@ -280,12 +279,12 @@ fn end_each<E: Write>(
     status
 }
 
-// Whether what has come of a response is of it alone, and not of the connection or the output.
+// Whether a result concerns its response alone, and not the connection or the output.
 fn is_of_one(got: &Result<Fetched, StreamError>) -> bool {
     matches!(got, Ok(_) | Err(StreamError::Link(LinkError::Reset(_))))
 }
 
-// Names on standard error the URL in this place, where its response alone has failed.
+// Prints on standard error the URL at this index, if its response alone failed.
 fn name_failed<E: Write>(
     options: &GetOptions<'_>,
     place: usize,
@@ -306,7 +305,7 @@ fn name_failed<E: Write>(
     }
 }
 
-// What has come of a response, with what is likely the cause where it has ended all.
+// The result of a response, with the likely cause if it ended all.
 fn with_cause(
     got: Result<Fetched, StreamError>,
     hint: Option<Hint>,
@@ -326,7 +325,7 @@ fn with_cause(
 }
 
 // rule: engines (own) Several responses are printed in the order of their URLs
-// A status, or the next, where it is `Good`.
+// A status, or the next one if it is `Good`.
 fn first_failed(status: Status, next: Status) -> Status
     ensures { result ≡ first_failed (status ∷ next ∷ []) }
 {
@@ -336,7 +335,7 @@ fn first_failed(status: Status, next: Status) -> Status
     }
 }
 
-// Prints on standard error why the other URLs can't be fetched with the first.
+// Prints on standard error why the other URLs cannot be fetched with the first.
 fn refuse_locations<E: Write>(fault: LocationsFault, port: Option<u16>, err: &mut E) -> Status
     ensures { RefusesLocations fault result }
 {

@@ -14,20 +14,19 @@ use std::io::Write;
 use std::net::{IpAddr, Ipv4Addr, Net};
 use std::time::Clock;
 
-/// How many connections there are at most, where the words name no number.
+/// The default maximum number of connections.
 const CONNECTIONS: usize = 10_000;
 
-/// After how many seconds without a request a connection ends, where the words name no number.
+/// The default number of seconds without a request after which a connection is closed.
 const IDLE: u64 = 75;
 
 // contract: hosts (own) The words of host say what is served, where, and for how long
 // rule: hosts (own) The words of host say what is served, where, and for how long
-/// Runs `h2 host` with the words after `host`: serves a port to many connections at once, with the
-/// files of a folder or with what was asked. On standard output it prints help and, where the words
-/// ask for it, a line a request.
+/// Runs `h2 host` with the words after `host`: serves files or echoes requests on many
+/// connections at once. Standard output gets help, or with `--log` a line for each request.
 ///
-/// The status is that of [`host_port`]; for help it is [`Status::Good`], and for wrong words and an
-/// address that is none [`Status::Usage`].
+/// The status is that of [`host_port`]; for help it is [`Status::Good`], and for wrong words or
+/// an invalid address [`Status::Usage`].
 pub fn cmd_host<N: Net + Files + Clock, W: Write, E: Write>(
     net: &N,
     alloc: Global,
@@ -64,7 +63,7 @@ fn serve_asked<'x, N: Net + Files + Clock, W: Write, E: Write>(
     host_port(net, alloc, options_of(asked, address), out, err)
 }
 
-// Prints on standard error that a text is no address, and answers the status.
+// Prints on standard error that a text is not an IP address, and returns the status.
 fn no_address<E: Write>(text: &str, err: &mut E) -> Status
     ensures { result ≡ Usage }
 {
@@ -75,8 +74,7 @@ fn no_address<E: Write>(text: &str, err: &mut E) -> Status
 
 // contract: hosts (own) The words of host say what is served, where, and for how long
 // rule: hosts (own) The words of host say what is served, where, and for how long
-// What is served, where and how: 10,000 connections at most, of which an idle one ends after 75
-// seconds, where the words say nothing else.
+// What is served, where and how; by default 10,000 connections, and 75 seconds without a request.
 fn options_of<'a>(asked: HostWords<'a>, address: IpAddr) -> HostOptions<'a>
     ensures port { result.port ≡ asked.entry.port }
     ensures address { result.address ≡ address }

@@ -1,8 +1,8 @@
 //! The commands of the program `h2`.
 //!
-//! [`run`] takes the words of a command line and returns the program's exit status. A command
-//! reads from a reader and prints to two writers, so tests run it in memory; one over sockets
-//! opens them by the network that it is given.
+//! [`run`] takes the words of a command line and returns the program's exit status. Commands
+//! read from a reader and print to two writers, and open sockets by the network given, so tests
+//! run in memory.
 #![tactic(auto)]
 
 mod follow;

@@ -15,7 +15,7 @@ use std::io::{Read, Write};
 // contract: messages (own) The word --messages has the rules of messages checked
 // rule: messages (own) The word --messages has the rules of messages checked
 // contract: messages (own) The status is 0 only where a client or a server took it all
-/// Runs `h2 replay` with words one of which is `--messages`.
+/// Runs `h2 replay --messages`.
 pub(crate) fn cmd_messages<R: Read, W: Write, E: Write>(
     alloc: Global,
     words: &[String],
@@ -35,7 +35,7 @@ pub(crate) fn cmd_messages<R: Read, W: Write, E: Write>(
 }
 
 // rule: messages (own) The status is 0 only where a client or a server took it all
-// Ends the command by what came of the input.
+// Ends the command with the result of the input.
 fn end_messages<E: Write>(replayed: Result<Replayed, Failure>, err: &mut E) -> Status
     ensures { MatchResult replayed (λ one. result ≡ one.status)
         (λ failure. result ≡ failure_status failure) }
@@ -58,7 +58,7 @@ fn end_messages<E: Write>(replayed: Result<Replayed, Failure>, err: &mut E) -> S
 }
 
 // rule (tested): messages (own) A hint says why the connection has failed
-// Prints on standard error why the connection has failed.
+// Prints on standard error why the connection failed.
 fn give_reason<E: Write>(why: Why, err: &mut E) {
     // The status is that of the input, whether or not this write fails.
     let _ = writeln!(err, "hint: {why}");

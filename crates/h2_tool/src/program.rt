@@ -27,9 +27,10 @@ use std::time::Clock;
 /// What is printed for terminals alone.
 #[derive(Clone, Copy, Debug, PartialEq, Eq)]
 pub struct Terminals {
-    /// Whether `--color auto` has colors: standard output is a terminal that is to have them.
+    /// Whether `--color auto` has colors: standard output is a terminal, and NO_COLOR is unset
+    /// or empty.
     pub colored: bool,
-    /// Whether `get -o` says how much has come: standard error is a terminal.
+    /// Whether `get -o` shows its progress: standard error is a terminal.
     pub has_progress: bool,
 }
 
@@ -37,9 +38,9 @@ pub struct Terminals {
 // contract: replay (own) The status is 0 only where an end took the whole input
 // contract: replay (own) The words of replay choose the end and hexadecimal
 /// Runs the program with the words after its name, and returns its exit status: that of the
-/// command, or for words without one [`Status::Good`] where they ask for help or the version and
-/// [`Status::Usage`] where they are wrong. Sockets and files are opened by `net` alone, and the
-/// clock is its. `terminals` says what is printed for terminals alone.
+/// command, or, without one, [`Status::Good`] for help and the version and [`Status::Usage`]
+/// otherwise. Sockets, files and the clock are those of `net`. `terminals` says what is printed
+/// for terminals only.
 pub fn run<N: Net + Files + Clock + Copy, R: Read, W: Write, E: Write>(
     net: &N,
     alloc: Global,
@@ -86,13 +87,13 @@ where
         }
     }
     match no_command(alloc, words) {
-        // Without a command's name words are help, the version, or wrong: no words lead here.
+        // Unreachable: without a command's name, words are help, the version, or wrong.
         Ok(()) => Status::Usage,
         Err(error) => answer(&error, out, err),
     }
 }
 
-/// Ends the program where its words can't be had: out of memory, or an argument is not UTF-8.
+/// Ends the program if its arguments are not available: out of memory, or one is not UTF-8.
 pub fn no_words<E: Write>(error: &io::Error, err: &mut E) -> Status
     ensures { result ≢ Status.Good }
 {
@@ -106,7 +107,7 @@ pub fn no_words<E: Write>(error: &io::Error, err: &mut E) -> Status
 }
 
 /// Handles words that give no options: prints the help or the version that they ask for, or what
-/// is wrong with them.
+/// is wrong.
 pub(crate) fn answer<W: Write, E: Write>(error: &Error, out: &mut W, err: &mut E) -> Status
     ensures { AnswersWords (kind_of error.now) (W.contents out.old) (W.contents out.new) result }
 {
@@ -137,8 +138,8 @@ pub(crate) fn give_up<E: Write>(failure: Failure, err: &mut E) -> Status
 
 // rule: show (own) The status is 0 only where the input is good to its end
 // rule: replay (own) The status is 0 only where an end took the whole input
-/// Ends a command that reads an input, by what came of that: prints the hint, if there is one, or
-/// why the command fails. `from_server` is the option for octets of a server.
+/// Ends a command that reads an input: prints the hint, if there is one, or why the command
+/// fails. `from_server` is the option for a server's octets.
 pub(crate) fn end_input<E: Write>(
     shown: Result<Shown, Failure>,
     from_server: &str,
@@ -158,7 +159,7 @@ pub(crate) fn end_input<E: Write>(
 
 // rule (tested): show (own) A hint names a capture, or the option that is likely missing
 /// Prints on standard error what is likely wrong with the input or the options; `from_server` is
-/// the option for octets of a server.
+/// the option for a server's octets.
 fn give_hint<E: Write>(hint: Option<Hint>, from_server: &str, err: &mut E) {
     // The status is that of the stream, whether or not these writes fail.
     let _ = match hint {

@@ -8,10 +8,10 @@ ghost use Rattle.h2_tool.specs.Rates.{units_of_millionths};
 use std::io::{self, Write};
 use std::time::{Clock, Duration, Instant};
 
-/// Octets of a megabyte, and microseconds of a second.
+/// The octets of a megabyte, and the microseconds of a second.
 const MILLION: u64 = 1_000_000;
 
-/// The microseconds since the clock said this; none where it can't be read.
+/// The microseconds since this time; none if the clock cannot be read.
 pub(crate) fn micros_since<C: Clock>(clock: &C, start: io::Result<Instant>) -> Option<u64> {
     let took = start.and_then(|start| start.elapsed(clock)).ok()?;
     Some(whole_micros(took))
@@ -24,7 +24,7 @@ fn whole_micros(took: Duration) -> u64 {
 
 // contract: engines (own) With --each-way loop says how many megabytes went, and in what time
 // rule: engines (own) With --each-way loop says how many megabytes went, and in what time
-/// Prints how many megabytes were posted and got, and in how many seconds.
+/// Prints the megabytes posted and received, and the seconds taken.
 ///
 /// # Errors
 ///
@@ -43,7 +43,7 @@ pub(crate) fn write_rates<E: Write>(
     write_units_and(micros, b" s\n", err)
 }
 
-// Prints a number of millionths in units, and what follows.
+// Prints a number of millionths as a decimal number, and what follows.
 fn write_units_and<E: Write>(number: u64, unit: &[u8], err: &mut E) -> io::Result<()>
     ensures { OnOk result (Appends (E.contents err.old) (E.contents err.new)
         (units_and number unit.now)) }
@@ -52,7 +52,7 @@ fn write_units_and<E: Write>(number: u64, unit: &[u8], err: &mut E) -> io::Resul
     err.write_all(unit)
 }
 
-// Prints a number of millionths in units.
+// Prints a number of millionths as a decimal number.
 fn write_units<E: Write>(number: u64, err: &mut E) -> io::Result<()>
     ensures { OnOk result (Appends (E.contents err.old) (E.contents err.new)
         (units_of_millionths number)) }

@@ -15,18 +15,16 @@ use std::io::{Read, Write};
 // rule: replay (own) The status is 0 only where an end took the whole input
 // contract: replay (own) The words of replay choose the end and hexadecimal
 // rule: replay (own) The words of replay choose the end and hexadecimal
-/// Runs `h2 replay` with the words after `replay`: hands the input to one end of a new connection,
-/// and prints a line for each event, then the fault with which the connection fails, if it does,
-/// and then all that the end sends. Where the first octets aren't the preface that a server
-/// expects, a line on standard error names the option that is likely missing.
+/// Runs `h2 replay` with the words after `replay`: feeds the input to one endpoint of a new
+/// connection, and prints a line for each event, then the fault with which the connection fails,
+/// if it does, and then the output of the endpoint. If the first octets are not the preface that
+/// a server expects, a hint names the option that is likely missing.
 ///
-/// The words are checked before anything is read. Lines are written at the end of each piece that
-/// was read.
+/// The words are checked before anything is read. Lines are written after each piece that was read.
 ///
-/// The status is that of [`replay_input`] under the options that the words give; for help it is
-/// [`Status::Good`] with nothing read, and for wrong words [`Status::Usage`]. With `--messages` the
-/// input is handed to a client or a server of messages, and the status is that of
-/// [`h2_messages::messages_input`].
+/// The status is that of [`replay_input`]; for help it is [`Status::Good`], and for wrong words
+/// [`Status::Usage`], with nothing read. With `--messages` the endpoint is a client or a server
+/// of messages, and the status that of [`h2_messages::messages_input`].
 pub fn cmd_replay<R: Read, W: Write, E: Write>(
     alloc: Global,
     words: &[String],

@@ -19,22 +19,21 @@ use std::io::{self, ErrorKind, Read, Write};
 // contract: show (own) The words choose the end and hexadecimal
 // rule: show (own) The words choose the end and hexadecimal
 // contract: show (own) With --file the input is that of a file
-/// Runs `h2 show` with the words after `show`: prints the frames of the input, one line each, the
-/// header fields under each block, and then the fault that ends the stream or what its end leaves
-/// unfinished. Where the first octets aren't the preface, a line on standard error names the option
+/// Runs `h2 show` with the words after `show`: prints the frames of the input, one line each,
+/// the fields under each block, and then the fault that ends the stream or what the end of the
+/// input leaves unfinished. If the first octets are not the preface, a hint names the option
 /// that is likely missing.
 ///
-/// The words are checked before anything is read. Lines are written at the end of each piece that
-/// was read. Files are opened by `files` alone.
+/// The words are checked before anything is read. Lines are written after each piece that was
+/// read. Files are opened by `files` only.
 ///
-/// The status is that of [`show_input`] under the options that the words give, and what was printed
-/// are the lines of the input; for help it is [`Status::Good`] with nothing read, and for wrong
-/// words [`Status::Usage`]. With `--file` the input is that of a file; one that can't be opened is
-/// [`Status::Device`], and a line on standard error says why. With `--client` and `--server` both
-/// files are shown, as by [`h2_follow::show_sides`]; one of them alone, or both with `--file`, is
-/// [`Status::Usage`]. `colored` says whether `--color auto` has colors. With `--follow` the input
-/// is the text that tshark prints of both sides of a connection, and the status that of
-/// [`h2_follow::follow_input`]; with `--page` a page is written to a file in place of the lines.
+/// The status is that of [`show_input`]; for help it is [`Status::Good`], and for wrong words
+/// [`Status::Usage`], with nothing read. With `--file` a file is read; if it cannot be opened,
+/// the status is [`Status::Device`], and a hint says why. With `--client` and `--server` both
+/// files are shown, as by [`h2_follow::show_sides`]; one of them alone, or both with `--file`,
+/// is [`Status::Usage`]. `colored` says whether `--color auto` has colors. With `--follow` the
+/// input is tshark's text of both sides of a connection, and the status that of
+/// [`h2_follow::follow_input`]; with `--page` a page is written to a file instead of lines.
 pub fn cmd_show<F: Files, R: Read, W: Write, E: Write>(
     files: &F,
     alloc: Global,
@@ -84,7 +83,7 @@ fn show_asked<F: Files, R: Read, W: Write, E: Write>(
 }
 
 // rule: show (own) With --file the input is that of a file
-// Shows what a file holds.
+// Shows the contents of a file.
 fn show_file<F: Files, W: Write, E: Write>(
     files: &F,
     alloc: Global,
@@ -105,7 +104,7 @@ fn show_file<F: Files, W: Write, E: Write>(
     }
 }
 
-/// Opens a file that isn't a folder.
+/// Opens a file that is not a folder.
 pub(crate) fn open<F: Files>(files: &F, path: &str) -> io::Result<F::File> {
     let file = File::open(files, path)?;
     if file.metadata()?.is_dir() {
@@ -115,7 +114,7 @@ pub(crate) fn open<F: Files>(files: &F, path: &str) -> io::Result<F::File> {
 }
 
 // rule (tested): show (own) A hint names a file that can't be opened, and why
-/// Ends the command where a file can't be opened.
+/// Ends the command for a file that cannot be opened.
 pub(crate) fn end_unopened<E: Write>(path: &str, error: &io::Error, err: &mut E) -> Status
     ensures { result ≡ Device }
 {

@@ -16,7 +16,7 @@ use std::io::Write;
 
 // contract: sides (own) --client and --server go together, and without --file
 // rule: sides (own) --client and --server go together, and without --file
-/// Shows what the files of the client and of the server hold.
+/// Shows the files of the client and of the server.
 pub(crate) fn show_files<F: Files, W: Write, E: Write>(
     files: &F,
     alloc: Global,
@@ -42,7 +42,7 @@ pub(crate) fn show_files<F: Files, W: Write, E: Write>(
 }
 
 // rule: sides (own) The client's input is shown whole, and then the server's
-// Ends the command by what came of the inputs.
+// Ends the command with the result of the inputs.
 fn end_sides<E: Write>(shown: Result<Shown, Failure>, err: &mut E) -> Status
     ensures { MatchResult shown (λ shown. result ≡ shown.status)
         (λ failure. result ≡ failure_status failure) }
@@ -66,7 +66,7 @@ fn end_sides<E: Write>(shown: Result<Shown, Failure>, err: &mut E) -> Status
 }
 
 // rule: sides (own) --client and --server go together, and without --file
-/// Ends the command where the files of the sides can't be given so.
+/// Ends the command for a wrong combination of `--client`, `--server` and `--file`.
 pub(crate) fn refuse_files<E: Write>(err: &mut E) -> Status
     ensures { result ≡ Usage }
 {

@@ -17,9 +17,8 @@ use std::time::{Clock, Instant};
 
 // rule: engines (own) serve, get and loop have their words
 /// Runs `h2 serve` with the words after `serve`: serves the given number of connections to a port
-/// of 127.0.0.1, one after another, and answers each request with what it asked. A connection that
-/// ends early has a line on standard error, and a hint where the cause is known. Only help is
-/// printed on standard output.
+/// on 127.0.0.1, one after another, and echoes each request. A connection that ends early has a
+/// line on standard error, and a hint if the cause is known. Standard output gets help only.
 ///
 /// The status is that of [`serve_port`]; for help it is [`Status::Good`], and for wrong words
 /// [`Status::Usage`].
@@ -41,13 +40,13 @@ where
     }
 }
 
-/// Runs `h2 loop` with the words after `loop`: posts octets from a client to a server, both in this
-/// process, over one TCP connection, and prints how many were sent and how many came back. With
-/// `--each-way` it prints on standard error how many megabytes that is, and how many seconds it
-/// took by the clock, if that can be read.
+/// Runs `h2 loop` with the words after `loop`: posts octets from a client to a server, both in
+/// this process, over one TCP connection, and prints how many were sent and received. With
+/// `--each-way` it prints the megabytes each way and the seconds taken on standard error, if the
+/// clock can be read.
 ///
-/// The status is [`Status::Good`] where the response has come, and for help; [`Status::Usage`] for
-/// wrong words; and else that of [`h2_net::status_of`].
+/// The status is [`Status::Good`] for a complete response and for help, [`Status::Usage`] for
+/// wrong words, and otherwise that of [`h2_net::status_of`].
 pub fn cmd_loop<N: Net + Clock, W: Write, E: Write>(
     net: &N,
     alloc: Global,
@@ -83,7 +82,7 @@ where
     }
 }
 
-// Prints on standard error how many megabytes went each way, where the words ask for it.
+// Prints on standard error the megabytes each way, if asked for.
 fn print_rates<E: Write>(options: LoopOptions, got: usize, micros: Option<u64>, err: &mut E) {
     if let (true, Some(micros)) = (options.each_way, micros) {
         // The status is that of the response, whether or not this write fails.
@@ -91,7 +90,7 @@ fn print_rates<E: Write>(options: LoopOptions, got: usize, micros: Option<u64>, 
     }
 }
 
-// Prints on standard error how a connection has ended, if it has ended early.
+// Prints on standard error how a connection ended, if it ended early.
 fn status_of_end<E: Write>(ended: Result<(), LinkError>, err: &mut E) -> Status
     ensures { MatchResult ended (λ done. result ≡ Good) (λ error. result ≡ status_with error) }
 {

@@ -1,5 +1,5 @@
-//! A link whose frames are shown while it is used: those that are written and those that are read,
-//! each line after the mark of its side, as `show --follow` prints them.
+//! A link that shows its frames while it is used, written and read, each line after the mark of
+//! its side as in `show --follow`.
 #![tactic(auto)]
 
 mod link;

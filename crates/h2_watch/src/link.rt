@@ -1,4 +1,4 @@
-//! A link whose octets are shown.
+//! A link that shows its octets.
 
 ghost use Rattle.std.specs.Prelude.{◌≡◌, ◌<◌, ◌-◌, ◌^◌, IfSome, [], length, take};
 ghost use Rattle.std.specs.Io.KnownBytes.{Appends};
@@ -13,19 +13,18 @@ use h2_show::Side;
 use std::alloc::Global;
 use std::io::{IoSlice, Write};
 
-/// A link whose frames are shown as they are written and read: those of the client, which writes
-/// to it, and those of the server. What can't be shown, since memory is missing or the writer
-/// fails, ends that, and nothing else.
+/// A link that shows its frames as they are written and read: writes are the client's, reads the
+/// server's. If memory is refused or the writer fails, showing stops, and nothing else.
 #[derive(Drop)]
 pub struct WatchedLink<'a, L, E> {
     link: &'a mut L,
     out: &'a mut E,
-    // None once something could not be shown.
+    // `None` once showing has stopped.
     watch: Option<Watch>,
 }
 
 impl<'a, L: Link, E: Write> WatchedLink<'a, L, E> {
-    /// The link, whose frames are shown on `out`. Where there is no memory for that none is shown.
+    /// Wraps a link, and shows its frames on `out`. Shows none if memory for that is refused.
     pub fn new(alloc: Global, link: &'a mut L, out: &'a mut E) -> WatchedLink<'a, L, E>
         ensures link { result.link.now ≡ link.old }
         ensures same_link { result.link.ghost_name ≡ link.entry.ghost_name }
@@ -41,7 +40,7 @@ impl<'a, L: Link, E: Write> WatchedLink<'a, L, E> {
     }
 
     // rule: engines (own) get -v shows the frames of both sides as they come
-    // Shows octets of a side, if that still goes.
+    // Shows octets of a side, unless showing has stopped.
     fn show(&mut self, side: Side, octets: &[u8])
         ensures link { self.new.link ≡ self.old.link }
         ensures same_out { self.new.out.ghost_name ≡ self.old.out.ghost_name }
@@ -58,7 +57,7 @@ impl<'a, L: Link, E: Write> WatchedLink<'a, L, E> {
     }
 
     // rule: engines (own) get -v shows the frames of both sides as they come
-    // Shows so many first octets of the client that lie in several parts, if that still goes.
+    // Shows the first `count` octets of these parts from the client, unless showing has stopped.
     fn show_parts(&mut self, parts: &[IoSlice<'_>], count: usize)
         ensures link { self.new.link ≡ self.old.link }
         ensures same_out { self.new.out.ghost_name ≡ self.old.out.ghost_name }

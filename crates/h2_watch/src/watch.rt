@@ -1,4 +1,4 @@
-//! The frames of both sides of a connection, shown as they come.
+//! Shows the frames of both sides of a connection as they arrive.
 
 ghost use Rattle.std.specs.Prelude.{◌≡◌, ◌++◌, ℕ, true, List, [], IfOk, OnOk};
 ghost use Rattle.std.specs.Io.KnownBytes.{Appends};
@@ -14,8 +14,8 @@ use h2_show::{ShowError, ShowOptions, Side, Style, Viewer};
 use std::alloc::{AllocError, Global};
 use std::io::{self, Write};
 
-/// Shows the frames of both sides of a connection as they come. After a fault of a side no more of
-/// it is shown.
+/// Shows the frames of both sides of a connection as they arrive. After a fault of a side
+/// nothing more of it is shown.
 #[derive(Debug, Drop)]
 pub struct Watch {
     pub(crate) alloc: Global,
@@ -32,11 +32,11 @@ pub(crate) struct WatchedSide {
 }
 
 impl Watch {
-    /// A new one: no octet of either side has come.
+    /// Creates a watch, before the first octet of either side.
     ///
     /// # Errors
     ///
-    /// [`AllocError`] when out of memory.
+    /// [`AllocError`] if out of memory.
     pub fn new(alloc: Global) -> Result<Watch, AllocError>
         ensures client { IfOk result (λ watch. HasShown Side.Client watch.client [] []) }
         ensures server { IfOk result (λ watch. HasShown Side.Server watch.server [] []) }
@@ -50,12 +50,12 @@ impl Watch {
 
     // contract: engines (own) get -v shows the frames of both sides as they come
     // rule: engines (own) get -v shows the frames of both sides as they come
-    /// Prints the lines of octets that a side has sent, each after its mark, `> ` for the client's
-    /// and `< ` for the server's: what these octets complete.
+    /// Prints the lines that these octets of a side complete, each after `> ` for the client or
+    /// `< ` for the server.
     ///
     /// # Errors
     ///
-    /// `OutOfMemory` for that, and those of the writer. Nothing is to be shown after either.
+    /// `OutOfMemory`, and those of the writer. Do not call it again after an error.
     pub fn show<E: Write>(&mut self, side: Side, octets: &[u8], out: &mut E) -> io::Result<()>
         ensures { OnOk result ((printed : List ℕ)
             × Appends (E.contents out.old) (E.contents out.new)
@@ -83,7 +83,7 @@ impl Watch {
 }
 
 impl WatchedSide {
-    // A new one.
+    // Creates one side.
     fn new(alloc: Global, side: Side) -> Result<WatchedSide, AllocError>
         ensures { IfOk result (λ one. HasShown side one [] []) }
     {

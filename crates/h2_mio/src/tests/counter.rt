@@ -1,12 +1,12 @@
-//! A party that keeps what has come.
+//! A party that stores what it receives.
 
 use h2_host::{Answer, Own, Party};
 use std::alloc::Global;
 
-/// A party that keeps what has come, and counts what has gone. It is always ready.
+/// A party that stores what it receives, and counts what was sent. It is always ready.
 #[derive(Drop)]
 pub(crate) struct Counter<'a> {
-    /// What has come.
+    /// What was received.
     came: Vec<u8>,
     /// Whether the peer has ended its side.
     pub(crate) ended: bool,
@@ -30,7 +30,7 @@ impl<'a> Counter<'a> {
         }
     }
 
-    /// Whether just these octets have come.
+    /// Whether exactly these octets were received.
     pub(crate) fn has(&self, octets: &[u8]) -> bool {
         self.came.as_slice() == octets
     }

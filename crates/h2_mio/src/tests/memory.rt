@@ -10,13 +10,13 @@ pub(crate) struct Memory<'a> {
     alloc: Global,
     /// What it gives next.
     rest: &'a [u8],
-    /// So many octets in a call, at most.
+    /// The maximum number of octets per call.
     most: usize,
     /// How every other call fails.
     fails: ErrorKind,
-    /// So many reads don't fail.
+    /// The number of reads that succeed.
     pub(crate) reads: usize,
-    /// So many writes don't.
+    /// The number of writes that succeed.
     pub(crate) writes: usize,
     /// What it has given.
     given: Vec<u8>,
