@@ -17,8 +17,8 @@ pub enum BlockFault {
     /// B2: a CONTINUATION comes outside a block (section 6.10).
     #[error("B2 Stray: CONTINUATION outside a field block")]
     Stray,
-    /// B3: the fragments of a field block have more than 65,552 octets in all (own; section
-    /// 10.5.1).
+    /// B3: the fragments of a field block have more than 65,552 octets in all (own: a limit
+    /// of this library; section 10.5.1).
     #[error("B3 TooLong: a field block is longer than 65552 octets")]
     TooLong,
     /// B4: an allocation was refused.

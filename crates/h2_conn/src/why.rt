@@ -12,7 +12,8 @@ use h2_wire::WireFault;
 use thiserror::Error;
 
 /// Why a connection has failed (RFC 9113, section 5.4.1): the rule that the peer has broken,
-/// the limit that was reached, or what else has ended it.
+/// the limit that was reached, or what else has ended it. "Own" marks a choice of this library
+/// where the RFC leaves one.
 #[derive(Clone, Copy, Debug, PartialEq, Eq, Hash, Error)]
 pub enum Why {
     /// The input differs from the preface (section 3.4): PROTOCOL_ERROR.

@@ -32,8 +32,8 @@ pub const MAX_LIST: u32 = 65_536;
 /// no credit of its own accord (own; RFC 9113, section 10.5): `full_output`.
 pub const FULL_OUTPUT: usize = 65_536;
 
-/// The queued output, in octets, that no reply may exceed (own; RFC 9113, section 10.5):
-/// `max_output`.
+/// The most octets of queued output that a reply, or the reset of a stream, may lead to (own;
+/// RFC 9113, section 10.5): `max_output`.
 pub const MAX_OUTPUT: usize = 262_144;
 
 /// The most octets of a body that one call sends (own): `max_data`.

@@ -1,4 +1,4 @@
-//! Laws of the texts, each the contract of a function that does nothing.
+//! Laws of integers and strings, each the contract of a function that does nothing.
 
 ghost use Rattle.std.specs.Prelude.{◌≡◌, ℕ, ◌^◌, ◌<◌, ◌≤◌, ◌%◌, nat_le, Bool, List, ◌++◌, length};
 ghost use Rattle.std.specs.List.{AllByRecursion};
@@ -22,7 +22,7 @@ pub fn some_code_begins()
 {}
 
 // contract: HPACK 5.2 With H the octets are the codes of appendix B
-/// Octets encode at most one text.
+/// Octets are the Huffman encoding of at most one text.
 pub fn one_text()
     ensures { (text other octets : List ℕ) → Huff text octets → Huff other octets → text ≡ other }
 {}
