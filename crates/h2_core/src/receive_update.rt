@@ -104,8 +104,8 @@ impl Endpoint {
 
     // rule: 5.4 (own) Being out of memory hides no other fault of the connection
     /// Resets a stream with the code of a stream error; what it owes becomes unreturned credit.
-    /// The item at fault has also taken `flow` octets of the connection's window, which do too,
-    /// and opens the stream `opened`, or none (0).
+    /// The item at fault has taken `flow` octets of the connection's window, which become
+    /// unreturned too, and opens the stream `opened`, or none (0).
     pub(crate) fn reset_for_fault<'a>(
         &mut self,
         id: u32,

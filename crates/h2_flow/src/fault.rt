@@ -9,8 +9,8 @@ use thiserror::Error;
 #[error("L1 Overflow: the window would leave its range")]
 pub struct Overflow;
 
-/// L2: more octets are taken than the window has, and not 0 (section 6.9.1). The window is
-/// unchanged.
+/// L2: more octets are taken than the window has; 0 may always be taken (section 6.9.1). The
+/// window is unchanged.
 #[derive(Clone, Copy, Debug, PartialEq, Eq, Hash, Error)]
 #[error("L2 Exceeded: the window is smaller than that")]
 pub struct Exceeded;

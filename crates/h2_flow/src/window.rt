@@ -39,12 +39,12 @@ impl Window {
     }
 
     // rule: 6.9.1 (own) h2_flow: a window gives as many octets as it has
-    /// Takes octets that are sent from the window.
+    /// Takes the octets of sent DATA out of the window.
     ///
     /// # Errors
     ///
-    /// L2 [`Exceeded`] where `octets` is not 0 and above what the window has (RFC 9113, section
-    /// 6.9.1); the window is unchanged.
+    /// L2 [`Exceeded`] where `octets` is above what the window has; 0 may always be taken (RFC
+    /// 9113, section 6.9.1). The window is unchanged.
     pub fn take(&mut self, octets: u32) -> Result<(), Exceeded>
         ensures ok { OnOk result ((exceeds octets self.old.value ≡ false)
             × (self.new.value ≡ self.old.value -ℤ pos octets)) }

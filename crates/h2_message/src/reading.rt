@@ -63,8 +63,8 @@ pub(crate) enum Phase {
     AtEnd,
 }
 
-/// A message that is read part by part. It takes a part if the parts read so far and this one
-/// begin a message that breaks no rule, and refuses it otherwise. It takes no memory.
+/// A message that is read part by part. It takes a part if a message that is not malformed can
+/// begin with the parts read so far and this one, and refuses it otherwise. It takes no memory.
 #[derive(Clone, Copy, Debug)]
 pub struct Reading {
     pub(crate) reads: Reads,
@@ -112,8 +112,8 @@ impl Reading {
     // contract: 8.1.1 No length is compared in an answer to HEAD, in 204 and in 304
     // contract: 8.6 Status 101 breaks M9, sent or read: HTTP/2 has no upgrade
     /// Takes a field block, with END_STREAM where `end` is set, and returns which part of the
-    /// message it is. `None` where no message that breaks no rule begins with it: nothing has
-    /// changed, and [`Reading::broken_by_fields`] says which rule it breaks.
+    /// message it is. `None` if the message is malformed with it: nothing has changed, and
+    /// [`Reading::broken_by_fields`] says which rule it breaks.
     pub fn fields(&mut self, list: &FieldList, end: bool) -> Option<Place>
         ensures { (reads : Reads) (parts : List (Part × Bool)) → Follows reads parts self.old
             → FollowsFields reads parts list.now end result self.old self.new }
@@ -182,8 +182,8 @@ impl Reading {
     // rule: 8.1.1 DATA that is read is as long as content-length says, or breaks M11
     // contract: 8.1.1 No length is compared in an answer to HEAD, in 204 and in 304
     /// Takes `count` octets of a DATA frame, with END_STREAM where `end` is set, and returns
-    /// `true`. `false` where no message that breaks no rule begins with them: nothing has
-    /// changed, and [`Reading::broken_by_data`] says which rule they break.
+    /// `true`. `false` if the message is malformed with them: nothing has changed, and
+    /// [`Reading::broken_by_data`] says which rule they break.
     pub fn data(&mut self, count: usize, end: bool) -> bool
         ensures { (reads : Reads) (parts : List (Part × Bool)) (octets : List ℕ)
             → length octets ≡ count → Follows reads parts self.old
@@ -207,8 +207,8 @@ impl Reading {
     // contract: 8.1.1 (own) A part that is refused breaks a rule, the least of which is named
     // rule: 8.1.1 (own) A part that is refused breaks a rule, the least of which is named
     /// Returns the first rule that a field block breaks after the parts read, for which
-    /// [`Reading::fields`] refuses it; `None` where it takes it. After END_STREAM that is M12,
-    /// whatever the fields are.
+    /// [`Reading::fields`] refuses it; `None` if it is not refused. After END_STREAM that is
+    /// M12, whatever the fields are.
     pub fn broken_by_fields(&self, list: &FieldList, end: bool) -> Option<Malformed>
         ensures { (reads : Reads) (parts : List (Part × Bool)) → Follows reads parts self.now
             → result ≡ broken_after reads parts (FieldsPart list.now, end) }
@@ -262,8 +262,8 @@ impl Reading {
     // contract: 8.1.1 (own) A part that is refused breaks a rule, the least of which is named
     // rule: 8.1.1 (own) A part that is refused breaks a rule, the least of which is named
     /// Returns the rule that `count` octets of a DATA frame break after the parts read, for
-    /// which [`Reading::data`] refuses them: M11, or M12 outside a body; `None` where it takes
-    /// them.
+    /// which [`Reading::data`] refuses them: M11, or M12 outside a body; `None` if they are not
+    /// refused.
     pub fn broken_by_data(&self, count: usize, end: bool) -> Option<Malformed>
         ensures { (reads : Reads) (parts : List (Part × Bool)) (octets : List ℕ)
             → length octets ≡ count → Follows reads parts self.now

@@ -90,7 +90,7 @@ impl Spans {
         ensures shared { self.new.shared ≤ self.old.shared }
         ensures small { result ≤ count }
     {
-        // Mostly nothing is shared, and then nothing is to be done.
+        // Mostly nothing is shared; then all `count` octets are copied ones.
         if self.all.is_empty() {
             return count;
         }

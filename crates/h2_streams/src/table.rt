@@ -315,7 +315,7 @@ fn greater_of(greatest: Option<i64>, offset: i64) -> i64
 }
 
 /// The first of the next two numbers that is active. A client uses odd numbers (RFC 9113,
-/// section 5.1.1), so mostly one is until streams end.
+/// section 5.1.1), so one of the two mostly is, until streams end.
 fn next_but_one(active: &NumberTable<Kept>, above: u32) -> Option<u32>
     ensures { IfSome result (λ number. IsLeastAbove above (all_of active.now) (Some number)) }
 {
