@@ -1,4 +1,4 @@
-//! The faults of frames that don't group.
+//! Faults of the frames of field blocks.
 
 ghost use Rattle.std.specs.Prelude.{◌≡◌};
 ghost use Rattle.h2_block.specs.Gather.{block_fault_code};
@@ -7,20 +7,21 @@ use h2_frame::Code;
 use std::alloc::AllocError;
 use thiserror::Error;
 
-/// Why frames aren't grouped any further.
+/// Why frames cannot be grouped into field blocks any further.
 #[derive(Clone, Copy, Debug, PartialEq, Eq, Hash, Error)]
 pub enum BlockFault {
-    /// Inside a block comes another frame than a CONTINUATION of its stream (RFC 9113, section
-    /// 6.10).
+    /// B1: a frame other than a CONTINUATION of the same stream comes inside a block (RFC 9113,
+    /// section 6.10).
     #[error("B1 Interrupted: another frame interrupts a field block")]
     Interrupted,
-    /// A CONTINUATION comes outside a block (section 6.10).
+    /// B2: a CONTINUATION comes outside a block (section 6.10).
     #[error("B2 Stray: CONTINUATION outside a field block")]
     Stray,
-    /// A block has more than 65,552 octets.
+    /// B3: the fragments of a field block have more than 65,552 octets in all (own: a limit
+    /// of this library; section 10.5.1).
     #[error("B3 TooLong: a field block is longer than 65552 octets")]
     TooLong,
-    /// An allocation was refused.
+    /// B4: an allocation was refused.
     #[error("B4 Memory: out of memory")]
     Memory,
 }
@@ -38,8 +39,8 @@ impl From<AllocError> for BlockFault {
 impl BlockFault {
     // contract: 5.4 (own) Out of memory is INTERNAL_ERROR
     // rule: 5.4 (own) Out of memory is INTERNAL_ERROR
-    /// The code with which the connection ends: PROTOCOL_ERROR for a block that is interrupted or
-    /// stray, ENHANCE_YOUR_CALM for one that is too long, and INTERNAL_ERROR for lack of memory.
+    /// Returns the code with which the connection ends: PROTOCOL_ERROR for B1 and B2,
+    /// ENHANCE_YOUR_CALM for B3, and INTERNAL_ERROR for B4.
     pub fn code(self) -> Code
         ensures { result ≡ block_fault_code self }
     {

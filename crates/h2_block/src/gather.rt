@@ -33,7 +33,7 @@ impl Model for Gather {
 }
 
 impl Gather {
-    /// A gatherer that has taken no frame.
+    /// Makes a gatherer that has taken no frame.
     pub fn new(alloc: Global) -> Gather
         ensures { GatherRepresents result [] [] }
     {
@@ -47,25 +47,28 @@ impl Gather {
     // contract: 6.10 Inside a block any frame but its CONTINUATION is PROTOCOL_ERROR
     // contract: 10.5 (own) A block of more than 65,552 octets is ENHANCE_YOUR_CALM
     // contract: 5.4.1 After a fault each layer answers that fault and changes nothing
-    /// Takes the next frame (RFC 9113, sections 4.3 and 6.10): one that is no part of a block is
-    /// passed on; a block is answered with its last frame.
+    /// Takes the next frame (RFC 9113, sections 4.3 and 6.10). A frame that is no part of a
+    /// block is passed on; a block is returned with its last frame.
     ///
     /// # Errors
     ///
-    /// [`BlockFault::Interrupted`] where another frame than a CONTINUATION of the same stream comes
-    /// inside a block, of an unknown kind too; [`BlockFault::Stray`] where a CONTINUATION comes
-    /// outside a block; [`BlockFault::TooLong`] where the block has more than 65,552 octets with
-    /// the frame. Every call from then on answers the same fault. [`BlockFault::Memory`] where an
-    /// allocation was refused: nothing has changed, and the call may be made again.
+    /// - [`BlockFault::Interrupted`] where a frame other than a CONTINUATION of the same stream
+    ///   comes inside a block, of an unknown type too;
+    /// - [`BlockFault::Stray`] where a CONTINUATION comes outside a block;
+    /// - [`BlockFault::TooLong`] where the block, with this frame, has more than 65,552 octets;
+    /// - [`BlockFault::Memory`] where an allocation was refused: nothing has changed, and the
+    ///   call may be repeated.
+    ///
+    /// After one of the first three, every later call returns the same fault.
     pub fn take<'a>(&mut self, frame: FrameRef<'a>) -> Result<Gathered<'a>, BlockFault>
-        // A fault is answered again.
+        // A fault is returned again.
         ensures failed { IfSome self.old.fault (λ fault. result ≡ Err fault) }
 
-        // A frame at fault is reported, whatever memory there is.
+        // A frame at fault is reported, even without memory.
         ensures reported { self.old.fault ≡ None
             → ReportsFault self.old.begun (frame_of frame.entry) result }
 
-        // A frame that is no part of a block is passed on outside blocks, whatever memory there is.
+        // A frame that is no part of a block is passed on outside blocks, even without memory.
         ensures alone { self.old.fault ≡ None → self.old.begun ≡ None
             → is_standalone (frame_of frame.entry) ≡ true → IsOk result }
 
@@ -73,10 +76,10 @@ impl Gather {
         ensures passed { PassesItself frame.entry result }
 
         // If it represented `frames` and `items`, it now represents `frames` with this one
-        // appended, and `items` with the one answered; or `frames` with this one are at fault.
+        // appended, and `items` with the one returned; or `frames` with this one are at fault.
         ensures takes { GatherTakes self.old (frame_of frame.entry) result self.new }
 
-        // After a block that was answered none has begun.
+        // After a block is returned, none has begun.
         ensures ended { LeavesNone result self.new }
     {
         self.partial.take(frame)
@@ -87,7 +90,7 @@ impl Gather {
     // contract: 10.5 (own) A block of more than 65,552 octets is ENHANCE_YOUR_CALM
     // contract: 10.5 (own) What an end holds of a stream is bounded
     // rule: 10.5 (own) What an end holds of a stream is bounded
-    /// How many octets it keeps of a block that isn't complete. It allocates nothing.
+    /// Returns the number of octets kept of a block that is not complete. It allocates nothing.
     pub fn held(&self) -> usize
         ensures value { result ≡ option_map_or (λ begun. length begun.octets) self.now.begun 0 }
         ensures bound { result ≤ 65552 }
@@ -97,7 +100,7 @@ impl Gather {
 
     // contract: 4.3 (own) A gatherer says what it holds of a block, and if it is inside one
     // rule: 4.3 (own) A gatherer says what it holds of a block, and if it is inside one
-    /// Whether a block has begun and isn't complete. It allocates nothing.
+    /// Returns whether a block has begun and is not complete. It allocates nothing.
     pub fn is_inside(&self) -> bool
         ensures { result ≡ is_some self.now.begun }
     {
@@ -106,7 +109,8 @@ impl Gather {
 
     // contract: 4.3 (own) A gatherer says what it holds of a block, and if it is inside one
     // rule: 4.3 (own) A gatherer says what it holds of a block, and if it is inside one
-    /// The stream of the block that has begun and isn't complete. It allocates nothing.
+    /// Returns the stream of the block that has begun and is not complete, if there is one. It
+    /// allocates nothing.
     pub fn stream(&self) -> Option<u32>
         ensures { result ≡ option_map (λ begun. begun.stream) self.now.begun }
     {

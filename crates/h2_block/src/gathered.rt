@@ -1,19 +1,19 @@
-//! What a gatherer answers.
+//! The result of a gatherer.
 
 use h2_frame::FrameRef;
 
-/// What a gatherer makes of a frame.
+/// What [`Gather::take`](crate::Gather::take) makes of a frame.
 #[derive(Debug, Drop)]
 pub enum Gathered<'a> {
-    /// The frame is no part of a block.
+    /// The frame itself, which is no part of a block.
     Pass(FrameRef<'a>),
     /// The frame begins or continues a block, and more of the block is to come.
     More,
-    /// The block is complete with the frame.
+    /// The block that the frame completes.
     Block {
         /// The block's stream.
         stream: u32,
-        /// Whether nothing follows it on the stream (END_STREAM).
+        /// Whether END_STREAM is set: nothing follows the block on the stream.
         end: bool,
         /// Its octets: the fragments, joined.
         octets: Vec<u8>,

@@ -10,8 +10,8 @@ ghost use Rattle.h2_block.specs.Grouping.{Item, block, Begun, Groups, GroupingFa
 ghost use Rattle.h2_block.specs.Spread.{spread_frames};
 
 // contract: 4.3 Each list of frames groups or has a fault; prefixes agree
-/// Frames have one grouping: their items, and the block that has begun after them, are the same,
-/// however they were found.
+/// Frames have at most one grouping: one list of items, and after them one block that has
+/// begun, or none.
 pub fn one_grouping()
     ensures { (frames : List Frame) (items others : List Item) (begun other : Option Begun)
         → Groups frames items begun → Groups frames others other
@@ -19,8 +19,8 @@ pub fn one_grouping()
 {}
 
 // contract: 4.3 Each list of frames groups or has a fault; prefixes agree
-/// Frames at fault have no grouping, whatever follows them, and no other fault: nothing from the
-/// frame at fault on is an item.
+/// Frames at fault have no grouping, whatever follows them, and no other fault. Neither the
+/// frame at fault nor a later one makes an item.
 pub fn no_grouping_past_a_fault()
     ensures grouping { (frames more : List Frame) (items others : List Item) (fault : BlockFault)
         (begun : Option Begun)
@@ -32,8 +32,9 @@ pub fn no_grouping_past_a_fault()
 
 // contract: 4.2 (own) Payloads of at most 65,536 octets are sent, where the peer reads them
 // contract: 4.3 A block is sent as contiguous HEADERS and CONTINUATION, each full but one
-/// The frames over which a block is spread, whatever the greatest payload is, are one block of its
-/// octets. Where a head can say that payload's length they can be written; none has a greater one.
+/// The frames over which a block is spread are one block of its octets, whatever the greatest
+/// payload is. None of them has a longer payload, and they may be written if a head can encode
+/// that length.
 pub fn spread_block()
     ensures grouped { (most stream : ℕ) (end : Bool) (octets : List ℕ) → 1 ≤ most
         → length octets ≤ 65552

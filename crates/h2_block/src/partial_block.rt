@@ -20,7 +20,7 @@ use std::mem;
 pub(crate) struct Opening {
     /// The block's stream.
     pub(crate) stream: u32,
-    /// Whether nothing follows it on the stream.
+    /// Whether nothing follows it on the stream (END_STREAM).
     pub(crate) end: bool,
 }
 
@@ -28,16 +28,16 @@ pub(crate) struct Opening {
 #[derive(Debug, Drop)]
 pub(crate) struct PartialBlock {
     alloc: Global,
-    /// What the block that has begun was opened with.
+    /// The HEADERS of the block that has begun, if one has.
     pub(crate) opening: Option<Opening>,
     /// The octets of the block that has begun.
     pub(crate) octets: Vec<u8>,
-    /// The fault that ended the frames.
+    /// The fault of the frames, if they have one.
     pub(crate) fault: Option<BlockFault>,
 }
 
 impl PartialBlock {
-    /// No frame was taken.
+    /// The state before any frame.
     pub(crate) fn new(alloc: Global) -> PartialBlock
         ensures represents { GatherRepresents (gather_state_of result) [] [] }
         ensures invariant { PartialBlockInvariant result }
@@ -104,7 +104,7 @@ impl PartialBlock {
     // rule: 5.5 A frame of an unknown type inside a block is PROTOCOL_ERROR
     // rule: 6.10 Inside a block any frame but its CONTINUATION is PROTOCOL_ERROR
     // rule: 6.10 A CONTINUATION of another stream inside a block is PROTOCOL_ERROR
-    // Takes a frame inside the block that was opened so.
+    // Takes a frame inside the block with this opening.
     fn take_inside<'a>(
         &mut self,
         opening: Opening,
@@ -134,7 +134,7 @@ impl PartialBlock {
     // rule: 4.3 A field block is its HEADERS' fragment and those of CONTINUATION
     // rule: 4.3 END_STREAM of a block is that of its HEADERS
     // rule: 10.5 (own) A block of more than 65,552 octets is ENHANCE_YOUR_CALM
-    // HEADERS begins a block, or is a complete one.
+    // Takes HEADERS, which begins a block or is a complete one.
     fn begin<'a>(
         &mut self,
         opening: Opening,
@@ -171,7 +171,7 @@ impl PartialBlock {
     // rule: 4.3 A field block is its HEADERS' fragment and those of CONTINUATION
     // rule: 4.3 END_STREAM of a block is that of its HEADERS
     // rule: 10.5 (own) A block of more than 65,552 octets is ENHANCE_YOUR_CALM
-    // A CONTINUATION of the block that was opened so continues it, or ends it.
+    // Takes a CONTINUATION of the block with this opening, which continues or ends it.
     fn extend<'a>(
         &mut self,
         opening: Opening,
@@ -203,7 +203,7 @@ impl PartialBlock {
         })
     }
 
-    // The octets, in a list of their own.
+    // Copies the octets into a vector.
     fn copy(&self, octets: &[u8]) -> Result<Vec<u8>, BlockFault>
         ensures ok { IfOk result (λ copied. copied.items ≡ octets.now) }
         ensures err { IfErr result (λ fault. fault ≡ BlockFault.Memory) }
@@ -222,7 +222,7 @@ impl PartialBlock {
         Ok(())
     }
 
-    // The block has ended; its octets are handed out.
+    // Ends the block, and returns its octets.
     fn end(&mut self) -> Vec<u8>
         ensures octets { result.items ≡ self.old.octets.items }
         ensures none { self.new.octets.items ≡ [] }
@@ -233,7 +233,7 @@ impl PartialBlock {
     }
 
     // rule: 5.4.1 After a fault each layer answers that fault and changes nothing
-    // The frames are at fault, and no octets are kept.
+    // Fails the frames with this fault, and drops the octets kept.
     fn fail(&mut self, fault: BlockFault) -> BlockFault
         ensures fault { result ≡ fault }
         ensures none { self.new.octets.items ≡ [] }

@@ -17,16 +17,16 @@ use h2_frame::{FrameRef, HEAD_LEN, write_ref};
 // rule: 4.3 END_STREAM of a block is that of its HEADERS
 // rule: 4.3 Of the frames of a block that is sent the last has END_HEADERS
 // rule: 4.3 (own) Room for all frames of a block is reserved before the first
-/// Appends the frames of a field block on a stream, from 1 to 2<sup>31</sup> - 1, of 65,552 octets
-/// at most (RFC 9113, sections 4.3, 6.2 and 6.10): HEADERS and CONTINUATIONs, each full with `most`
-/// octets but the last. An empty block is one empty HEADERS. `end` says that nothing follows the
-/// block on the stream. A peer reads payloads of 16,384 octets, and longer ones only where its
-/// SETTINGS have said so.
+/// Appends a field block as HEADERS and CONTINUATIONs, each but the last full with `most`
+/// octets (RFC 9113, sections 4.3, 6.2 and 6.10). The stream is from 1 to 2<sup>31</sup> - 1,
+/// and the block has at most 65,552 octets; an empty one is one empty HEADERS. `end` sets
+/// END_STREAM: nothing follows the block on the stream. A peer reads payloads of 16,384 octets,
+/// and longer ones only if its SETTINGS have said so.
 ///
 /// # Errors
 ///
-/// [`BlockFault::Memory`], and `out` is unchanged. It doesn't come where `out` has capacity for the
-/// frames.
+/// [`BlockFault::Memory`] where an allocation was refused; `out` is unchanged. It does not come
+/// where `out` has capacity for the frames.
 pub fn spread(
     stream: u32,
     end: bool,
@@ -48,7 +48,7 @@ pub fn spread(
         → IsOk result }
     ensures capacity { vec_capacity out.old ≤ vec_capacity out.new }
 {
-    // No block has more octets, so a greater payload makes no other frames.
+    // No block is longer, so a greater payload makes no difference.
     let payload = most.min(MAX_BLOCK);
     if out.reserve(encoded_len(payload, octets.len())).is_err() {
         return Err(BlockFault::Memory);
@@ -58,7 +58,7 @@ pub fn spread(
 }
 
 // rule: 4.3 (own) Room for all frames of a block is reserved before the first
-// How many octets the frames of a block of so many octets have: nine more for each frame's head.
+// The octets of the frames of a block of `count` octets: nine more for each frame's head.
 fn encoded_len(most: usize, count: usize) -> usize
     requires payload { 1 ≤ most }
     requires length { count ≤ 65552 }

@@ -23,15 +23,15 @@ use hpack::Field;
 use std::alloc::Global;
 
 impl Conn {
-    /// Opens a stream with a field section; `end` sets END_STREAM, so that nothing follows on it.
-    /// Returns its number: 1, 3, 5 and so on.
+    /// Opens a stream by sending a field section on it, and returns the stream's number: 1, 3,
+    /// 5 and so on. `end` sets END_STREAM: this end sends nothing more on the stream.
     ///
     /// # Errors
     ///
-    /// [`Refusal::Closed`] (C1), [`Refusal::TooManyStreams`] (C4),
+    /// The first that holds of [`Refusal::Closed`] (C1), [`Refusal::TooManyStreams`] (C4),
     /// [`Refusal::StreamsExhausted`] (C5, at a server always), [`Refusal::GoingAway`] (C6),
-    /// [`Refusal::OutputFull`] (C7), [`Refusal::ListTooLarge`] (C10) and [`Refusal::Memory`] (C12),
-    /// in this order. Nothing has changed.
+    /// [`Refusal::OutputFull`] (C7), [`Refusal::ListTooLarge`] (C10) and [`Refusal::Memory`]
+    /// (C12). A refused call changes nothing.
     pub fn open(&mut self, fields: &[Field], end: bool) -> Result<u32, Refusal>
         ensures answers { ConnAnswers self.old (Open fields.now end)
             (answer_by (λ id. Number id) result) self.new }
@@ -40,13 +40,14 @@ impl Conn {
         self.inner.end.open(fields, end)
     }
 
-    /// Sends a further field section on a stream: a response's, or trailers.
+    /// Sends a field section on an active stream: a response's head, or trailers. `end` sets
+    /// END_STREAM: this end sends nothing more on the stream.
     ///
     /// # Errors
     ///
-    /// [`Refusal::Closed`] (C1), [`Refusal::NoSuchStream`] (C2), [`Refusal::Ended`] (C3),
-    /// [`Refusal::OutputFull`] (C7), [`Refusal::ListTooLarge`] (C10) and [`Refusal::Memory`] (C12),
-    /// in this order. Nothing has changed.
+    /// The first that holds of [`Refusal::Closed`] (C1), [`Refusal::NoSuchStream`] (C2),
+    /// [`Refusal::Ended`] (C3), [`Refusal::OutputFull`] (C7), [`Refusal::ListTooLarge`] (C10)
+    /// and [`Refusal::Memory`] (C12). A refused call changes nothing.
     pub fn fields(&mut self, id: u32, fields: &[Field], end: bool) -> Result<(), Refusal>
         ensures answers { ConnAnswers self.old (SendFields id fields.now end)
             (answer_by (λ done. Done) result) self.new }
@@ -56,15 +57,16 @@ impl Conn {
     }
 
     // contract: calls (own) A call that sends nothing takes no memory
-    /// Sends as many octets of a body as both windows let through, at most 65,536, and returns
-    /// their number. Where all were sent and `end` is set, the last DATA has END_STREAM; an empty
-    /// slice with `end` sends one empty DATA.
+    /// Sends as many octets of a body as the windows of the stream and of the connection allow,
+    /// at most 65,536, and returns their number. If all of `octets` were sent and `end` is set,
+    /// the last DATA frame has END_STREAM; an empty slice with `end` sends one empty DATA
+    /// frame.
     ///
     /// # Errors
     ///
-    /// [`Refusal::Closed`] (C1), [`Refusal::NoSuchStream`] (C2), [`Refusal::Ended`] (C3),
-    /// [`Refusal::OutputFull`] (C7) and [`Refusal::Memory`] (C12), in this order. Nothing has
-    /// changed.
+    /// The first that holds of [`Refusal::Closed`] (C1), [`Refusal::NoSuchStream`] (C2),
+    /// [`Refusal::Ended`] (C3), [`Refusal::OutputFull`] (C7) and [`Refusal::Memory`] (C12). A
+    /// refused call changes nothing.
     pub fn data(&mut self, id: u32, octets: &[u8], end: bool) -> Result<usize, Refusal>
         ensures answers { ConnAnswers self.old (SendData id octets.now end)
             (answer_by (λ count. Count count) result) self.new }
@@ -80,14 +82,15 @@ impl Conn {
     }
 
     // contract: calls (own) A call that sends nothing takes no memory
-    /// Sends octets of a body as [`Conn::data`], with no copy of them where they are many: they
-    /// wait where they lie, and are let go once they are taken away.
+    /// Sends octets of a body as [`Conn::data`] does, and doesn't copy them for a DATA frame
+    /// with 4,096 octets or more: the queue shares them until they are put out or consumed. If
+    /// an allocation for that is refused, they are copied.
     ///
     /// # Errors
     ///
-    /// [`Refusal::Closed`] (C1), [`Refusal::NoSuchStream`] (C2), [`Refusal::Ended`] (C3),
-    /// [`Refusal::OutputFull`] (C7) and [`Refusal::Memory`] (C12), in this order. Nothing has
-    /// changed.
+    /// The first that holds of [`Refusal::Closed`] (C1), [`Refusal::NoSuchStream`] (C2),
+    /// [`Refusal::Ended`] (C3), [`Refusal::OutputFull`] (C7) and [`Refusal::Memory`] (C12). A
+    /// refused call changes nothing.
     pub fn data_shared(
         &mut self,
         id: u32,
@@ -108,14 +111,16 @@ impl Conn {
         self.inner.end.send_shared_data(id, octets, end)
     }
 
-    /// Returns credit of `count` octets, which were reported and are owed, for a stream and the
-    /// connection (RFC 9113, section 6.9).
+    /// Returns `count` octets of flow-control window to the peer (RFC 9113, section 6.9): by
+    /// WINDOW_UPDATE on the connection and, unless the peer has sent END_STREAM, on the stream.
+    /// They must be owed ([`Conn::owed`]): reported by [`Event::Data`] as `flow`, and not yet
+    /// released.
     ///
     /// # Errors
     ///
-    /// [`Refusal::Closed`] (C1), [`Refusal::NoSuchStream`] (C2), [`Refusal::OutputFull`] (C7),
-    /// [`Refusal::NotOwed`] (C11) and [`Refusal::Memory`] (C12), in this order. Nothing has
-    /// changed.
+    /// The first that holds of [`Refusal::Closed`] (C1), [`Refusal::NoSuchStream`] (C2),
+    /// [`Refusal::OutputFull`] (C7), [`Refusal::NotOwed`] (C11) and [`Refusal::Memory`] (C12).
+    /// A refused call changes nothing.
     pub fn release(&mut self, id: u32, count: u32) -> Result<(), Refusal>
         ensures { ConnAnswers self.old (Release id count) (answer_by (λ done. Done) result)
             self.new }
@@ -123,13 +128,13 @@ impl Conn {
         self.inner.end.release(id, count)
     }
 
-    /// Resets a stream with a code (section 6.4).
+    /// Resets an active stream: sends RST_STREAM with `code` (section 6.4).
     ///
     /// # Errors
     ///
-    /// [`Refusal::Closed`] (C1), [`Refusal::NoSuchStream`] (C2), [`Refusal::OutputFull`] (C7),
-    /// [`Refusal::TooManyResets`] (C9) and [`Refusal::Memory`] (C12), in this order. Nothing has
-    /// changed.
+    /// The first that holds of [`Refusal::Closed`] (C1), [`Refusal::NoSuchStream`] (C2),
+    /// [`Refusal::OutputFull`] (C7), [`Refusal::TooManyResets`] (C9) and [`Refusal::Memory`]
+    /// (C12). A refused call changes nothing.
     pub fn reset(&mut self, id: u32, code: u32) -> Result<(), Refusal>
         ensures { ConnAnswers self.old (ResetStream id code) (answer_by (λ done. Done) result)
             self.new }
@@ -138,16 +143,20 @@ impl Conn {
     }
 
     // contract: calls (own) A stream that the layer above refuses is reset
-    /// Resets a stream for a fault of the peer that the layer above found. With INTERNAL_ERROR (2)
-    /// that layer has no memory, and the connection fails with it; it fails with ENHANCE_YOUR_CALM
-    /// where 1,000 streams were reset, or RST_STREAM would bring the queued output above 262,144
-    /// octets, and with INTERNAL_ERROR where an allocation was refused. [`Conn::take`] then
-    /// returns the code, and [`Conn::why`] says of INTERNAL_ERROR [`Why::OutOfMemory`].
+    /// Resets an active stream for a fault of the peer that the layer above has found: sends
+    /// RST_STREAM with `code`. In these cases the call succeeds too, but the connection fails
+    /// instead:
+    ///
+    /// - with INTERNAL_ERROR where `code` is INTERNAL_ERROR (2), which says that the layer
+    ///   above is out of memory, and where an allocation was refused ([`Conn::why`] is
+    ///   [`Why::OutOfMemory`]);
+    /// - with ENHANCE_YOUR_CALM where this end has already reset 1,000 streams, or RST_STREAM
+    ///   would bring the queued output above 262,144 octets.
     ///
     /// # Errors
     ///
-    /// [`Refusal::Closed`] (C1) and, unless the code is 2, [`Refusal::NoSuchStream`] (C2). Nothing
-    /// has changed.
+    /// The first that holds of [`Refusal::Closed`] (C1) and, unless `code` is 2,
+    /// [`Refusal::NoSuchStream`] (C2). A refused call changes nothing.
     pub fn refuse(&mut self, id: u32, code: u32) -> Result<(), Refusal>
         ensures { ConnShows self.old (Refuse id code) (answer_by (λ done. Done) result) self.new }
     {
@@ -158,12 +167,13 @@ impl Conn {
         Ok(())
     }
 
-    /// Sends PING (section 6.7).
+    /// Sends PING with these octets (section 6.7); [`Event::Pong`] reports the answer.
     ///
     /// # Errors
     ///
-    /// [`Refusal::Closed`] (C1), [`Refusal::OutputFull`] (C7), [`Refusal::PingWaits`] (C8) and
-    /// [`Refusal::Memory`] (C12), in this order. Nothing has changed.
+    /// The first that holds of [`Refusal::Closed`] (C1), [`Refusal::OutputFull`] (C7),
+    /// [`Refusal::PingWaits`] (C8) and [`Refusal::Memory`] (C12). A refused call changes
+    /// nothing.
     pub fn ping(&mut self, octets: [u8; 8]) -> Result<(), Refusal>
         ensures { ConnAnswers self.old (SendPing octets) (answer_by (λ done. Done) result)
             self.new }
@@ -171,13 +181,14 @@ impl Conn {
         self.inner.end.ping(octets)
     }
 
-    /// Sends GOAWAY (section 6.8) with NO_ERROR and the greatest stream that this end has
-    /// processed: it takes no further ones.
+    /// Sends GOAWAY (section 6.8) with NO_ERROR and the number of the last stream that this end
+    /// has processed: it processes no later streams.
     ///
     /// # Errors
     ///
-    /// [`Refusal::Closed`] (C1), [`Refusal::GoingAway`] (C6), [`Refusal::OutputFull`] (C7) and
-    /// [`Refusal::Memory`] (C12), in this order. Nothing has changed.
+    /// The first that holds of [`Refusal::Closed`] (C1), [`Refusal::GoingAway`] (C6, if this
+    /// end has already sent GOAWAY), [`Refusal::OutputFull`] (C7) and [`Refusal::Memory`]
+    /// (C12). A refused call changes nothing.
     pub fn go_away(&mut self) -> Result<(), Refusal>
         ensures { ConnAnswers self.old SendGoAway (answer_by (λ done. Done) result) self.new }
     {
@@ -185,14 +196,16 @@ impl Conn {
     }
 
     // contract: calls (own) The layer above ends the connection with a code of its own
-    /// Ends the connection with a code of the caller's (section 5.4.1): GOAWAY with it, and with
-    /// the greatest stream that this end has processed, follows what waits, and nothing after it.
-    /// From then on [`Conn::failed`] and [`Conn::take`] return the code, and every call but output
-    /// is refused with C1. It takes no memory.
+    /// Ends the connection with an error code of the caller's choice (section 5.4.1). GOAWAY
+    /// with that code, and with the number of the last stream that this end has processed,
+    /// becomes the last frame of the queued output. From then on [`Conn::failed`] returns the
+    /// code, [`Conn::take`] fails with it, and every call but those for output is refused with
+    /// C1. It takes no memory.
     ///
     /// # Errors
     ///
-    /// [`Refusal::Closed`] (C1): the connection has failed before. Nothing has changed.
+    /// [`Refusal::Closed`] (C1) if the connection has failed before. A refused call changes
+    /// nothing.
     pub fn fail(&mut self, code: Code) -> Result<(), Refusal>
         ensures { ConnAnswers self.old (Fail code) (answer_by (λ done. Done) result) self.new }
     {
@@ -203,17 +216,17 @@ impl Conn {
 
     // contract: 6.5.3 (own) Own SETTINGS are changed once those before are acknowledged
     // rule: 6.5.3 (own) Own SETTINGS are changed once those before are acknowledged
-    /// Changes this end's settings (section 6.5): SETTINGS with the header table's limit, the
-    /// initial window, at a server the number of streams, and the greatest frame where it differs
-    /// from the one that was sent last, joins the output. The values hold from the peer's
-    /// acknowledgment on, which [`Event::Acked`] reports; a greater frame may be read at once,
-    /// since the peer may have applied it.
+    /// Changes this end's settings (section 6.5). The SETTINGS that it sends has the header
+    /// table's limit, the initial window, at a server the number of streams, and the maximum
+    /// frame size if that differs from the last one sent. The values come into force with the
+    /// peer's acknowledgment, which [`Event::Acked`] reports; a greater maximum frame size is
+    /// accepted at once, since the peer may have applied it before its acknowledgment arrives.
     ///
     /// # Errors
     ///
-    /// [`Refusal::Closed`] (C1), [`Refusal::OutputFull`] (C7), [`Refusal::SettingsWait`] (C13)
-    /// where own SETTINGS, the first included, await their acknowledgment, and
-    /// [`Refusal::Memory`] (C12), in this order. Nothing has changed.
+    /// The first that holds of [`Refusal::Closed`] (C1), [`Refusal::OutputFull`] (C7),
+    /// [`Refusal::SettingsWait`] (C13: the last SETTINGS of this end, be it the first one, are
+    /// not acknowledged yet) and [`Refusal::Memory`] (C12). A refused call changes nothing.
     pub fn change_settings(&mut self, config: Config) -> Result<(), Refusal>
         ensures { ConnAnswers self.old (ChangeSettings (values_of config))
             (answer_by (λ done. Done) result) self.new }
@@ -224,7 +237,7 @@ impl Conn {
     }
 }
 
-/// The items of a slice are octets: a proof learns this from the call, which does nothing.
+/// Does nothing; its contract tells a proof that the items of a slice are octets.
 fn are_octets(octets: &[u8])
     ensures { AllByRecursion IsOctet octets.now }
 {

@@ -33,8 +33,9 @@ use hpack::FieldList;
 use std::alloc::Global;
 use std::fmt;
 
-/// One end of a connection: it takes octets and calls, and returns events and octets. It does no
-/// input or output. `{:?}` shows which end it is, the code of its failure, and how much waits.
+/// One end of a connection: it takes octets and calls, returns events and octets, and does no
+/// input or output. `{:?}` shows its role, with which code and why it has failed, and how many
+/// octets of output wait and of input are held.
 #[derive(Drop)]
 pub struct Conn {
     pub(crate) inner: Inner,
@@ -42,7 +43,7 @@ pub struct Conn {
 
 impl Conn {
     // contract: 3.4 A server sends frames at once, without a preface
-    /// A client, whose opening is queued: the preface and SETTINGS (RFC 9113, section 3.4).
+    /// Makes a client whose queued output is the preface and SETTINGS (RFC 9113, section 3.4).
     ///
     /// # Errors
     ///
@@ -58,7 +59,7 @@ impl Conn {
     }
 
     // contract: 3.4 A server sends frames at once, without a preface
-    /// A server, whose opening is queued: SETTINGS (section 3.4).
+    /// Makes a server whose queued output is SETTINGS (section 3.4).
     ///
     /// # Errors
     ///
@@ -76,15 +77,16 @@ impl Conn {
     // contract: 5.4 (own) A frame whole in its piece that needs no memory is never refused any
     // contract: calls (own) take uses octets up to one frame's end, and answers one event at most
     // rule: calls (own) take uses octets up to one frame's end, and answers one event at most
-    /// [`Conn::take`] without lending: what is reported is returned without its fields and octets,
-    /// which [`Conn::list`] and [`Conn::octets`] lend until the next call of `advance`, `take` or
-    /// a method that changes the connection. So a layer above can read them and then call again.
+    /// Does what [`Conn::take`] does, but lends nothing: the event comes without its fields and
+    /// octets, which [`Conn::list`] and [`Conn::octets`] lend until the next call of `advance`,
+    /// `take` or a method that changes the connection. So a layer above can read them, and then
+    /// call again.
     ///
     /// # Errors
     ///
-    /// [`ConnFault`] where the connection fails, and at every call from then on. With
-    /// INTERNAL_ERROR (2) it is no fault of the peer's: memory was refused to keep a frame that is
-    /// cut in two, for a frame that takes some, or for credit that is returned.
+    /// [`ConnFault`] where the connection fails, and at every call from then on. INTERNAL_ERROR
+    /// (2) is not the peer's fault: unless the caller gave that code, an allocation was
+    /// refused, to keep a frame that is cut in two, to process a frame, or to return credit.
     pub fn advance(&mut self, piece: &[u8]) -> Result<Progress, ConnFault>
         ensures used { IfOk result (λ progress. progress.used ≤ length piece.now) }
         ensures lies { LiesThere self.new.inner.cutter piece.now (code_result result) }
@@ -92,7 +94,7 @@ impl Conn {
             → IsBodyOf self.new.inner.cutter piece.now octets (code_result result)
             → ConnAdvances self.old piece.now octets result self.new }
 
-        // A frame that lies whole in the piece and needs no memory is not refused any.
+        // A frame that lies whole in the piece and needs no memory never fails for lack of it.
         ensures promised { (values : Values) (log : Log) → ConnRepresents values self.old log
             → NeedsNoMemory log piece.now → IfErr result (λ fault. fault.code ≢ InternalError) }
     {
@@ -120,7 +122,7 @@ impl Conn {
     }
 
     // contract: calls (own) An event has the octets, the fields and the numbers of its frame
-    /// The fields of the block that was reported last. It takes no memory.
+    /// Lends the fields of the field block that was reported last. It takes no memory.
     pub fn list(&self) -> &FieldList
         ensures { result.now ≡ self.now.inner.end.list }
     {
@@ -128,10 +130,10 @@ impl Conn {
     }
 
     // rule: calls (own) An event has the octets, the fields and the numbers of its frame
-    /// The octets of the body that [`Conn::advance`] has reported of this piece. `None` where the
-    /// piece, or what the connection keeps, is too short to have them. That it is the same piece
-    /// isn't checked: of another one, or after a later call of `advance` or `take`, these are
-    /// whatever octets lie at that place. It takes no memory.
+    /// Lends the octets of the body that [`Conn::advance`] has reported for this piece. `None`
+    /// if the piece, or what the connection keeps, is too short to hold them. It isn't checked
+    /// that the piece is the one given to `advance`, and that neither `advance` nor `take` was
+    /// called since: otherwise these are whatever octets lie at that place. It takes no memory.
     pub fn octets<'a>(&'a self, piece: &'a [u8], body: Complete) -> Option<&'a [u8]>
         ensures { MatchOption result (body_at self.now.inner.cutter piece.now body ≡ None)
             (λ octets. body_at self.now.inner.cutter piece.now body ≡ Some octets.now) }
@@ -145,25 +147,25 @@ impl Conn {
     // contract: 4.2 The limit of an end is its greatest MAX_FRAME_SIZE of those in force
     // contract: calls (own) take uses octets up to one frame's end, and answers one event at most
     // rule: calls (own) take uses octets up to one frame's end, and answers one event at most
-    /// Takes octets of the piece, up to the end of one frame or else all of them, and returns what
-    /// is reported: at most one event. Call it again until the piece is used and nothing is
-    /// reported: streams that the peer does not process are reported one a call, with no octets
-    /// used.
+    /// Takes octets of the piece, up to the end of one frame or else all of them, and returns
+    /// at most one event. Call it again with the octets that are left until all are used and no
+    /// event is returned: each stream that the peer does not process, after its GOAWAY, is
+    /// reported by a call that uses no octets.
     ///
     /// # Errors
     ///
-    /// [`ConnFault`] where the connection fails, and at every call from then on. With
-    /// INTERNAL_ERROR (2) it is no fault of the peer's: memory was refused to keep a frame that is
-    /// cut in two, for a frame that takes some, or for credit that is returned.
+    /// [`ConnFault`] where the connection fails, and at every call from then on. INTERNAL_ERROR
+    /// (2) is not the peer's fault: unless the caller gave that code, an allocation was
+    /// refused, to keep a frame that is cut in two, to process a frame, or to return credit.
     pub fn take<'a>(&'a mut self, piece: &'a [u8]) -> Result<Taken<'a>, ConnFault>
         ensures used { IfOk result (λ taken. taken.used ≤ length piece.now) }
 
-        // After the borrow ends: whatever log it represented, it represents the log with this call,
-        // which may have this answer.
+        // After the borrow ends: for each log that the connection represented, it represents
+        // that log with this call and this answer appended.
         ensures* after { sem 𝓛 (Rests the_row self.entry
             (λ new. ConnTakes self.old piece.now result new)) }
 
-        // A frame that lies whole in the piece and needs no memory is not refused any.
+        // A frame that lies whole in the piece and needs no memory never fails for lack of it.
         ensures promised { (values : Values) (log : Log) → ConnRepresents values self.old log
             → NeedsNoMemory log piece.now → IfErr result (λ fault. fault.code ≢ InternalError) }
     {
@@ -181,7 +183,8 @@ impl Conn {
     }
 
     // rule: calls (own) An event has the octets, the fields and the numbers of its frame
-    /// An event that [`Conn::advance`] has reported of this piece, with what is lent.
+    /// The event that [`Conn::advance`] has reported for this piece, with its fields and octets
+    /// lent.
     fn lent<'a>(
         &'a self,
         piece: &'a [u8],

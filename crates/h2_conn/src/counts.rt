@@ -1,4 +1,4 @@
-//! What a connection keeps of the frames that come.
+//! Counts of the frames received.
 
 ghost use Rattle.std.specs.Prelude.{◌≡◌, List, [], ◌∷◌, ◌++◌, None};
 ghost use Rattle.h2_frame.specs.Frames.{Frame, frame_of};
@@ -9,25 +9,24 @@ ghost use Rattle.h2_conn.specs.Counts.{CountsFrames, flow_after};
 
 use h2_frame::FrameRef;
 
-/// How many frames have come that cost the peer little (RFC 9113, section 10.5), each the greatest
-/// number of 32 bits where it is more than that; and how many octets the payload of the last DATA
-/// had.
+/// The numbers of frames received that cost the peer little (RFC 9113, section 10.5), each up
+/// to 2<sup>32</sup> - 1, and the length of the last DATA frame's payload.
 #[derive(Clone, Copy)]
 pub(crate) struct Counts {
-    /// RST_STREAM.
+    /// RST_STREAM frames.
     pub(crate) resets: u32,
-    /// Frames that say nothing.
+    /// Empty frames, by `says_nothing`.
     pub(crate) empty: u32,
-    /// PING that is to be answered.
+    /// PING frames without ACK.
     pub(crate) pings: u32,
-    /// SETTINGS that are to be acknowledged.
+    /// SETTINGS frames without ACK.
     pub(crate) settings: u32,
-    /// The octets of the payload of the last DATA, 0 before any.
+    /// The octets of the last DATA frame's payload, 0 before any.
     pub(crate) flow: u32,
 }
 
 impl Counts {
-    /// No frame has come.
+    /// The counts before any frame.
     pub(crate) fn new() -> Counts
         ensures { CountsFrames result [] }
     {
@@ -41,7 +40,7 @@ impl Counts {
     }
 
     // rule: 10.5 (own) Frames that cost a peer little are counted
-    /// The counts once this frame has come, too.
+    /// The counts with this further frame.
     pub(crate) fn with(self, frame: FrameRef) -> Counts
         requires good { refusal (frame_of frame) ≡ None }
         ensures { (frames : List Frame) → CountsFrames self frames
@@ -60,7 +59,7 @@ impl Counts {
 }
 
 // rule: 6.1 The complete payload of DATA, padding included, counts for windows
-/// How many octets the payload of the last DATA had, after this frame.
+/// The octets of the last DATA frame's payload, after this frame.
 fn flow_after(before: u32, frame: FrameRef) -> u32
     requires good { refusal (frame_of frame) ≡ None }
     ensures { result ≡ flow_after before (frame_of frame.entry) }
@@ -78,29 +77,29 @@ fn flow_after(before: u32, frame: FrameRef) -> u32
     }
 }
 
-/// Whether it is RST_STREAM.
+/// Whether a frame is RST_STREAM.
 fn is_reset(frame: FrameRef) -> bool
     ensures { result ≡ is_reset_frame (frame_of frame.entry) }
 {
     matches!(frame, FrameRef::Reset { .. })
 }
 
-/// Whether it is PING that is to be answered.
+/// Whether a frame is PING without ACK.
 fn is_asking_ping(frame: FrameRef) -> bool
     ensures { result ≡ is_asking_ping (frame_of frame.entry) }
 {
     matches!(frame, FrameRef::Ping { ack: false, .. })
 }
 
-/// Whether it is SETTINGS that are to be acknowledged.
+/// Whether a frame is SETTINGS without ACK.
 fn is_asking_settings(frame: FrameRef) -> bool
     ensures { result ≡ is_asking_settings (frame_of frame.entry) }
 {
     matches!(frame, FrameRef::Settings { ack: false, .. })
 }
 
-/// Whether it says nothing: DATA that doesn't end its stream, or a part of a field block that
-/// doesn't end the block, without octets.
+/// Whether a frame is empty: DATA without data and without END_STREAM, or HEADERS or
+/// CONTINUATION with an empty fragment and without END_HEADERS.
 fn says_nothing(frame: FrameRef) -> bool
     ensures { result ≡ is_empty_frame (frame_of frame.entry) }
 {

@@ -10,25 +10,26 @@ use crate::why::Why;
 use h2_core::Endpoint;
 use h2_wire::Cutter;
 
-/// The cutter of an end's octets, the end, what is counted, and why the connection has failed.
+/// The state of a connection: its cutter, its end, its counts, and why it has failed.
 #[derive(Drop)]
 pub(crate) struct Inner {
-    /// What is unparsed.
+    /// Cuts the input into frames, and keeps what is unparsed.
     pub(crate) cutter: Cutter,
-    /// The end.
+    /// The end, which takes frames and calls.
     pub(crate) end: Endpoint,
-    /// What is counted of the frames that came.
+    /// The counts of the frames received.
     pub(crate) counts: Counts,
-    /// Why the connection has failed, once it has.
+    /// Why the connection has failed, if it has.
     pub(crate) why: Option<Why>,
-    // As long as the connection has not failed, its values are sound and the cutter has not failed.
+    // While the connection has not failed, its values are sound and the cutter has not failed.
     ghost sound: { end.failed ≡ None → IsSoundEnd (end_of end) },
     ghost cuts: { end.failed ≡ None → cutter.fault ≡ None },
 }
 
 impl Inner {
     // rule: 4.2 The limit of an end is its greatest MAX_FRAME_SIZE of those in force
-    /// Heads that come are checked with the limit of payloads that is in force. It takes no memory.
+    /// Sets the cutter's limit for the payloads of later heads to the end's limit. It takes no
+    /// memory.
     pub(crate) fn limit_payloads(&mut self)
         ensures cutter { CutterLimited self.old.cutter
             (payload_limit_of (end_of self.old.end).own) self.new.cutter }

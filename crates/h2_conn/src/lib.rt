@@ -1,8 +1,9 @@
-//! One end of an HTTP/2 connection over cleartext, without input and output: octets and calls go
-//! in, events and octets come out (RFC 9113, sections 3 to 8).
+//! One end of an HTTP/2 connection over cleartext that does no input or output: octets and
+//! calls go in, events and octets come out (RFC 9113, sections 3 to 8).
 //!
-//! Each call says what it does after any history: for every log of an end that a connection
-//! represents, which answer it gives, and that it represents the log with the call afterwards.
+//! The contract of each call holds after any history. For every log (the acts of an end so far)
+//! that a connection represents, it says which answer the call gives, and that the connection
+//! then represents the log with this call appended.
 #![tactic(auto)]
 
 mod calls;

@@ -14,8 +14,9 @@ pub struct Taken<'a> {
     /// The number of octets of the piece that were used: up to the end of one frame, or else all
     /// of them.
     pub used: usize,
-    /// What is reported. Its fields are lent from the connection until the next call; the octets of
-    /// a body are lent from the piece, or from the connection where their frame was cut in two.
+    /// The event, if there is one. Its fields are lent from the connection until the next call;
+    /// the octets of a body are lent from the piece, or from the connection where their frame
+    /// was cut in two.
     pub event: Option<Event<&'a FieldList, &'a [u8]>>,
 }
 
@@ -25,14 +26,15 @@ pub struct Progress {
     /// The number of octets of the piece that were used: up to the end of one frame, or else all
     /// of them.
     pub used: usize,
-    /// What is reported: the connection keeps the fields of a block, and says where the octets of a
-    /// body lie.
+    /// The event, if there is one. It has no fields, which [`Conn::list`](crate::Conn::list)
+    /// lends, and says where the octets of a body lie, which
+    /// [`Conn::octets`](crate::Conn::octets) lends.
     pub happened: Option<Event<(), Complete>>,
 }
 
-/// The connection has failed with this code; GOAWAY with it is the last frame of the output
-/// (RFC 9113, section 5.4.1). INTERNAL_ERROR means out of memory, unless the caller gave it
-/// ([`Conn::fail`](crate::Conn::fail)).
+/// The code with which the connection has failed; GOAWAY with it is the last frame of the
+/// output (RFC 9113, section 5.4.1). INTERNAL_ERROR means out of memory, unless the caller gave
+/// it ([`Conn::fail`](crate::Conn::fail)).
 #[derive(Clone, Copy, Debug, PartialEq, Eq, Hash, Error)]
 #[error("the connection has failed: {code}")]
 pub struct ConnFault {

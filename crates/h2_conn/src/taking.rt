@@ -1,6 +1,5 @@
-//! Taking octets, before anything is lent: the prover takes no body that lends from the cutter
-//! while the end is changed, so what has happened says where a body lies, and it is lent from
-//! there.
+//! Takes octets without lending. The prover accepts no body that lends from the cutter while
+//! the end is changed; so the result says where a body lies, and it is lent from there later.
 
 ghost use Rattle.std.specs.Prelude.{◌≡◌, ℕ, ◌≤◌, List, None, IfOk, length};
 ghost use Rattle.h2_spec_machine.specs.Machine.{unprocessed_of_end};
@@ -19,8 +18,8 @@ use h2_wire::Cutter;
 // rule: calls (own) A fault of the octets fails the connection with its code
 // rule: calls (own) take uses octets up to one frame's end, and answers one event at most
 // rule: 5.4 (own) A frame whole in its piece that needs no memory is never refused any
-/// Cuts the piece, and takes and counts the frame that it completes, which may change the limit of
-/// payloads. It keeps why the connection fails, where it does.
+/// Cuts the piece, and takes and counts the frame that it completes, which may change the limit
+/// of payloads. If the connection fails, `why` gets the reason.
 pub(crate) fn take_piece(
     cutter: &mut Cutter,
     end: &mut Endpoint,
@@ -63,7 +62,7 @@ pub(crate) fn take_piece(
     let event = match end.take_frame(frame) {
         Ok(event) => event,
         Err(code) => {
-            // A frame for which memory was refused was not taken.
+            // A frame that failed for lack of memory was not taken.
             if code == Code::InternalError {
                 *why = Some(Why::OutOfMemory);
             } else {

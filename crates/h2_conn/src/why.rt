@@ -11,40 +11,43 @@ use h2_frame::{Code, HeadFault};
 use h2_wire::WireFault;
 use thiserror::Error;
 
-/// Why a connection has failed (RFC 9113, section 5.4.1): the rule that the peer has broken, the
-/// limit that was reached, or what else has ended it.
+/// Why a connection has failed (RFC 9113, section 5.4.1): the rule that the peer has broken,
+/// the limit that was reached, or what else has ended it. "Own" marks a choice of this library
+/// where the RFC leaves one.
 #[derive(Clone, Copy, Debug, PartialEq, Eq, Hash, Error)]
 pub enum Why {
-    /// An octet isn't that of the preface (section 3.4): PROTOCOL_ERROR.
+    /// The input differs from the preface (section 3.4): PROTOCOL_ERROR.
     #[error("the connection preface is wrong (PROTOCOL_ERROR)")]
     BadPreface,
-    /// The payload of a frame is longer than the limit (section 4.2; that it is an error of the
-    /// connection is own): FRAME_SIZE_ERROR.
+    /// A frame's payload is longer than this end's limit (section 4.2; own: always a connection
+    /// error): FRAME_SIZE_ERROR.
     #[error("a frame is longer than the limit (FRAME_SIZE_ERROR)")]
     FrameTooLong,
-    /// PUSH_PROMISE came, which no end here allows (section 6.6): PROTOCOL_ERROR.
+    /// PUSH_PROMISE was received, and this library never enables push (section 6.6):
+    /// PROTOCOL_ERROR.
     #[error("PUSH_PROMISE, though push is disabled (PROTOCOL_ERROR)")]
     PushPromise,
-    /// A frame is on stream 0 that belongs to another one, or on another one and belongs to the
-    /// connection (sections 6.1 to 6.10): PROTOCOL_ERROR.
+    /// A frame whose type belongs to a stream came on stream 0, or one whose type belongs to
+    /// the connection on another stream (sections 6.1 to 6.10): PROTOCOL_ERROR.
     #[error("a frame on a stream that its type does not allow (PROTOCOL_ERROR)")]
     WrongStream,
-    /// A frame has a length that its type and flags cannot have (sections 6.1 to 6.10; own of
-    /// PRIORITY, of which section 6.3 has an error of the stream): FRAME_SIZE_ERROR.
+    /// The length of a frame is not one that its type and flags allow (sections 6.1 to 6.10;
+    /// own: PRIORITY too, where section 6.3 has a stream error): FRAME_SIZE_ERROR.
     #[error("a frame of a length that its type and flags do not allow (FRAME_SIZE_ERROR)")]
     WrongLength,
-    /// The padding of DATA is as long as its payload, or longer (section 6.1), or that of HEADERS
-    /// is above what the pad length and the priority leave (section 6.2): PROTOCOL_ERROR.
+    /// The padding of DATA is as long as its payload, or longer (section 6.1), or that of
+    /// HEADERS is longer than what follows the pad length and the priority (section 6.2):
+    /// PROTOCOL_ERROR.
     #[error("padding longer than the payload leaves room for (PROTOCOL_ERROR)")]
     PaddingTooLong,
-    /// The first frame isn't SETTINGS, or is SETTINGS with ACK (section 3.4): PROTOCOL_ERROR.
+    /// The first frame is not SETTINGS, or is SETTINGS with ACK (section 3.4): PROTOCOL_ERROR.
     #[error("the first frame is not SETTINGS (PROTOCOL_ERROR)")]
     FirstFrameNotSettings,
-    /// Inside a field block comes another frame than a CONTINUATION of its stream (section 6.10):
-    /// PROTOCOL_ERROR.
+    /// A frame other than a CONTINUATION of the same stream came inside a field block (section
+    /// 6.10): PROTOCOL_ERROR.
     #[error("another frame interrupts a field block (PROTOCOL_ERROR)")]
     BlockInterrupted,
-    /// A CONTINUATION comes outside a field block (section 6.10): PROTOCOL_ERROR.
+    /// CONTINUATION came outside a field block (section 6.10): PROTOCOL_ERROR.
     #[error("CONTINUATION outside a field block (PROTOCOL_ERROR)")]
     StrayContinuation,
     /// A field block has more than 65,552 octets (own; section 10.5): ENHANCE_YOUR_CALM.
@@ -53,27 +56,30 @@ pub enum Why {
     /// A field block does not decode (section 4.3): COMPRESSION_ERROR.
     #[error("a field block cannot be decoded (COMPRESSION_ERROR)")]
     BlockNotDecoded,
-    /// DATA, RST_STREAM or WINDOW_UPDATE comes on an idle stream (section 5.1): PROTOCOL_ERROR.
+    /// DATA, RST_STREAM or WINDOW_UPDATE came on an idle stream, where only HEADERS and
+    /// PRIORITY may come (section 5.1): PROTOCOL_ERROR. Frames of unknown types are ignored
+    /// there.
     #[error("a frame other than HEADERS or PRIORITY on an idle stream (PROTOCOL_ERROR)")]
     FrameOnIdleStream,
-    /// DATA comes on a closed stream (section 5.1; its scope is own): STREAM_CLOSED.
+    /// DATA came on a closed stream (section 5.1; own: a connection error): STREAM_CLOSED.
     #[error("DATA on a closed stream (STREAM_CLOSED)")]
     DataOnClosedStream,
-    /// A field block comes on a closed stream (section 5.1; own), or on a number that was passed
-    /// over (section 5.1.1): PROTOCOL_ERROR.
+    /// A field block came on a closed stream (section 5.1; own), or on a number that the peer
+    /// has skipped (section 5.1.1): PROTOCOL_ERROR.
     #[error("HEADERS on a closed stream (PROTOCOL_ERROR)")]
     BlockOnClosedStream,
-    /// A field block comes on an idle number that the peer may not open (sections 5.1 and 5.1.1):
-    /// PROTOCOL_ERROR.
+    /// A field block came on an idle stream that the peer may not open: any at a client, an
+    /// even number at a server (sections 5.1 and 5.1.1): PROTOCOL_ERROR.
     #[error("HEADERS on an idle stream that the peer may not open (PROTOCOL_ERROR)")]
     BlockOnIdleNumber,
-    /// DATA is above the connection's window (section 6.9.1): FLOW_CONTROL_ERROR.
+    /// DATA has more octets than the connection's window (section 6.9.1): FLOW_CONTROL_ERROR.
     #[error("DATA exceeds the connection's window (FLOW_CONTROL_ERROR)")]
     DataAboveConnectionWindow,
-    /// DATA is above its stream's window (section 6.9.1; its scope is own): FLOW_CONTROL_ERROR.
+    /// DATA has more octets than its stream's window (section 6.9.1; own: a connection error):
+    /// FLOW_CONTROL_ERROR.
     #[error("DATA exceeds the stream's window (FLOW_CONTROL_ERROR)")]
     DataAboveStreamWindow,
-    /// WINDOW_UPDATE adds 0 octets to the connection's window (section 6.9): PROTOCOL_ERROR.
+    /// WINDOW_UPDATE on the connection has an increment of 0 (section 6.9): PROTOCOL_ERROR.
     #[error("WINDOW_UPDATE of 0 on the connection (PROTOCOL_ERROR)")]
     ZeroConnectionIncrement,
     /// WINDOW_UPDATE brings the connection's window above 2<sup>31</sup> - 1 (section 6.9.1):
@@ -93,24 +99,26 @@ pub enum Why {
     /// FLOW_CONTROL_ERROR.
     #[error("INITIAL_WINDOW_SIZE brings a stream's window above 2^31-1 (FLOW_CONTROL_ERROR)")]
     ShiftTooLarge,
-    /// This end would reset a stream, the 1,001st (own; section 10.5): ENHANCE_YOUR_CALM.
+    /// This end would have reset its 1,001st stream (own; section 10.5): ENHANCE_YOUR_CALM.
     #[error("1,001 streams would have been reset (ENHANCE_YOUR_CALM)")]
     TooManyResets,
     /// A reply, or the reset of a stream, would bring the queued output above 262,144 octets (own;
     /// section 10.5): ENHANCE_YOUR_CALM.
     #[error("replies exceed 262,144 octets of waiting output (ENHANCE_YOUR_CALM)")]
     TooMuchOutput,
-    /// Memory was refused, here or in the layer above, which then refuses a stream with
-    /// INTERNAL_ERROR (own; section 5.4): INTERNAL_ERROR.
+    /// An allocation was refused, here or in the layer above, which then calls
+    /// [`Conn::refuse`](crate::Conn::refuse) with INTERNAL_ERROR (own; section 5.4):
+    /// INTERNAL_ERROR.
     #[error("out of memory (INTERNAL_ERROR)")]
     OutOfMemory,
-    /// The layer above has ended the connection with this code.
+    /// The layer above has ended the connection with this code
+    /// ([`Conn::fail`](crate::Conn::fail)).
     #[error("the layer above ended the connection: {0}")]
     EndedAbove(Code),
 }
 
 impl Why {
-    /// The code with which the connection has failed.
+    /// Returns the code with which the connection has failed.
     pub fn code(self) -> Code
         ensures { result ≡ code_of_why self }
     {
@@ -142,7 +150,7 @@ impl Why {
         }
     }
 
-    /// Why the octets fail the connection.
+    /// The reason for a fault of the cutter.
     pub(crate) fn of_octets(fault: WireFault) -> Why
         ensures { result ≡ rule_of_octets fault }
     {
@@ -154,7 +162,7 @@ impl Why {
         }
     }
 
-    /// The rule that the head of a frame breaks.
+    /// The rule that a frame's head breaks.
     fn of_head(fault: HeadFault) -> Why
         ensures { result ≡ rule_of_head fault }
     {
@@ -166,7 +174,8 @@ impl Why {
         }
     }
 
-    /// Why the connection has failed with this code, as the layer above refused a stream.
+    /// The reason where the layer above refused a stream, and the connection failed with this
+    /// code.
     pub(crate) fn of_refusal(failed: Code, end: &Endpoint) -> Why
         ensures { result ≡ rule_of_refusal (end_of end.now).streams.resets failed }
     {

@@ -1,5 +1,5 @@
-//! Why a frame fails a connection: what is seen of the end before the frame, and, once the frame
-//! has failed it, the rule that the frame breaks.
+//! Why a frame fails a connection: the rule that it breaks, by the state of the end before the
+//! frame and the code with which it failed.
 
 ghost use Rattle.std.specs.Prelude.{◌≡◌, ℕ, Bool, pos, length};
 ghost use Rattle.h2_frame.specs.Frames.{Data as DataFrame, frame_of};
@@ -21,19 +21,19 @@ use h2_flow::Settings;
 use h2_frame::limits::MAX_BLOCK;
 use h2_frame::{Code, FrameRef, Pairs};
 
-/// What is seen of an end before a frame.
+/// The state of an end before a frame, as far as it decides which rule the frame breaks.
 #[derive(Clone, Copy)]
 pub(crate) struct Before {
-    /// Whether the first frame has come.
+    /// Whether the first frame was received.
     started: bool,
     /// The stream of the field block that has begun.
     stream: Option<u32>,
-    /// How many octets of it have come.
+    /// The number of octets of that block received so far.
     octets: usize,
 }
 
 impl Before {
-    /// What is seen of the end now.
+    /// The state of the end now.
     pub(crate) fn of(end: &Endpoint) -> Before
         ensures { SeesBefore (end_view (end_of end.now)) result }
     {
@@ -45,7 +45,7 @@ impl Before {
     }
 
     // rule: 5.4.1 (own) A connection that has failed says why
-    /// The rule that a frame breaks which has failed the end with this code.
+    /// The rule broken by a frame that has failed the end with this code.
     #[inline(never)]
     #[tactic(auto, unfolding(crate::proofs::Rules::frame_rules))]
     pub(crate) fn rule_of_frame(self, frame: FrameRef, code: Code, end: &Endpoint) -> Why
@@ -68,7 +68,7 @@ impl Before {
         }
     }
 
-    /// The fault of a frame among those of a field block (RFC 9113, section 6.10).
+    /// The rule of field blocks (RFC 9113, section 6.10) that a frame breaks, if any.
     #[tactic(auto, unfolding(crate::proofs::Rules::place_rules))]
     fn fault_of(self, frame: FrameRef) -> Option<BlockFault>
         ensures { (view : View) → SeesBefore view self
@@ -100,7 +100,7 @@ impl Before {
     }
 }
 
-/// The rule by the code, of a frame that is in its place.
+/// The rule broken by a frame that keeps those of field blocks, by the code.
 fn rule_by_code(frame: FrameRef, code: Code, end: &Endpoint) -> Why
     ensures { (view : View) → SeesAfter view (end_of end.now)
         → result ≡ rule_by_code view (frame_of frame.entry) code }
@@ -117,7 +117,7 @@ fn rule_by_code(frame: FrameRef, code: Code, end: &Endpoint) -> Why
     }
 }
 
-/// The window that a frame passes.
+/// The window that a frame exceeds.
 fn rule_of_windows(frame: FrameRef, end: &Endpoint) -> Why
     ensures { (view : View) → SeesAfter view (end_of end.now)
         → result ≡ rule_of_windows view (frame_of frame.entry) }
@@ -135,7 +135,8 @@ fn rule_of_windows(frame: FrameRef, end: &Endpoint) -> Why
     }
 }
 
-/// How many octets of DATA count for the windows: the pad length and the padding too (section 6.1).
+/// The octets of DATA that count for the windows, pad length and padding included (section
+/// 6.1).
 fn flow_of(octets: &[u8], pad: Option<u8>) -> usize
     ensures { (stream : ℕ) (end : Bool)
         → result ≡ length (payload_of (DataFrame stream end octets.now pad)) }
@@ -146,7 +147,7 @@ fn flow_of(octets: &[u8], pad: Option<u8>) -> usize
     }
 }
 
-/// What PROTOCOL_ERROR says of a frame.
+/// The rule broken by a frame that failed the connection with PROTOCOL_ERROR.
 fn rule_of_streams(frame: FrameRef, end: &Endpoint) -> Why
     ensures { (view : View) → SeesAfter view (end_of end.now)
         → result ≡ rule_of_streams view (frame_of frame.entry) }
@@ -165,8 +166,8 @@ fn rule_of_streams(frame: FrameRef, end: &Endpoint) -> Why
     }
 }
 
-/// The rule that the first pair breaks which breaks one, of values that the other end has sent. It
-/// goes over the active streams once.
+/// The rule broken by the first pair of the peer's SETTINGS that breaks one. It goes over the
+/// active streams once.
 fn first_at_fault(pairs: Pairs<'_>, end: &Endpoint) -> Why
     ensures { (view : View) → SeesAfter view (end_of end.now)
         → result ≡ first_at_fault view (lent_pairs pairs.entry) }
@@ -185,7 +186,7 @@ fn first_at_fault(pairs: Pairs<'_>, end: &Endpoint) -> Why
     Why::ShiftTooLarge
 }
 
-/// The rule that the value of a setting breaks, by its identifier.
+/// The rule that a setting's value breaks, by the setting's identifier.
 fn rule_of_setting(id: u16) -> Why
     ensures { result ≡ rule_of_setting id }
 {

@@ -44,15 +44,15 @@ impl Endpoint {
     // contract: 6.8 No stream is opened after GOAWAY was received
     // contract: 10.5 (own) An own list above 65,536 octets is refused
     // contract: calls (own) A call does what it says, or is refused for its first condition
-    /// Opens a stream with a field section; `end` sets END_STREAM, so that nothing follows on it.
-    /// Returns its number: 1, 3, 5 and so on.
+    /// Opens a stream by sending a field section on it, and returns the stream's number: 1, 3,
+    /// 5 and so on. `end` sets END_STREAM: this end sends nothing more on the stream.
     ///
     /// # Errors
     ///
-    /// [`Refusal::Closed`] (C1), [`Refusal::TooManyStreams`] (C4),
+    /// The first that holds of [`Refusal::Closed`] (C1), [`Refusal::TooManyStreams`] (C4),
     /// [`Refusal::StreamsExhausted`] (C5, at a server always), [`Refusal::GoingAway`] (C6),
-    /// [`Refusal::OutputFull`] (C7), [`Refusal::ListTooLarge`] (C10), and [`Refusal::Memory`] (C12)
-    /// where an allocation was refused, in this order. Nothing has changed.
+    /// [`Refusal::OutputFull`] (C7), [`Refusal::ListTooLarge`] (C10) and [`Refusal::Memory`]
+    /// (C12). A refused call changes nothing.
     pub fn open(&mut self, fields: &[Field], end: bool) -> Result<u32, Refusal>
         requires sound { self.old.failed ≡ None → IsSoundEnd (end_of self.old) }
         ensures ok { IfOk result (λ id. (id ≡ (end_view (end_of self.old)).next_number)
@@ -81,10 +81,10 @@ impl Endpoint {
         Ok(id)
     }
 
-    /// Why a list of fields opens no stream now: the first of [`Refusal::Closed`] (C1),
-    /// [`Refusal::TooManyStreams`] (C4), [`Refusal::StreamsExhausted`] (C5, at a server always),
-    /// [`Refusal::GoingAway`] (C6), [`Refusal::OutputFull`] (C7) and
-    /// [`Refusal::ListTooLarge`] (C10) that holds. It takes no memory.
+    /// Returns why [`Endpoint::open`] would refuse these fields now: the first that holds of
+    /// [`Refusal::Closed`] (C1), [`Refusal::TooManyStreams`] (C4),
+    /// [`Refusal::StreamsExhausted`] (C5, at a server always), [`Refusal::GoingAway`] (C6),
+    /// [`Refusal::OutputFull`] (C7) and [`Refusal::ListTooLarge`] (C10). It takes no memory.
     pub fn refusal_to_open(&self, fields: &[Field]) -> Option<Refusal>
         requires sound { self.now.failed ≡ None → IsSoundEnd (end_of self.now) }
         ensures refusal { (end : Bool)
@@ -98,13 +98,14 @@ impl Endpoint {
     // contract: 10.5 (own) An own list above 65,536 octets is refused
     // rule: 10.5 (own) An own list above 65,536 octets is refused
     // contract: calls (own) A call does what it says, or is refused for its first condition
-    /// Sends a further field section on a stream: a response's, or trailers.
+    /// Sends a field section on an active stream: a response's head, or trailers. `end` sets
+    /// END_STREAM: this end sends nothing more on the stream.
     ///
     /// # Errors
     ///
-    /// [`Refusal::Closed`] (C1), [`Refusal::NoSuchStream`] (C2), [`Refusal::Ended`] (C3),
-    /// [`Refusal::OutputFull`] (C7), [`Refusal::ListTooLarge`] (C10) and [`Refusal::Memory`] (C12),
-    /// in this order. Nothing has changed.
+    /// The first that holds of [`Refusal::Closed`] (C1), [`Refusal::NoSuchStream`] (C2),
+    /// [`Refusal::Ended`] (C3), [`Refusal::OutputFull`] (C7), [`Refusal::ListTooLarge`] (C10)
+    /// and [`Refusal::Memory`] (C12). A refused call changes nothing.
     pub fn send_fields(&mut self, id: u32, fields: &[Field], end: bool) -> Result<(), Refusal>
         requires sound { self.old.failed ≡ None → IsSoundEnd (end_of self.old) }
         ensures ok { OnOk result (CallAccepted (end_of self.old) (SendFields id fields.now end)
@@ -131,15 +132,16 @@ impl Endpoint {
     // rule: 6.9.1 DATA is sent within both windows
     // contract: calls (own) A call does what it says, or is refused for its first condition
     // rule: calls (own) A call that sends nothing takes no memory
-    /// Sends as many octets of a body as both windows let through, at most 65,536, and returns
-    /// their number. Where all were sent and `end` is set, the last DATA has END_STREAM; an empty
-    /// slice with `end` sends one empty DATA.
+    /// Sends as many octets of a body as the windows of the stream and of the connection allow,
+    /// at most 65,536, and returns their number. If all of `octets` were sent and `end` is set,
+    /// the last DATA frame has END_STREAM; an empty slice with `end` sends one empty DATA
+    /// frame.
     ///
     /// # Errors
     ///
-    /// [`Refusal::Closed`] (C1), [`Refusal::NoSuchStream`] (C2), [`Refusal::Ended`] (C3),
-    /// [`Refusal::OutputFull`] (C7) and [`Refusal::Memory`] (C12), in this order. Nothing has
-    /// changed.
+    /// The first that holds of [`Refusal::Closed`] (C1), [`Refusal::NoSuchStream`] (C2),
+    /// [`Refusal::Ended`] (C3), [`Refusal::OutputFull`] (C7) and [`Refusal::Memory`] (C12). A
+    /// refused call changes nothing.
     pub fn send_data(&mut self, id: u32, octets: &[u8], end: bool) -> Result<usize, Refusal>
         requires sound { self.old.failed ≡ None → IsSoundEnd (end_of self.old) }
         ensures closed { IsSome self.old.failed → result ≡ Err Refusal.Closed }
@@ -193,7 +195,8 @@ impl Endpoint {
     }
 
     // rule: 6.9.1 DATA is sent within both windows
-    /// The number of octets, of `count`, that may be sent on a stream now.
+    /// The number of octets, of `count`, that the windows allow on a stream now, at most
+    /// 65,536.
     pub(crate) fn sendable_octets(&self, stream: &Stream, count: usize) -> usize
         requires { is_far stream.now.send_window ≡ false }
         ensures { result ≡ data_count (end_view (end_of self.now)) (Some (stream_view stream.now))
@@ -206,8 +209,8 @@ impl Endpoint {
             .min(MAX_DATA)
     }
 
-    /// Sends octets, as many as both windows let through, on an active stream. There is room for
-    /// their frames, and for a WINDOW_UPDATE.
+    /// Sends octets, as many as both windows allow, on an active stream. There is room for
+    /// their frames and for a WINDOW_UPDATE.
     fn write_data(&mut self, id: u32, mut stream: Stream, octets: &[u8], end: bool)
         requires sound { IsSoundEnd (end_of self.old) }
         requires up { self.old.failed ≡ None }
@@ -236,8 +239,8 @@ impl Endpoint {
         self.update_stream(id, stream);
     }
 
-    /// Adds the DATA frames of octets, for which there is room: each has the most octets that are
-    /// sent but the last, which has END_STREAM where `end` is set.
+    /// Adds the DATA frames of octets, for which there is room: all but the last are full, and
+    /// the last has END_STREAM where `end` is set.
     fn add_data(&mut self, id: u32, octets: &[u8], end: bool)
         requires up { self.old.failed ≡ None }
         requires count { length octets.now ≤ 65536 }
@@ -254,7 +257,7 @@ impl Endpoint {
     }
 
     // rule: 4.3 No other frame is sent between the frames of a field block
-    /// Encodes a field block, of a list of this size, and adds its frames, with room for a
+    /// Encodes the field block of a list of this size, and adds its frames, with room for a
     /// WINDOW_UPDATE after them.
     ///
     /// # Errors
@@ -296,8 +299,8 @@ impl Endpoint {
     }
 
     // rule: 4.2 (own) Payloads of at most 65,536 octets are sent, where the peer reads them
-    /// The greatest payload that is sent now, in octets: what the peer reads, and 65,536 at most
-    /// (section 4.2).
+    /// The greatest payload to send, in octets: what the peer reads, at most 65,536 (section
+    /// 4.2).
     pub(crate) fn most_octets(&self) -> usize
         ensures value { result ≡ (end_view (end_of self.now)).max_payload }
         ensures least { 16384 ≤ result }
@@ -314,7 +317,7 @@ impl Endpoint {
     // rule: 6.8 No stream is opened after GOAWAY was received
     // rule: 10.5 (own) An own list above 65,536 octets is refused
     // rule: calls (own) A call does what it says, or is refused for its first condition
-    /// Why a stream cannot be opened with a list of this size, refused memory aside.
+    /// Why a stream cannot be opened with a list of this size, apart from a refused allocation.
     fn refusal_of_open(&self, size: usize) -> Option<Refusal>
         requires { self.now.failed ≡ None → self.now.highest < 2 ^ 31 }
         ensures { (fields : List Field) (end : Bool) → IsSizeOf size fields
@@ -337,7 +340,7 @@ impl Endpoint {
         }
     }
 
-    /// C4: a client has as many streams active as it may.
+    /// C4: a client has as many active streams as the peer allows.
     fn has_all_streams(&self) -> bool
         ensures { result ≡ has_all_streams (end_view (end_of self.now)) }
     {
@@ -347,7 +350,7 @@ impl Endpoint {
         }
     }
 
-    /// C5: a server opens no stream, and a client none above the greatest number.
+    /// C5: a server opens no streams, and a client has no number left.
     fn has_no_number(&self) -> bool
         requires { self.now.highest < 2 ^ 31 }
         ensures { result ≡ has_no_number (end_view (end_of self.now)) }
@@ -358,7 +361,7 @@ impl Endpoint {
         }
     }
 
-    /// C6: GOAWAY was sent, or has come.
+    /// C6: GOAWAY was sent or received.
     fn is_going_away(&self) -> bool
         ensures { result ≡ (is_some self.now.goaway_sent || is_some self.now.goaway_received) }
     {
@@ -366,7 +369,7 @@ impl Endpoint {
     }
 
     // rule: 5.1.2 A client has at most as many active streams as the server allows
-    /// The number of streams that a client may have active (RFC 9113, section 5.1.2).
+    /// The number of streams that a client may have active at once (RFC 9113, section 5.1.2).
     pub(crate) fn streams_allowed(&self) -> u32
         ensures { result ≡ (end_of self.now).peer.max_streams }
     {
@@ -380,7 +383,8 @@ impl Endpoint {
     }
 
     // rule: 5.1.1 A client opens odd numbers, each above all before it
-    /// The number for the next stream: 1, 3, 5 and so on (section 5.1.1). It takes no memory.
+    /// Returns the number of the next stream: 1, 3, 5 and so on (section 5.1.1). It takes no
+    /// memory.
     pub fn next_number(&self) -> u32
         requires { self.now.highest < 2 ^ 31 }
         ensures { result ≡ number_after self.now.highest }
@@ -393,15 +397,15 @@ impl Endpoint {
     }
 }
 
-/// Whether a call sends nothing: no octet may be sent, and it isn't an empty slice that ends the
-/// stream.
+/// Whether a call sends nothing: no octet may be sent, and the slice is not an empty one that
+/// ends the stream.
 pub(crate) fn sends_nothing(octets: &[u8], end: bool, count: usize) -> bool
     ensures { result ≡ (count == 0 && not (length octets.now == 0 && end)) }
 {
     count == 0 && !(octets.is_empty() && end)
 }
 
-/// The most octets that a field block's frames have, by the size of its list, with payloads of
+/// The most octets of the frames of a field block, by the size of its list, with payloads of
 /// 16,384 octets, which every peer reads.
 fn frames_room(size: usize) -> usize
     requires { size ≤ max_list }
@@ -412,8 +416,8 @@ fn frames_room(size: usize) -> usize
     octets + HEAD_LEN * (1 + octets / LEAST_MAX_FRAME as usize)
 }
 
-/// Encodes a field block, whose frames have payloads of `most` octets at most, and `room` octets
-/// altogether, and puts these in place of what `frames` has.
+/// Encodes a field block into frames with payloads of at most `most` octets, `room` octets
+/// altogether, which replace what `frames` has.
 ///
 /// # Errors
 ///
@@ -449,8 +453,8 @@ fn encode_frames(
     Ok(())
 }
 
-/// Adds the DATA frames of octets, for which there is room: each filled to `most` octets but the
-/// last, which has END_STREAM where `end` is set.
+/// Adds the DATA frames of octets, for which there is room: all but the last have `most`
+/// octets, and the last has END_STREAM where `end` is set.
 fn add_data_frames(output: &mut Output, most: usize, id: u32, octets: &[u8], end: bool)
     requires up { output.old.ended ≡ false }
     requires most { (16384 ≤ most) × (most ≤ 65536) }

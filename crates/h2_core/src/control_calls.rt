@@ -1,5 +1,5 @@
-//! Calls that steer streams and the connection: credit, resets, PING, GOAWAY and SETTINGS (RFC
-//! 9113, sections 6.4, 6.5, 6.7, 6.8 and 6.9).
+//! Calls that control streams and the connection: credit, resets, PING and GOAWAY (RFC 9113,
+//! sections 6.4, 6.7, 6.8 and 6.9).
 
 ghost use Rattle.std.specs.Prelude.{◌≡◌, nat_le, length, is_some, None, true, false, OnOk};
 ghost use Rattle.std.specs.Prelude.{IfErr, Err, ◌≢◌};
@@ -18,14 +18,15 @@ impl Endpoint {
     // contract: 6.9 Nothing of the window of the connection is lost
     // contract: 6.9 What a stream owes is returned when it is released or over
     // rule: 6.9 What a stream owes is returned when it is released or over
-    /// Returns credit of `count` octets, which were reported and are owed, for a stream and the
-    /// connection.
+    /// Returns `count` octets of flow-control window to the peer: by WINDOW_UPDATE on the
+    /// connection and, unless the peer has sent END_STREAM, on the stream. They must have been
+    /// reported and be owed.
     ///
     /// # Errors
     ///
-    /// [`Refusal::Closed`] (C1), [`Refusal::NoSuchStream`] (C2), [`Refusal::OutputFull`] (C7),
-    /// [`Refusal::NotOwed`] (C11) and [`Refusal::Memory`] (C12), in this order. Nothing has
-    /// changed.
+    /// The first that holds of [`Refusal::Closed`] (C1), [`Refusal::NoSuchStream`] (C2),
+    /// [`Refusal::OutputFull`] (C7), [`Refusal::NotOwed`] (C11) and [`Refusal::Memory`] (C12).
+    /// A refused call changes nothing.
     pub fn release(&mut self, id: u32, count: u32) -> Result<(), Refusal>
         requires sound { self.old.failed ≡ None → IsSoundEnd (end_of self.old) }
         ensures ok { OnOk result (CallAccepted (end_of self.old) (Release id count)
@@ -64,13 +65,13 @@ impl Endpoint {
     // contract: 5.1 Each frame is sent only in states that allow it
     // contract: 6.4 (own) An end resets a stream on request, and counts it
     // rule: 6.4 (own) An end resets a stream on request, and counts it
-    /// Resets a stream with a code (section 6.4).
+    /// Resets an active stream: sends RST_STREAM with `code` (section 6.4).
     ///
     /// # Errors
     ///
-    /// [`Refusal::Closed`] (C1), [`Refusal::NoSuchStream`] (C2), [`Refusal::OutputFull`] (C7),
-    /// [`Refusal::TooManyResets`] (C9) and [`Refusal::Memory`] (C12), in this order. Nothing has
-    /// changed.
+    /// The first that holds of [`Refusal::Closed`] (C1), [`Refusal::NoSuchStream`] (C2),
+    /// [`Refusal::OutputFull`] (C7), [`Refusal::TooManyResets`] (C9) and [`Refusal::Memory`]
+    /// (C12). A refused call changes nothing.
     pub fn reset(&mut self, id: u32, code: u32) -> Result<(), Refusal>
         requires sound { self.old.failed ≡ None → IsSoundEnd (end_of self.old) }
         ensures ok { OnOk result (CallAccepted (end_of self.old) (ResetStream id code)
@@ -95,15 +96,19 @@ impl Endpoint {
     // contract: 10.5 (own) An end that resets 1,001 streams ends with ENHANCE_YOUR_CALM
     // contract: calls (own) A stream that the layer above refuses is reset
     // rule: calls (own) A stream that the layer above refuses is reset
-    /// Resets a stream for a fault of the peer that the layer above found. With INTERNAL_ERROR (2)
-    /// that layer has no memory, and the connection fails with it; it fails with ENHANCE_YOUR_CALM
-    /// where 1,000 streams were reset, or RST_STREAM would bring the queued output above 262,144
-    /// octets, and with INTERNAL_ERROR where an allocation was refused.
+    /// Resets an active stream for a fault of the peer that the layer above has found: sends
+    /// RST_STREAM with `code`. In these cases the call succeeds too, but the connection fails
+    /// instead:
+    ///
+    /// - with INTERNAL_ERROR where `code` is INTERNAL_ERROR (2), which says that the layer
+    ///   above is out of memory, and where an allocation was refused;
+    /// - with ENHANCE_YOUR_CALM where this end has already reset 1,000 streams, or RST_STREAM
+    ///   would bring the queued output above 262,144 octets.
     ///
     /// # Errors
     ///
-    /// [`Refusal::Closed`] (C1) and, unless the code is 2, [`Refusal::NoSuchStream`] (C2). Nothing
-    /// has changed.
+    /// The first that holds of [`Refusal::Closed`] (C1) and, unless `code` is 2,
+    /// [`Refusal::NoSuchStream`] (C2). A refused call changes nothing.
     pub fn refuse(&mut self, id: u32, code: u32) -> Result<(), Refusal>
         requires sound { self.old.failed ≡ None → IsSoundEnd (end_of self.old) }
         ensures { CallRefuses (end_of self.old) id code result (end_of self.new) }
@@ -129,12 +134,13 @@ impl Endpoint {
 
     // contract: 6.7 (own) One own PING at a time awaits its answer
     // rule: 6.7 (own) One own PING at a time awaits its answer
-    /// Sends PING (section 6.7).
+    /// Sends PING with these octets (section 6.7).
     ///
     /// # Errors
     ///
-    /// [`Refusal::Closed`] (C1), [`Refusal::OutputFull`] (C7), [`Refusal::PingWaits`] (C8) and
-    /// [`Refusal::Memory`] (C12), in this order. Nothing has changed.
+    /// The first that holds of [`Refusal::Closed`] (C1), [`Refusal::OutputFull`] (C7),
+    /// [`Refusal::PingWaits`] (C8) and [`Refusal::Memory`] (C12). A refused call changes
+    /// nothing.
     pub fn ping(&mut self, octets: [u8; 8]) -> Result<(), Refusal>
         ensures ok { OnOk result (CallAccepted (end_of self.old) (SendPing octets)
             (end_of self.new)) }
@@ -156,13 +162,14 @@ impl Endpoint {
 
     // contract: 6.8 An own GOAWAY is sent once, with the greatest stream processed
     // rule: 6.8 An own GOAWAY is sent once, with the greatest stream processed
-    /// Sends GOAWAY (section 6.8) with NO_ERROR and the greatest stream that this end has
-    /// processed: it takes no further ones.
+    /// Sends GOAWAY (section 6.8) with NO_ERROR and the number of the last stream that this end
+    /// has processed: it processes no later streams.
     ///
     /// # Errors
     ///
-    /// [`Refusal::Closed`] (C1), [`Refusal::GoingAway`] (C6), [`Refusal::OutputFull`] (C7) and
-    /// [`Refusal::Memory`] (C12), in this order. Nothing has changed.
+    /// The first that holds of [`Refusal::Closed`] (C1), [`Refusal::GoingAway`] (C6, if this
+    /// end has already sent GOAWAY), [`Refusal::OutputFull`] (C7) and [`Refusal::Memory`]
+    /// (C12). A refused call changes nothing.
     pub fn go_away(&mut self) -> Result<(), Refusal>
         requires sound { self.old.failed ≡ None → IsSoundEnd (end_of self.old) }
         ensures ok { OnOk result (CallAccepted (end_of self.old) SendGoAway (end_of self.new)) }
@@ -188,12 +195,13 @@ impl Endpoint {
 
     // rule: calls (own) The layer above ends the connection with a code of its own
     /// Ends the connection with a code of the layer above (section 5.4.1): GOAWAY with it, and
-    /// with the greatest stream that this end has processed, follows the queued output. It takes
-    /// no memory.
+    /// with the number of the last stream that this end has processed, is the last frame of the
+    /// queued output. It takes no memory.
     ///
     /// # Errors
     ///
-    /// [`Refusal::Closed`] (C1). Nothing has changed.
+    /// [`Refusal::Closed`] (C1) if the connection has failed before. A refused call changes
+    /// nothing.
     pub fn fail_on_request(&mut self, code: Code) -> Result<(), Refusal>
         requires sound { self.old.failed ≡ None → IsSoundEnd (end_of self.old) }
         ensures ok { OnOk result (CallAccepted (end_of self.old) (Fail code) (end_of self.new)) }
@@ -207,7 +215,7 @@ impl Endpoint {
     }
 
     // rule: calls (own) A call does what it says, or is refused for its first condition
-    /// C1: the connection has failed.
+    /// Checks for C1: the connection has failed.
     pub(crate) fn check_up(&self) -> Result<(), Refusal>
         ensures ok { OnOk result (self.now.failed ≡ None) }
         ensures err { IfErr result (λ refusal. (refusal ≡ Refusal.Closed)
@@ -220,7 +228,7 @@ impl Endpoint {
     }
 
     // rule: calls (own) A call does what it says, or is refused for its first condition
-    /// C7: too much output is queued.
+    /// Checks for C7: 65,536 octets or more of output are queued.
     pub(crate) fn check_room(&self) -> Result<(), Refusal>
         ensures ok { OnOk result (nat_le full_output (length self.now.output.waiting) ≡ false) }
         ensures err { IfErr result (λ refusal. (refusal ≡ Refusal.OutputFull)

@@ -11,7 +11,7 @@ use h2_frame::limits::FULL_OUTPUT;
 
 impl Endpoint {
     // rule: 6.9 Nothing of the window of the connection is lost
-    /// Returns all that is unreturned, by WINDOW_UPDATE on stream 0, for which there is room.
+    /// Returns all unreturned credit, by WINDOW_UPDATE on stream 0, for which there is room.
     pub(crate) fn return_credit(&mut self)
         requires up { self.old.failed ≡ None }
         requires room { 13 ≤ self.old.output.spare }
@@ -28,9 +28,9 @@ impl Endpoint {
     }
 
     // rule: 6.9 Nothing of the window of the connection is lost
-    /// `more` octets of the connection's window will not be released: unless that is 0, or 65,536
-    /// octets or more are queued, they are returned, with all that is unreturned. There is room
-    /// for a WINDOW_UPDATE then.
+    /// Adds `more` octets of the connection's window, which nobody will release, to the
+    /// unreturned credit. If `more` is not 0 and fewer than 65,536 octets are queued, all of
+    /// that is returned; then there is room for a WINDOW_UPDATE.
     pub(crate) fn add_unreturned(&mut self, more: u32)
         requires up { self.old.failed ≡ None }
         requires room { returns_credit more (length self.old.output.waiting) ≡ true

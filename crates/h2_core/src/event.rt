@@ -1,10 +1,10 @@
-//! What an end reports.
+//! Events that an end reports.
 
 ghost use Rattle.std.specs.Prelude.{◌≡◌};
 ghost use Rattle.h2_core.specs.Events.{with_parts};
 
-/// What an end reports (RFC 9113). `F` holds the fields of a block and `B` the octets of a body: a
-/// loan, a copy, a place, or `()` where the end keeps them.
+/// An event that an end reports (RFC 9113). `F` holds the fields of a block and `B` the octets
+/// of a body: as a loan, a copy or a place, or as `()` where the end keeps them.
 #[derive(Clone, Copy, Debug, PartialEq, Eq)]
 pub enum Event<F, B> {
     /// A field section was received (section 8.1).
@@ -22,7 +22,8 @@ pub enum Event<F, B> {
         id: u32,
         /// The octets, without padding.
         bytes: B,
-        /// What they took of the windows, padding included: it is owed on the stream.
+        /// The octets that it took of the windows, padding included; they are now owed on the
+        /// stream.
         flow: u32,
         /// Whether END_STREAM is set: nothing follows on the stream.
         end: bool,
@@ -38,12 +39,12 @@ pub enum Event<F, B> {
     },
     /// The peer takes no streams above this one (section 6.8).
     GoAway {
-        /// The least last stream that it has named.
+        /// The least last stream that the peer's GOAWAY frames have named.
         last: u32,
         /// The error code (section 7).
         code: u32,
     },
-    /// The peer has not processed this stream of ours, and will not: it is over (section 6.8).
+    /// The peer has not processed this stream of this end, which is closed now (section 6.8).
     Unprocessed {
         /// The stream.
         id: u32,
@@ -59,8 +60,8 @@ pub enum Event<F, B> {
 
 impl<F, B> Event<F, B> {
     // rule: calls (own) An event has the octets, the fields and the numbers of its frame
-    /// The same event, with `list` where it has fields and with `bytes` where it has octets; else
-    /// they are dropped.
+    /// Returns the same event with `list` for its fields or `bytes` for its octets; what it has
+    /// no use for is dropped.
     pub fn with_parts<G, C>(self, list: G, bytes: C) -> Event<G, C>
     where
         F: Drop,

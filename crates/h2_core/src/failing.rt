@@ -27,7 +27,7 @@ impl Endpoint {
     }
 
     // rule: 5.4.1 A connection error is answered by GOAWAY, and nothing is sent after
-    /// The connection fails: GOAWAY follows the queued output. It takes no memory.
+    /// Fails the connection: GOAWAY follows the queued output. It takes no memory.
     pub(crate) fn fail(&mut self, code: Code, last: u32)
         requires up { self.old.failed ≡ None }
         requires number { last < 2 ^ 31 }
@@ -38,7 +38,8 @@ impl Endpoint {
     }
 
     // contract: 5.4.1 A connection error is answered by GOAWAY, and nothing is sent after
-    /// The cutter has met a fault, or memory was refused to it: the connection fails with the code.
+    /// Fails the connection with this code, for a fault of the cutter or an allocation refused
+    /// to it.
     pub fn fail_with(&mut self, code: Code)
         requires sound { IsSoundEnd (end_of self.old) }
         requires up { self.old.failed ≡ None }

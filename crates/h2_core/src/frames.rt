@@ -1,4 +1,4 @@
-//! Frames that are received: the first must be SETTINGS, then field blocks are gathered (RFC 9113,
+//! Received frames: the first must be SETTINGS, then field blocks are gathered (RFC 9113,
 //! sections 3.4 and 6.10).
 
 ghost use Rattle.std.specs.Prelude.{◌≡◌, None, true, false, not, ◌&&◌};
@@ -34,16 +34,16 @@ impl Endpoint {
     // contract: 6.9.2 A shift of a window above 2^31-1 is FLOW_CONTROL_ERROR
     // contract: 7 A received code is any number of 32 bits, and an unknown one does nothing
     // contract: 6.9.3 Until a lower own window is acknowledged the one before it holds
-    /// Takes the next frame, one that has come without a fault: the numbers of its stream, of a
-    /// last stream and of an increment have 31 bits, and its payload's length 24. Where fields are
-    /// reported, [`Endpoint::fields`] lends them until the next frame.
+    /// Takes the next frame, which the cutter found without fault: its stream, a last stream
+    /// and an increment have 31 bits, and its payload's length 24. If fields are reported,
+    /// [`Endpoint::fields`] lends them until the next frame.
     ///
     /// # Errors
     ///
     /// The code with which the connection has failed; GOAWAY with it is the last frame of the
-    /// output. INTERNAL_ERROR says that an allocation was refused, for a part of a field block or
-    /// for another frame that takes memory. It never replaces a connection error, except one that
-    /// a field block makes once it is decoded.
+    /// output. INTERNAL_ERROR says that an allocation was refused, for a part of a field block
+    /// or for another frame that takes memory. It never replaces a connection error, except one
+    /// that shows only when a field block is decoded.
     pub fn take_frame<'a>(
         &mut self,
         frame: FrameRef<'a>,
@@ -88,7 +88,7 @@ impl Endpoint {
     }
 
     // rule: 6.10 Inside a block any frame but its CONTINUATION is PROTOCOL_ERROR
-    /// A frame inside a block, or one that begins or is to continue one: it is gathered.
+    /// Gathers a frame that begins or continues a field block, or comes inside one.
     fn gather_frame<'a>(&mut self, frame: FrameRef<'a>) -> Result<Option<Event<(), &'a [u8]>>, Code>
         requires sound { IsSoundEnd (end_of self.old) }
         requires up { self.old.failed ≡ None }
@@ -127,7 +127,7 @@ impl Endpoint {
     // contract: 5.4 (own) Only blocks, replies, resets and returned credit take memory
     // rule: 5.4 (own) Only blocks, replies, resets and returned credit take memory
     // rule: 6.1 The complete payload of DATA, padding included, counts for windows
-    /// A frame that is no part of a block, outside blocks.
+    /// Takes a frame that is no part of a field block, outside blocks.
     fn take_alone<'a>(
         &mut self,
         frame: FrameRef<'a>,

@@ -1,7 +1,7 @@
-//! One end of an HTTP/2 connection, but for cutting its octets into frames: each frame and each
-//! call as a step that does what the machine of `h2_spec_machine` does.
+//! One end of an HTTP/2 connection, but for cutting its input into frames. Each frame and each
+//! call is a step, which does what the machine of `h2_spec_machine` does.
 //!
-//! It knows nothing of logs: `h2_conn` says what an end does by its history.
+//! It knows nothing of logs: `h2_conn` says what an end does after its history.
 #![tactic(auto)]
 
 mod calls;

@@ -22,15 +22,15 @@ use h2_wire::PREFACE;
 use hpack::{Decoder, Encoder, FieldList};
 use std::alloc::{AllocError, Global};
 
-/// The octets of the first SETTINGS, at most: a head and five pairs.
+/// The most octets of the first SETTINGS: a head and five pairs.
 const OPENING_SETTINGS: usize = 39;
 
 impl Endpoint {
     // contract: 3.4 Both ends begin with SETTINGS
     // rule: 3.4 Both ends begin with SETTINGS
     // contract: 6.5.2 A client sends ENABLE_PUSH 0, and a server sends no ENABLE_PUSH
-    /// A new end, whose opening is queued: at a client the preface, and SETTINGS (RFC 9113,
-    /// section 3.4).
+    /// Makes an end whose queued output is SETTINGS, preceded by the preface at a client (RFC
+    /// 9113, section 3.4).
     ///
     /// # Errors
     ///

@@ -1,4 +1,4 @@
-//! The queued output of an end, and putting it out.
+//! Removing queued output of an end.
 
 ghost use Rattle.std.specs.Prelude.{◌≡◌, ◌+◌, ◌≤◌, ◌<◌, length, drop, min, true, false, None};
 ghost use Rattle.std.specs.Prelude.{IfOk, IfErr, IsOk, if◌then◌else◌, vec_len};
@@ -17,13 +17,14 @@ use h2_spec_log::Refusal;
 impl Endpoint {
     // contract: 6.9 Nothing of the window of the connection is lost
     // contract: calls (own) A call that sends nothing takes no memory
-    /// Appends at most `count` octets of the queued output to `out`, removes them from the queue,
-    /// and returns their number. Where less than 65,536 octets are queued, all that is unreturned
-    /// is returned first. It works after a failure too.
+    /// Appends at most `count` octets of the queued output to `out`, removes them from the
+    /// queue, and returns their number. If credit is unreturned and fewer than 65,536 octets
+    /// are queued, its WINDOW_UPDATE is queued first. It works after a failure too.
     ///
     /// # Errors
     ///
-    /// [`Refusal::Memory`] (C12) where an allocation was refused. Nothing has changed.
+    /// [`Refusal::Memory`] (C12) where an allocation was refused. A refused call changes
+    /// nothing.
     pub fn put_out(&mut self, count: usize, out: &mut Vec<u8>) -> Result<usize, Refusal>
         requires sound { self.old.failed ≡ None → IsSoundEnd (end_of self.old) }
         ensures ok { IfOk result (λ given. PutsOut (end_of self.old) count given out.old.items
@@ -31,11 +32,11 @@ impl Endpoint {
         ensures err { IfErr result (λ refusal. (refusal ≡ Refusal.Memory)
             × (out.new.items ≡ out.old.items) × (end_of self.new ≡ end_of self.old)) }
 
-        // Where nothing is returned first, and nothing is put out, it takes no memory.
+        // Where no credit is returned first, and nothing is put out, it takes no memory.
         ensures nothing { returns_before_put_out (end_view (end_of self.old)) ≡ false
             → min count (length self.old.output.waiting) ≡ 0 → IsOk result }
 
-        // Where nothing is returned first, the capacity of `out` is enough.
+        // Where no credit is returned first, capacity in `out` is enough.
         ensures room { returns_before_put_out (end_view (end_of self.old)) ≡ false
             → vec_len out.old + min count (length self.old.output.waiting) ≤ vec_capacity out.old
             → IsOk result }
@@ -57,12 +58,13 @@ impl Endpoint {
     // contract: 6.9 Nothing of the window of the connection is lost
     // contract: calls (own) A call that sends nothing takes no memory
     /// Removes at most `count` octets of the queued output, which were read where they lie, and
-    /// returns their number. Where less than 65,536 octets are queued, all that is unreturned is
-    /// returned first. It works after a failure too.
+    /// returns their number. If credit is unreturned and fewer than 65,536 octets are queued,
+    /// its WINDOW_UPDATE is queued first. It works after a failure too.
     ///
     /// # Errors
     ///
-    /// [`Refusal::Memory`] (C12) where an allocation was refused. Nothing has changed.
+    /// [`Refusal::Memory`] (C12) where an allocation was refused. A refused call changes
+    /// nothing.
     pub fn consume(&mut self, count: usize) -> Result<usize, Refusal>
         requires sound { self.old.failed ≡ None → IsSoundEnd (end_of self.old) }
         ensures ok { IfOk result (λ given. Consumes (end_of self.old) count given
@@ -70,7 +72,8 @@ impl Endpoint {
         ensures err { IfErr result (λ refusal. (refusal ≡ Refusal.Memory)
             × (end_of self.new ≡ end_of self.old)) }
 
-        // Where nothing is returned first, or there is room for that, it takes no memory.
+        // Where no credit is returned first, or there is room for its WINDOW_UPDATE, it takes
+        // no memory.
         ensures nothing { returns_before_put_out (end_view (end_of self.old)) ≡ false
             → IsOk result }
         ensures due { 13 ≤ self.old.output.spare → IsOk result }
@@ -83,7 +86,8 @@ impl Endpoint {
         Ok(self.output.consume(count))
     }
 
-    /// The room that is needed for what is returned before output is put out.
+    /// The room needed for the WINDOW_UPDATE that is queued before output is removed, if one
+    /// is.
     fn update_room(&self) -> usize
         ensures { result ≡ (if returns_before_put_out (end_view (end_of self.now)) then 13 else 0) }
     {
@@ -94,15 +98,15 @@ impl Endpoint {
         }
     }
 
-    /// Whether all that is unreturned is returned before output is put out.
+    /// Whether unreturned credit is returned before output is removed.
     fn returns_before_output(&self) -> bool
         ensures { result ≡ returns_before_put_out (end_view (end_of self.now)) }
     {
         self.failed.is_none() && self.unreturned > 0 && self.output.len() < FULL_OUTPUT
     }
 
-    /// Returns all that is unreturned, where that is to be done before output is put out. There is
-    /// room for a WINDOW_UPDATE then.
+    /// Returns the unreturned credit, if that happens before output is removed; then there is
+    /// room for a WINDOW_UPDATE.
     fn return_before_output(&mut self)
         requires sound { self.old.failed ≡ None → IsSoundEnd (end_of self.old) }
         requires room { returns_before_put_out (end_view (end_of self.old)) ≡ true
@@ -116,7 +120,7 @@ impl Endpoint {
 
     // contract: calls (own) An end answers of its state, and of little once it has failed
     // rule: calls (own) An end answers of its state, and of little once it has failed
-    /// The number of octets of queued output. It takes no memory.
+    /// Returns the number of octets of queued output. It takes no memory.
     pub fn waiting(&self) -> usize
         ensures { result ≡ length self.now.output.waiting }
     {
@@ -125,8 +129,8 @@ impl Endpoint {
 
     // contract: calls (own) An end lends its output, and says the place of a fault
     // rule: calls (own) An end lends its output, and says the place of a fault
-    /// Lends the queued output from a place on, as much as lies there in one piece. It takes no
-    /// memory.
+    /// Lends the queued output from offset `at` on, as much as lies there in one piece. It
+    /// takes no memory.
     pub fn waiting_from(&self, at: usize) -> &[u8]
         ensures part { StartsWith (drop at self.now.output.waiting) result.now }
         ensures some { at < length self.now.output.waiting → 0 < length result.now }

@@ -18,7 +18,7 @@ use h2_spec_log::Role;
 use hpack::FieldList;
 
 impl Endpoint {
-    /// The code with which the connection has failed, if it has. It takes no memory.
+    /// Returns the code with which the connection has failed, if it has. It takes no memory.
     pub fn failed(&self) -> Option<Code>
         ensures { result ≡ self.now.failed }
     {
@@ -27,9 +27,9 @@ impl Endpoint {
 
     // contract: 4.2 The limit of an end is its greatest MAX_FRAME_SIZE of those in force
     // rule: 4.2 The limit of an end is its greatest MAX_FRAME_SIZE of those in force
-    /// The greatest payload that may be read now, in octets (RFC 9113, sections 4.2 and 6.5.3): by
-    /// the own settings in force and those that await their acknowledgment, which the peer may
-    /// have applied already. It takes no memory.
+    /// Returns the greatest payload that may be read now, in octets (RFC 9113, sections 4.2 and
+    /// 6.5.3): by this end's settings in force, and by those not acknowledged yet, which the
+    /// peer may have applied already. It takes no memory.
     pub fn payload_limit(&self) -> u32
         ensures { result ≡ payload_limit_of (end_of self.now).own }
     {
@@ -39,8 +39,7 @@ impl Endpoint {
         }
     }
 
-    /// The settings that the peer's SETTINGS have brought in force (RFC 9113, section 6.5.2). It
-    /// takes no memory.
+    /// Returns the peer's settings in force (RFC 9113, section 6.5.2). It takes no memory.
     pub fn peer_settings(&self) -> Settings
         ensures window { result.initial_window_size ≡ (end_of self.now).peer.initial_window }
         ensures frame { result.max_frame_size ≡ (end_of self.now).peer.max_frame }
@@ -48,21 +47,23 @@ impl Endpoint {
         self.peer
     }
 
-    /// Whether a first frame was taken without a fault (RFC 9113, section 3.4). It takes no memory.
+    /// Returns whether a first frame was taken without a fault (RFC 9113, section 3.4). It
+    /// takes no memory.
     pub fn has_started(&self) -> bool
         ensures { result ≡ (end_of self.now).reading.started }
     {
         self.started
     }
 
-    /// The stream of the field block that has begun (section 6.10), if one has. It takes no memory.
+    /// Returns the stream of the field block that has begun (section 6.10), if one has. It
+    /// takes no memory.
     pub fn block_stream(&self) -> Option<u32>
         ensures { result ≡ option_map (λ begun. begun.stream) (end_of self.now).reading.begun }
     {
         self.gather.stream()
     }
 
-    /// The number of octets of that block that have come, or 0. It takes no memory.
+    /// Returns the number of octets of that block that were received, or 0. It takes no memory.
     pub fn block_len(&self) -> usize
         ensures { result
             ≡ option_map_or (λ begun. length begun.octets) (end_of self.now).reading.begun 0 }
@@ -70,8 +71,8 @@ impl Endpoint {
         self.gather.held()
     }
 
-    /// Whether a stream's number is idle (section 5.1). That does not end with the connection. It
-    /// takes no memory.
+    /// Returns whether a stream's number is idle (section 5.1). A failure of the connection
+    /// does not change that. It takes no memory.
     pub fn is_idle(&self, id: u32) -> bool
         ensures { result ≡ is_idle (state_at (end_of self.now) id) }
     {
@@ -81,37 +82,37 @@ impl Endpoint {
         }
     }
 
-    /// The number of octets that the peer may send on the connection (section 6.9.1). It takes no
-    /// memory.
+    /// Returns the connection's receive window: the octets that the peer may send (section
+    /// 6.9.1). It takes no memory.
     pub fn recv_window(&self) -> u32
         ensures { result ≡ (end_of self.now).windows.recv }
     {
         self.recv_window
     }
 
-    /// The number of streams that this end has reset. It takes no memory.
+    /// Returns the number of streams that this end has reset. It takes no memory.
     pub fn resets(&self) -> u32
         ensures { result ≡ (end_of self.now).streams.resets }
     {
         self.resets
     }
 
-    /// The fields of the block that was reported last. It takes no memory.
+    /// Lends the fields of the field block that was reported last. It takes no memory.
     pub fn fields(&self) -> &FieldList
         ensures { result.now ≡ self.now.list }
     {
         &self.list
     }
 
-    /// Which of the two ends it is. It takes no memory.
+    /// Returns whether the end is the client or the server. It takes no memory.
     pub fn role(&self) -> Role
         ensures { result ≡ self.now.role }
     {
         self.role
     }
 
-    /// Whether a stream is active: open or half-closed (RFC 9113, section 5.1). That does not end
-    /// with the connection. It takes no memory.
+    /// Returns whether a stream is active: open or half-closed (RFC 9113, section 5.1). A
+    /// failure of the connection does not change that. It takes no memory.
     pub fn is_active(&self, id: u32) -> bool
         ensures { result ≡ is_some (stream_at (end_of self.now) id) }
     {
@@ -120,9 +121,9 @@ impl Endpoint {
 
     // contract: calls (own) An end answers of its state, and of little once it has failed
     // rule: calls (own) An end answers of its state, and of little once it has failed
-    /// The number of octets that this end may send: on the connection where `id` is 0, else on an
-    /// active stream; below zero where settings have shifted its window so. `None` for other
-    /// streams, and once the connection has failed. It takes no memory.
+    /// Returns the send window in octets: the connection's where `id` is 0, else an active
+    /// stream's, which is negative where the peer's SETTINGS have lowered it so. `None` for
+    /// other streams, and once the connection has failed. It takes no memory.
     pub fn room(&self, id: u32) -> Option<i64>
         ensures { result ≡ room_of (end_of self.now) id }
     {
@@ -138,8 +139,8 @@ impl Endpoint {
 
     // contract: calls (own) An end answers of its state, and of little once it has failed
     // rule: calls (own) An end answers of its state, and of little once it has failed
-    /// The number of octets of a stream that were reported and are not released; 0 where it is not
-    /// active, and once the connection has failed. It takes no memory.
+    /// Returns the number of octets of an active stream that were reported and are not released
+    /// yet. 0 for other streams, and once the connection has failed. It takes no memory.
     pub fn owed(&self, id: u32) -> u32
         ensures { result ≡ owed_of (end_of self.now) id }
     {
@@ -153,7 +154,7 @@ impl Endpoint {
     }
 
     // rule: calls (own) An end answers of its state, and of little once it has failed
-    /// The number of octets of the connection's window that are still to be returned; 0 once the
+    /// Returns the number of octets of the connection's window still to be returned; 0 once the
     /// connection has failed. It takes no memory.
     pub fn due(&self) -> u32
         ensures { result ≡ (if is_some self.now.failed then 0 else self.now.unreturned) }
@@ -165,8 +166,8 @@ impl Endpoint {
         }
     }
 
-    /// The least active stream above the number `above`, if there is one; `None` once the
-    /// connection has failed. It takes no memory.
+    /// Returns the least number above `above` of an active stream. `None` if there is none, and
+    /// once the connection has failed. It takes no memory.
     pub fn next_live(&self, above: u32) -> Option<u32>
         ensures number { number_or_none result ≡ (if is_some self.now.failed then 0
             else first_active above (map.entries self.now.streams.entries)) }

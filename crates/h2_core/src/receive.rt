@@ -1,4 +1,4 @@
-//! DATA, RST_STREAM, PING and GOAWAY that are received (RFC 9113, sections 6.1, 6.4, 6.7 and 6.8).
+//! Received DATA, RST_STREAM, PING and GOAWAY (RFC 9113, sections 6.1, 6.4, 6.7 and 6.8).
 
 ghost use Rattle.std.specs.Prelude.{◌≡◌, ◌≤◌, ◌<◌, ◌^◌, ℕ, List, length, Option, None, Some};
 ghost use Rattle.std.specs.Prelude.{true, false};
@@ -17,7 +17,8 @@ use crate::stream_steps::{reserve_credit, reserve_if_over};
 use h2_frame::limits::{LARGE_FRAME, MAX_OUTPUT};
 use h2_frame::{Code, FrameRef};
 
-/// DATA that comes: its stream, END_STREAM, its octets, and its payload's length, padding included.
+/// A received DATA frame: its stream, END_STREAM, its octets, and its payload's length with
+/// padding.
 #[derive(Clone, Copy)]
 pub(crate) struct DataFrame<'a> {
     pub(crate) stream: u32,
@@ -34,10 +35,10 @@ impl Endpoint {
     // rule: 6.9.1 DATA above the connection's window is FLOW_CONTROL_ERROR
     // rule: 6.9.1 DATA above its stream's window is FLOW_CONTROL_ERROR (scope: own)
     // rule: 6.9.1 DATA of no octets is within any window
-    /// DATA (section 6.1). On an active stream it uses both windows and is reported; on one that
-    /// this end has closed it uses the connection's, and is discarded; after the peer's END_STREAM
-    /// it is a stream error; on an idle or a closed stream, or above a window, it fails the
-    /// connection.
+    /// Takes DATA (section 6.1). On an active stream it uses both windows and is reported, or,
+    /// after the peer's END_STREAM, is a stream error. On a stream that this end has closed it
+    /// uses the connection's window and is discarded. On an idle or a closed stream, or above a
+    /// window, it fails the connection.
     pub(crate) fn take_data<'a>(
         &mut self,
         frame: DataFrame<'a>,
@@ -85,7 +86,7 @@ impl Endpoint {
     }
 
     // rule: 5.1 DATA on a stream that this end has reset counts for the connection
-    /// DATA on a stream that this end has closed: it is discarded, and its flow is unreturned.
+    /// Discards DATA on a stream that this end has closed; its octets become unreturned credit.
     fn discard_data<'a>(&mut self, flow: u32) -> Result<Option<Event<(), &'a [u8]>>, StepError>
         requires sound { IsSoundEnd (end_of self.old) }
         requires up { self.old.failed ≡ None }
@@ -104,7 +105,8 @@ impl Endpoint {
     // rule: 6.4 RST_STREAM closes an active stream and is reported
     // rule: 6.4 RST_STREAM on a closed stream is ignored
     // rule: 7 A received code is any number of 32 bits, and an unknown one does nothing
-    /// RST_STREAM (section 6.4): it closes an active stream, and is ignored on a closed one.
+    /// Takes RST_STREAM (section 6.4): it closes an active stream, and is ignored on a closed
+    /// one.
     pub(crate) fn take_reset<'a>(
         &mut self,
         id: u32,
@@ -132,7 +134,7 @@ impl Endpoint {
 
     // rule: 6.7 PING is answered with its octets and ACK, and an answer is not answered
     // rule: 10.5 (own) Replies above 262,144 waiting octets are ENHANCE_YOUR_CALM
-    /// PING (section 6.7): it is answered.
+    /// Takes PING (section 6.7), and answers it.
     pub(crate) fn take_ping<'a>(
         &mut self,
         octets: [u8; 8],
@@ -150,7 +152,7 @@ impl Endpoint {
     }
 
     // rule: 6.7 A PING's answer that is awaited is reported, others are ignored
-    /// The answer to a PING: it is reported if it has the octets that are awaited.
+    /// Takes the answer to a PING, and reports it if it has the octets that are awaited.
     pub(crate) fn take_pong<'a>(
         &mut self,
         octets: [u8; 8],
@@ -168,7 +170,7 @@ impl Endpoint {
 
     // rule: 6.8 The last stream of GOAWAY never grows: the least so far is reported
     // rule: 7 A received code is any number of 32 bits, and an unknown one does nothing
-    /// GOAWAY (section 6.8): the least of the last streams that it named holds.
+    /// Takes GOAWAY (section 6.8): the least of the last streams that it has named holds.
     pub(crate) fn take_goaway<'a>(
         &mut self,
         last: u32,

@@ -1,4 +1,4 @@
-//! Field blocks that are received (RFC 9113, sections 4.3, 5.1 and 6.2).
+//! Received field blocks (RFC 9113, sections 4.3, 5.1 and 6.2).
 
 ghost use Rattle.std.specs.Prelude.{◌≡◌, ◌≤◌, ◌<◌, ◌^◌, None, Some};
 ghost use Rattle.std.specs.Prelude.{true};
@@ -22,8 +22,8 @@ use hpack::{Decoded, Fault};
 impl Endpoint {
     // contract: 4.3 Each received block is decoded, also one that is ignored
     // rule: 4.3 Each received block is decoded, also one that is ignored
-    /// A complete field block: it is decoded, whatever becomes of its stream, and then taken by the
-    /// state of the stream.
+    /// Takes a complete field block: decodes it, whatever becomes of its stream, and then takes
+    /// it by the state of the stream.
     ///
     /// # Errors
     ///
@@ -67,7 +67,7 @@ impl Endpoint {
     // contract: 5.4 (own) Being out of memory hides no other fault of the connection
     // rule: 5.4 (own) Being out of memory hides no other fault of the connection
     // contract: 5.4 (own) Only blocks, replies, resets and returned credit take memory
-    /// A block that was decoded, whose list is above the limit or else kept.
+    /// Takes a decoded block, whose list is too large or else is kept.
     fn take_decoded<'a>(
         &mut self,
         id: u32,
@@ -91,7 +91,7 @@ impl Endpoint {
     // rule: 5.1 After the peer has ended a stream a field block is STREAM_CLOSED
     // rule: 6.2 A field block on an idle odd number opens the stream at a server
     // rule: 10.5.1 A list above 65,536 octets is a stream error ENHANCE_YOUR_CALM
-    /// A block on an active stream.
+    /// Takes a block on an active stream.
     fn take_further<'a>(
         &mut self,
         id: u32,
@@ -125,7 +125,7 @@ impl Endpoint {
     // rule: 6.2 A field block on an idle odd number opens the stream at a server
     // rule: 6.8 Streams above the last of an own GOAWAY are ignored
     // rule: 10.5.1 A list above 65,536 octets is a stream error ENHANCE_YOUR_CALM
-    /// A block on an idle number that the peer may open (sections 5.1.1, 5.1.2 and 6.8).
+    /// Takes a block on an idle stream that the peer may open (sections 5.1.1, 5.1.2 and 6.8).
     fn take_opening<'a>(
         &mut self,
         id: u32,
@@ -181,7 +181,7 @@ impl Endpoint {
 
 // contract: 4.3 A block that does not decode is COMPRESSION_ERROR, of the connection
 // rule: 4.3 A block that does not decode is COMPRESSION_ERROR, of the connection
-/// The code with which the connection ends where a block is not decoded (section 4.3).
+/// The code with which the connection ends where a block cannot be decoded (section 4.3).
 fn code_of_fault(fault: Fault) -> Code
     ensures { result ≡ decode_fault_code fault }
 {

@@ -1,4 +1,4 @@
-//! SETTINGS that are received (RFC 9113, section 6.5).
+//! Received SETTINGS (RFC 9113, section 6.5).
 
 ghost use Rattle.std.specs.Prelude.{◌≡◌, ◌==◌, ◌&&◌, ℕ, List, None, true, false};
 ghost use Rattle.std.specs.FinMap as map;
@@ -23,7 +23,7 @@ use h2_frame::{Code, HEAD_LEN, Pairs};
 use h2_spec_log::Role;
 use hpack::Encoder;
 
-/// The greatest send window of an end's active streams, and the initial window in force.
+/// The greatest send window of an end's active streams, and the peer's initial window in force.
 #[derive(Clone, Copy, Debug, PartialEq, Eq)]
 pub struct GreatestWindow {
     /// `None` where no stream is active.
@@ -48,7 +48,7 @@ impl Endpoint {
     // rule: 6.5.3 SETTINGS are acknowledged before anything else is sent
     // rule: 6.9.2 INITIAL_WINDOW_SIZE shifts the window of each stream
     // rule: 10.5 (own) Replies above 262,144 waiting octets are ENHANCE_YOUR_CALM
-    /// SETTINGS: all pairs are checked in order, then applied, and acknowledged.
+    /// Takes SETTINGS: all pairs are checked in order, then applied, and acknowledged.
     pub(crate) fn take_settings<'a>(
         &mut self,
         pairs: Pairs<'_>,
@@ -74,9 +74,9 @@ impl Endpoint {
 
     // rule: 6.5.3 Settings apply in order: the first fault decides, the last value counts
     // rule: 6.9.2 A shift of a window above 2^31-1 is FLOW_CONTROL_ERROR
-    /// The settings after all pairs, or the fault of the first that has one: a value's own, or an
-    /// initial window that would bring a stream's send window above 2<sup>31</sup> - 1 (section
-    /// 6.9.2). It goes over the active streams once at most.
+    /// Returns the settings after all pairs, or the fault of the first that has one: a value
+    /// out of its range, or an initial window that would bring a stream's send window above
+    /// 2<sup>31</sup> - 1 (section 6.9.2). It goes over the active streams at most once.
     fn settings_after(&self, pairs: Pairs<'_>) -> Result<Settings, StepError>
         ensures { AppliesSettings self.now (lent_pairs pairs.entry) result }
     {
@@ -93,7 +93,7 @@ impl Endpoint {
         Ok(settings)
     }
 
-    /// The role of the other end. It takes no memory.
+    /// Returns the role of the other end. It takes no memory.
     pub fn peer_role(&self) -> Role
         ensures { result ≡ peer_of (end_of self.now).role }
     {
@@ -103,8 +103,9 @@ impl Endpoint {
         }
     }
 
-    /// Whether a pair is an initial window that brings some send window above 2<sup>31</sup> - 1.
-    /// Where the table doesn't know, the greatest of the windows is computed once, and then known.
+    /// Whether a pair is an initial window that brings some send window above
+    /// 2<sup>31</sup> - 1. If the table does not know, the greatest send window is computed,
+    /// and kept in `greatest`.
     fn overflows(&self, id: u16, value: u32, greatest: &mut Option<Option<i64>>) -> bool
         requires known { KnowsGreatest self.now.streams greatest.old }
         ensures overflows { result ≡ (id == 4 && any_above self.now.streams.send_initial value
@@ -122,9 +123,9 @@ impl Endpoint {
         is_above(window, self.peer.initial_window_size, value)
     }
 
-    /// The greatest send window of the active streams, by which it is decided for each initial
-    /// window whether it brings one of them above 2<sup>31</sup> - 1 (section 6.9.2). It goes over
-    /// the active streams, and takes no memory.
+    /// Returns the greatest send window of the active streams, which decides for each initial
+    /// window whether it brings one of them above 2<sup>31</sup> - 1 (section 6.9.2). It goes
+    /// over the active streams, and takes no memory.
     pub fn greatest_send_window(&self) -> GreatestWindow
         ensures { (initial : ℕ) → shifts_too_far result initial
             ≡ (end_view (end_of self.now)).overflows initial }
@@ -139,7 +140,7 @@ impl Endpoint {
     // rule: 6.5.3 Own SETTINGS hold once they are acknowledged, and not before
     // rule: 6.5.3 An acknowledgment that is awaited is reported, others are ignored
     // rule: 6.9.3 Until a lower own window is acknowledged the one before it holds
-    /// The acknowledgment of own SETTINGS: those that await it come into force (section 6.5.3).
+    /// Takes the acknowledgment of this end's SETTINGS, which come into force (section 6.5.3).
     pub(crate) fn take_acknowledgment<'a>(
         &mut self,
     ) -> Result<Option<Event<(), &'a [u8]>>, StepError>
@@ -160,7 +161,7 @@ impl Endpoint {
     }
 }
 
-/// Each value 1, in order, sets the encoder's limit (RFC 7541, section 4.2).
+/// Sets the encoder's limit to each value of identifier 1, in order (RFC 7541, section 4.2).
 fn limit_encoder(encoder: &mut Encoder, pairs: Pairs<'_>)
     ensures { encoder.new ≡ encoder_after_settings encoder.old (lent_pairs pairs.entry) }
 {

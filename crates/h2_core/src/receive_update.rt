@@ -1,4 +1,4 @@
-//! WINDOW_UPDATE that is received (RFC 9113, section 6.9), and stream errors (section 5.4.2).
+//! Received WINDOW_UPDATE (RFC 9113, section 6.9), and stream errors (section 5.4.2).
 
 ghost use Rattle.std.specs.Prelude.{◌≡◌, ◌||◌, ◌+◌, ◌<◌, ◌^◌, None, Some};
 ghost use Rattle.std.specs.Prelude.{◌≤◌};
@@ -24,7 +24,7 @@ impl Endpoint {
     // rule: 6.9 WINDOW_UPDATE on an idle stream is PROTOCOL_ERROR
     // rule: 6.9 WINDOW_UPDATE on a closed stream is ignored
     // rule: 6.9 WINDOW_UPDATE after the peer's end widens the window
-    /// WINDOW_UPDATE: of the connection on stream 0, else of a stream.
+    /// Takes WINDOW_UPDATE: of the connection on stream 0, else of a stream.
     pub(crate) fn take_window_update<'a>(
         &mut self,
         id: u32,
@@ -49,7 +49,8 @@ impl Endpoint {
 
     // rule: 6.9 An increment of 0 on the connection is PROTOCOL_ERROR
     // rule: 6.9.1 The connection's window above 2^31-1 is FLOW_CONTROL_ERROR
-    /// No octets are a fault, and so is a window above 2<sup>31</sup> - 1.
+    /// Widens the connection's send window. An increment of 0, and a window above
+    /// 2<sup>31</sup> - 1, are connection errors.
     fn widen_connection<'a>(
         &mut self,
         increment: u32,
@@ -72,7 +73,7 @@ impl Endpoint {
 
     // rule: 6.9 An increment of 0 on a stream is a stream error PROTOCOL_ERROR
     // rule: 6.9.1 A stream's window above 2^31-1 is a stream error FLOW_CONTROL_ERROR
-    /// On an active stream both are stream errors.
+    /// Widens an active stream's send window; there both are stream errors.
     fn widen_stream<'a>(
         &mut self,
         id: u32,
@@ -102,9 +103,9 @@ impl Endpoint {
     }
 
     // rule: 5.4 (own) Being out of memory hides no other fault of the connection
-    /// A stream error: it is reset with the code, and what it owes is unreturned. An item at fault
-    /// has taken `flow` octets of the connection's window, which are unreturned too, and opens the
-    /// stream `opened`, or none (0).
+    /// Resets a stream with the code of a stream error; what it owes becomes unreturned credit.
+    /// The item at fault has taken `flow` octets of the connection's window, which become
+    /// unreturned too, and opens the stream `opened`, or none (0).
     pub(crate) fn reset_for_fault<'a>(
         &mut self,
         id: u32,
@@ -141,8 +142,8 @@ impl Endpoint {
 
     // rule: 10.5 (own) An end that resets 1,001 streams ends with ENHANCE_YOUR_CALM
     // rule: 10.5 (own) Replies above 262,144 waiting octets are ENHANCE_YOUR_CALM
-    /// Whether a further RST_STREAM is more than this end sends: the 1,001st reset, or octets that
-    /// would bring the queued output above its limit (own; section 10.5).
+    /// Whether one more RST_STREAM is over a limit: it would be the 1,001st reset, or would
+    /// bring the queued output above 262,144 octets (own; section 10.5).
     pub(crate) fn is_over_limits(&self) -> bool
         ensures { result ≡ is_over_limits (end_of self.now) }
     {

@@ -1,4 +1,4 @@
-//! Own SETTINGS (RFC 9113, section 6.5).
+//! This end's SETTINGS (RFC 9113, section 6.5).
 
 ghost use Rattle.std.specs.Prelude.{◌≡◌, ◌≤◌, ◌+◌, ◌*◌, ◌++◌, length, false};
 ghost use Rattle.std.specs.Prelude.{OnOk, IfErr};
@@ -18,14 +18,14 @@ use h2_frame::{Head, Kind};
 use h2_output::Output;
 use h2_spec_log::{Refusal, Role};
 
-/// The octets of SETTINGS that change an end's values, at most.
+/// The most octets of SETTINGS that change an end's values.
 const MAX_SETTINGS: usize = 33;
 
 // rule: 3.4 Both ends begin with SETTINGS
 // rule: 6.5.2 A client sends ENABLE_PUSH 0, and a server sends no ENABLE_PUSH
 // rule: 6.5.2 (own) MAX_FRAME_SIZE is sent where it differs from the value sent last
-/// Adds an end's first SETTINGS, for which there is room: a client disables push, both limit the
-/// size of a field list. It takes no memory.
+/// Adds an end's first SETTINGS, for which there is room: a client disables push, and both ends
+/// limit the size of a field list. It takes no memory.
 pub(crate) fn add_opening_settings(output: &mut Output, role: Role, config: Config)
     requires up { output.old.ended ≡ false }
     requires room { 39 ≤ output.old.spare }
@@ -85,14 +85,14 @@ fn pair_octets(pair: (u16, u32)) -> [u8; PAIR]
 impl Endpoint {
     // contract: 6.5.3 (own) Own SETTINGS are changed once those before are acknowledged
     // rule: 6.5.3 (own) Own SETTINGS are changed once those before are acknowledged
-    /// Changes this end's settings (RFC 9113, section 6.5.3): they hold from their acknowledgment
-    /// on; a greater frame may be read at once.
+    /// Changes this end's settings: sends SETTINGS (RFC 9113, section 6.5.3). They come into
+    /// force with the peer's acknowledgment; a greater maximum frame size is accepted at once.
     ///
     /// # Errors
     ///
-    /// [`Refusal::Closed`] (C1), [`Refusal::OutputFull`] (C7), [`Refusal::SettingsWait`] (C13)
-    /// where own SETTINGS, the first included, await their acknowledgment, and
-    /// [`Refusal::Memory`] (C12), in this order. Nothing has changed.
+    /// The first that holds of [`Refusal::Closed`] (C1), [`Refusal::OutputFull`] (C7),
+    /// [`Refusal::SettingsWait`] (C13: the last SETTINGS of this end, be it the first one, are
+    /// not acknowledged yet) and [`Refusal::Memory`] (C12). A refused call changes nothing.
     pub fn change_settings(&mut self, config: Config) -> Result<(), Refusal>
         ensures ok { OnOk result (CallAccepted (end_of self.old)
             (ChangeSettings (values_of config)) (end_of self.new)) }
@@ -115,8 +115,8 @@ impl Endpoint {
 
 // rule: 6.5.2 (own) MAX_FRAME_SIZE is sent where it differs from the value sent last
 // rule: 6.5.3 (own) Own SETTINGS are changed once those before are acknowledged
-/// Adds SETTINGS that change an end's values, for which there is room; `written` is the greatest
-/// frame that was sent last. It takes no memory.
+/// Adds SETTINGS that change an end's values, for which there is room; `written` is the maximum
+/// frame size that was sent last. It takes no memory.
 fn add_changed_settings(output: &mut Output, role: Role, written: u32, config: Config)
     requires up { output.old.ended ≡ false }
     requires room { 33 ≤ output.old.spare }

@@ -1,4 +1,4 @@
-//! Calls that send octets of a body with no copy (RFC 9113, section 6.1).
+//! Calls that send octets of a body without a copy (RFC 9113, section 6.1).
 
 ghost use Rattle.std.specs.Prelude.{◌≡◌, ◌+◌, ◌-◌, ◌*◌, ◌/◌, ◌≤◌, ◌<◌, List, [], pos, ◌-ℤ◌};
 ghost use Rattle.std.specs.Prelude.{length, None, ◌≢◌, true, Err, IsSome, Some, false, ◌++◌};
@@ -29,14 +29,14 @@ impl Endpoint {
     // rule: 6.9.1 DATA is sent within both windows
     // contract: calls (own) A call does what it says, or is refused for its first condition
     // rule: calls (own) A call that sends nothing takes no memory
-    /// Sends octets of a body as [`Endpoint::send_data`], with no copy of them where they are many:
-    /// they wait where they lie.
+    /// Sends octets of a body as [`Endpoint::send_data`] does, and doesn't copy them for a DATA
+    /// frame with 4,096 octets or more: the queue shares them.
     ///
     /// # Errors
     ///
-    /// [`Refusal::Closed`] (C1), [`Refusal::NoSuchStream`] (C2), [`Refusal::Ended`] (C3),
-    /// [`Refusal::OutputFull`] (C7) and [`Refusal::Memory`] (C12), in this order. Nothing has
-    /// changed.
+    /// The first that holds of [`Refusal::Closed`] (C1), [`Refusal::NoSuchStream`] (C2),
+    /// [`Refusal::Ended`] (C3), [`Refusal::OutputFull`] (C7) and [`Refusal::Memory`] (C12). A
+    /// refused call changes nothing.
     pub fn send_shared_data(
         &mut self,
         id: u32,
@@ -69,8 +69,8 @@ impl Endpoint {
         Ok(count)
     }
 
-    /// Sends octets, as many as both windows let through, on an active stream. There is room for
-    /// their frames, and for a WINDOW_UPDATE.
+    /// Sends octets, as many as both windows allow, on an active stream. There is room for
+    /// their frames and for a WINDOW_UPDATE.
     fn write_shared_data(&mut self, id: u32, mut stream: Stream, octets: Bytes<Global>, end: bool)
         requires sound { IsSoundEnd (end_of self.old) }
         requires up { self.old.failed ≡ None }
@@ -100,8 +100,8 @@ impl Endpoint {
         self.update_stream(id, stream);
     }
 
-    /// Adds the DATA frames of octets, for which there is room: each has the most octets that are
-    /// sent but the last, which has END_STREAM where `end` is set.
+    /// Adds the DATA frames of octets, for which there is room: all but the last are full, and
+    /// the last has END_STREAM where `end` is set.
     fn add_shared_data(&mut self, id: u32, octets: Bytes<Global>, end: bool)
         requires up { self.old.failed ≡ None }
         requires count { length octets ≤ 65536 }
@@ -118,8 +118,8 @@ impl Endpoint {
     }
 }
 
-/// Adds the DATA frames of octets, for which there is room: each filled to `most` octets but the
-/// last, which has END_STREAM where `end` is set.
+/// Adds the DATA frames of octets, for which there is room: all but the last have `most`
+/// octets, and the last has END_STREAM where `end` is set.
 fn add_shared_frames(output: &mut Output, most: usize, id: u32, octets: Bytes<Global>, end: bool)
     requires up { output.old.ended ≡ false }
     requires most { (16384 ≤ most) × (most ≤ 65536) }

@@ -60,7 +60,7 @@ impl Endpoint {
     // contract: 5.1 A stream has one state, by what was received and sent
     // rule: 5.1 A stream has one state, by what was received and sent
     // rule: 5.1.1 A stream that is opened closes all lower idle ones
-    /// What is known of a number.
+    /// Returns the state of a number.
     #[inline(always)]
     pub(crate) fn status(&self, id: u32) -> Status
         ensures state { state_of_status result ≡ state_at (end_of self.now) id }
@@ -76,7 +76,7 @@ impl Endpoint {
     }
 
     // rule: 6.8 Streams above the last of an own GOAWAY are ignored
-    /// Whether a number of the peer's is above the last stream of this end's GOAWAY.
+    /// Whether a number of the peer's streams is above the last stream of this end's GOAWAY.
     fn is_above_goaway(&self, id: u32) -> bool
         ensures { result ≡ is_above_goaway (end_of self.now) id }
     {
@@ -86,8 +86,8 @@ impl Endpoint {
         }
     }
 
-    /// Whether a number is idle, and the peer may open it: at a server, odd and above all that were
-    /// used (section 5.1.1).
+    /// Whether a number is idle and the peer may open it: at a server, if it is odd and above
+    /// all numbers used (section 5.1.1).
     pub(crate) fn is_fresh(&self, id: u32) -> bool
         ensures { result ≡ is_fresh (end_of self.now) id }
     {

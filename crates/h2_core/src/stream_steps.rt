@@ -1,4 +1,4 @@
-//! Steps on a stream: it is changed, over, or reset (RFC 9113, section 5.1).
+//! Steps on a stream: it is changed, closed or reset (RFC 9113, section 5.1).
 
 ghost use Rattle.std.specs.Prelude.{◌≡◌, ◌≢◌, ◌+◌, ◌≤◌, ◌<◌, ◌^◌, [], ◌∷◌};
 ghost use Rattle.std.specs.Prelude.{None, Some, OnOk, OnErr, true, length};
@@ -21,8 +21,8 @@ use h2_streams::Stream;
 use std::alloc::AllocError;
 
 impl Endpoint {
-    /// An active stream is over, and nothing is kept of it; what it owes is unreturned. There is
-    /// room for a WINDOW_UPDATE where that is returned at once.
+    /// Closes an active stream, of which nothing is kept; what it owes becomes unreturned
+    /// credit. There is room for a WINDOW_UPDATE where that is returned at once.
     pub(crate) fn close_stream(&mut self, id: u32, stream: Stream)
         requires up { self.old.failed ≡ None }
         requires active { stream_at (end_of self.old) id ≡ Some (stream_view stream) }
@@ -37,7 +37,7 @@ impl Endpoint {
         self.add_unreturned(stream.owed);
     }
 
-    /// An active stream is changed to this one: it is over once both sides have ended it, and then
+    /// Changes an active stream to this one, and closes it if both sides have ended it. Then
     /// there is room for a WINDOW_UPDATE where what it owes is returned at once.
     pub(crate) fn update_stream(&mut self, id: u32, stream: Stream)
         requires up { self.old.failed ≡ None }
@@ -63,8 +63,8 @@ impl Endpoint {
 
     // rule: 5.4.2 A stream error is answered by RST_STREAM with its code, and reported
     // rule: 5.4.2 RST_STREAM is not answered by RST_STREAM, nor sent twice
-    /// A number is reset: RST_STREAM joins the output, and what an active stream with it owes, and
-    /// `more` octets, are unreturned.
+    /// Resets a number: RST_STREAM joins the output, and what an active stream with it owes,
+    /// and `more` octets, become unreturned credit.
     ///
     /// # Errors
     ///
@@ -101,11 +101,12 @@ impl Endpoint {
 }
 
 // rule: 5.4 (own) Only blocks, replies, resets and returned credit take memory
-/// Makes room for a WINDOW_UPDATE where a stream is over, and what it owes is returned at once.
+/// Reserves room for a WINDOW_UPDATE where a stream is closed, and what it owes is returned at
+/// once.
 ///
 /// # Errors
 ///
-/// [`AllocError`] where it is, and an allocation was refused; nothing has changed.
+/// [`AllocError`] where an allocation was refused; nothing has changed.
 pub(crate) fn reserve_if_over(output: &mut Output, stream: Stream) -> Result<(), AllocError>
     ensures waiting { output.new.waiting ≡ output.old.waiting }
     ensures ended { output.new.ended ≡ output.old.ended }
@@ -122,12 +123,12 @@ pub(crate) fn reserve_if_over(output: &mut Output, stream: Stream) -> Result<(),
 }
 
 // rule: 5.4 (own) Only blocks, replies, resets and returned credit take memory
-/// Makes room for a WINDOW_UPDATE where `more` octets of the connection's window are returned at
-/// once.
+/// Reserves room for a WINDOW_UPDATE where `more` octets of the connection's window are
+/// returned at once.
 ///
 /// # Errors
 ///
-/// [`AllocError`] where they are, and an allocation was refused; nothing has changed.
+/// [`AllocError`] where an allocation was refused; nothing has changed.
 pub(crate) fn reserve_credit(output: &mut Output, more: u32) -> Result<(), AllocError>
     ensures waiting { output.new.waiting ≡ output.old.waiting }
     ensures ended { output.new.ended ≡ output.old.ended }

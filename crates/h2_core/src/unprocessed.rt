@@ -16,8 +16,9 @@ use h2_spec_log::Role;
 
 impl Endpoint {
     // rule: 6.8 Own streams above GOAWAY's last are reported as unprocessed
-    /// The next stream that the peer does not process (RFC 9113, section 6.8): the least active one
-    /// of a client above the last stream of the peer's GOAWAY. It takes no memory.
+    /// Returns the next stream that the peer does not process (RFC 9113, section 6.8): at a
+    /// client, the least active one above the last stream of the peer's GOAWAY. It takes no
+    /// memory.
     pub fn unprocessed(&self) -> Option<u32>
         ensures number { number_or_none result ≡ unprocessed_of_end self.now.role
             self.now.streams.entries self.now.goaway_received }
@@ -30,12 +31,12 @@ impl Endpoint {
     }
 
     // rule: 6.8 Own streams above GOAWAY's last are reported as unprocessed
-    /// The next stream that the peer does not process is reported, and over.
+    /// Closes the next stream that the peer does not process, which is reported.
     ///
     /// # Errors
     ///
     /// INTERNAL_ERROR where what the stream owes is returned at once, and an allocation was
-    /// refused: the connection has failed with it.
+    /// refused; the connection has failed with it.
     pub fn close_unprocessed(&mut self, id: u32) -> Result<(), Code>
         requires sound { IsSoundEnd (end_of self.old) }
         requires up { self.old.failed ≡ None }

@@ -25,19 +25,19 @@ pub struct Config {
     }) },
 }
 
-/// Why there is no such [`Config`]: the first of its values that is out of its bounds.
+/// Why a [`Config`] cannot be made: the first of its values that is out of its bounds.
 #[derive(Clone, Copy, Debug, PartialEq, Eq, Hash, Error)]
 pub enum BadConfig {
-    /// The table limit is above 65,536 octets.
+    /// K1: the table limit is above 65,536 octets.
     #[error("K1 TableLimit: the header table's limit is above 65536")]
     TableLimit,
-    /// The initial window isn't from 1 to 2^31 - 1 octets.
+    /// K2: the initial window is 0, or above 2,147,483,647 octets.
     #[error("K2 InitialWindow: the initial window isn't from 1 to 2147483647")]
     InitialWindow,
-    /// The number of streams isn't from 100 to 1,000.
+    /// K3: the number of streams is below 100, or above 1,000.
     #[error("K3 MaxStreams: the number of streams isn't from 100 to 1000")]
     MaxStreams,
-    /// The greatest frame isn't from 16,384 to 1,048,576 octets.
+    /// K4: the maximum frame size is below 16,384, or above 1,048,576 octets.
     #[error("K4 MaxFrame: the greatest frame isn't from 16384 to 1048576")]
     MaxFrame,
 }
@@ -45,14 +45,18 @@ pub enum BadConfig {
 impl Config {
     // contract: calls (own) A configuration is made of values within their bounds
     // rule: calls (own) A configuration is made of values within their bounds
-    /// The values: at most `table_limit` octets of header table at the peer's encoder, from 0 to
-    /// 65,536; windows of `initial_window` octets for new streams, from 1 to 2^31 - 1; and, at a
-    /// server, `max_streams` active streams, from 100 to 1,000. Frames are read whose payload has
-    /// 16,384 octets at most; see [`Config::with_max_frame`].
+    /// Makes a configuration of these values. Payloads of up to 16,384 octets are read, unless
+    /// [`Config::with_max_frame`] says otherwise.
+    ///
+    /// - `table_limit` is the most octets of the header table of the peer's encoder, from 0 to
+    ///   65,536.
+    /// - `initial_window` is the window of a new stream in octets, from 1 to 2,147,483,647.
+    /// - `max_streams` is the most active streams at a server, from 100 to 1,000.
     ///
     /// # Errors
     ///
-    /// [`BadConfig`] names the first of the three that is out of its bounds.
+    /// The first that holds of [`BadConfig::TableLimit`] (K1), [`BadConfig::InitialWindow`]
+    /// (K2) and [`BadConfig::MaxStreams`] (K3).
     pub fn new(table_limit: u32, initial_window: u32, max_streams: u32) -> Result<Config, BadConfig>
         ensures values { IfOk result (λ config. (config.table_limit ≡ table_limit)
             × (config.initial_window ≡ initial_window) × (config.max_streams ≡ max_streams)
@@ -88,18 +92,18 @@ impl Config {
 
     // contract: calls (own) A configuration is made of values within their bounds
     // rule: calls (own) A configuration is made of values within their bounds
-    /// The same values, with frames that are read whose payload has `max_frame` octets at most,
-    /// from 16,384 to 1,048,576: SETTINGS_MAX_FRAME_SIZE (RFC 9113, sections 4.2 and 6.5.2). It is
-    /// sent where it differs from the value sent last. A greater one holds from the SETTINGS on
-    /// that name it, a lesser one from their acknowledgment on.
+    /// Returns the same values with another SETTINGS_MAX_FRAME_SIZE: payloads of at most
+    /// `max_frame` octets are read, from 16,384 to 1,048,576 (RFC 9113, sections 4.2 and
+    /// 6.5.2). It is sent if it differs from the value sent last. A greater value holds once
+    /// SETTINGS with it are sent, a lesser one once they are acknowledged.
     ///
-    /// The connection's window stays 65,535 octets, so DATA with a greater payload ends the
-    /// connection all the same, with FLOW_CONTROL_ERROR where its stream is active. A field block
-    /// stays 65,552 octets at most.
+    /// The connection's window stays 65,535 octets, so DATA with a longer payload still ends
+    /// the connection, with FLOW_CONTROL_ERROR if its stream is active. The limit of a field
+    /// block stays 65,552 octets.
     ///
     /// # Errors
     ///
-    /// [`BadConfig::MaxFrame`] (K4) where it is out of its bounds.
+    /// [`BadConfig::MaxFrame`] (K4) where `max_frame` is out of its bounds.
     pub fn with_max_frame(self, max_frame: u32) -> Result<Config, BadConfig>
         ensures values { IfOk result (λ config. (config.table_limit ≡ self.table_limit)
             × (config.initial_window ≡ self.initial_window)
@@ -129,7 +133,8 @@ impl Config {
     }
 
     // rule: calls (own) A configuration is made of values within their bounds
-    /// The most octets of the peer's header table: SETTINGS_HEADER_TABLE_SIZE.
+    /// Returns SETTINGS_HEADER_TABLE_SIZE: the most octets of the header table of the peer's
+    /// encoder.
     pub fn table_limit(&self) -> u32
         ensures { result ≡ self.now.table_limit }
     {
@@ -137,7 +142,7 @@ impl Config {
     }
 
     // rule: calls (own) A configuration is made of values within their bounds
-    /// The octets of a new stream's window: SETTINGS_INITIAL_WINDOW_SIZE.
+    /// Returns SETTINGS_INITIAL_WINDOW_SIZE: the octets of a new stream's window.
     pub fn initial_window(&self) -> u32
         ensures { result ≡ self.now.initial_window }
     {
@@ -145,7 +150,7 @@ impl Config {
     }
 
     // rule: calls (own) A configuration is made of values within their bounds
-    /// The most active streams at a server: SETTINGS_MAX_CONCURRENT_STREAMS.
+    /// Returns SETTINGS_MAX_CONCURRENT_STREAMS: the most active streams at a server.
     pub fn max_streams(&self) -> u32
         ensures { result ≡ self.now.max_streams }
     {
@@ -153,7 +158,7 @@ impl Config {
     }
 
     // rule: calls (own) A configuration is made of values within their bounds
-    /// The most octets of a payload that is read: SETTINGS_MAX_FRAME_SIZE.
+    /// Returns SETTINGS_MAX_FRAME_SIZE: the most octets of a payload that is read.
     pub fn max_frame(&self) -> u32
         ensures { result ≡ self.now.max_frame }
     {
@@ -162,8 +167,8 @@ impl Config {
 }
 
 impl Default for Config {
-    /// 4,096 octets of table, 65,535 of window and 16,384 of a payload, which are a connection's
-    /// first values (RFC 9113, section 6.5.2), and 100 streams.
+    /// A table limit of 4,096 octets, a window of 65,535 and payloads of 16,384, which are the
+    /// initial values of RFC 9113, section 6.5.2, and 100 streams.
     fn default() -> Config
         ensures { (result.table_limit ≡ 4096) × (result.initial_window ≡ 65535)
             × (result.max_streams ≡ 100) × (result.max_frame ≡ 16384) }

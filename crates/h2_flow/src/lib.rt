@@ -1,6 +1,6 @@
-//! The settings of this end, each within its bounds, the peer's settings, flow-control windows and
-//! the two sides of a stream (RFC 9113, sections 5.1, 6.5 and 6.9): small values that take no
-//! memory, each step with its refusal.
+//! This end's settings, each within its bounds, the peer's settings, flow-control windows, and
+//! which sides of a stream have ended (RFC 9113, sections 5.1, 6.5 and 6.9): small values that
+//! take no memory. A step that breaks a rule is refused.
 #![tactic(auto)]
 
 mod config;

@@ -12,26 +12,27 @@ use h2_spec_log::Role;
 /// The six values of a peer's settings (RFC 9113, section 6.5.2).
 #[derive(Clone, Copy, Debug, PartialEq, Eq, Hash)]
 pub struct Settings {
-    /// SETTINGS_HEADER_TABLE_SIZE: the most octets of the peer's header table.
+    /// SETTINGS_HEADER_TABLE_SIZE: the most octets of the header table of the peer's decoder.
     pub header_table_size: u32,
-    /// SETTINGS_ENABLE_PUSH: whether it takes pushed streams.
+    /// SETTINGS_ENABLE_PUSH: whether the peer accepts pushed streams.
     pub enable_push: bool,
-    /// SETTINGS_MAX_CONCURRENT_STREAMS: how many streams may be active; none where it has not said.
+    /// SETTINGS_MAX_CONCURRENT_STREAMS: the most active streams; `None` if the peer has not
+    /// said.
     pub max_concurrent_streams: Option<u32>,
-    /// SETTINGS_INITIAL_WINDOW_SIZE: the octets of a new stream's window, at most 2<sup>31</sup> -
-    /// 1.
+    /// SETTINGS_INITIAL_WINDOW_SIZE: the octets of a new stream's window, at most
+    /// 2<sup>31</sup> - 1.
     pub initial_window_size: u32,
-    /// SETTINGS_MAX_FRAME_SIZE: the most octets of a payload that it reads, from 16,384 to
-    /// 2<sup>24</sup> - 1.
+    /// SETTINGS_MAX_FRAME_SIZE: the most octets of a payload that the peer reads, from 16,384
+    /// to 2<sup>24</sup> - 1.
     pub max_frame_size: u32,
-    /// SETTINGS_MAX_HEADER_LIST_SIZE: the greatest list that it takes; none where it has not said.
-    /// Advice alone.
+    /// SETTINGS_MAX_HEADER_LIST_SIZE: the greatest field list that the peer accepts, by its
+    /// advice; `None` if it has not said.
     pub max_header_list_size: Option<u32>,
 }
 
 impl Settings {
     // rule: 6.5.2 Each setting has its first value
-    /// The first values, which hold before any SETTINGS (RFC 9113, section 6.5.2).
+    /// Returns the initial values, which hold before any SETTINGS (RFC 9113, section 6.5.2).
     pub fn first() -> Settings
         ensures { result ≡ first_settings }
     {
@@ -55,14 +56,15 @@ impl Settings {
     // rule: 6.5.2 MAX_FRAME_SIZE below 16,384 or above 2^24-1 is PROTOCOL_ERROR
     // rule: 6.5.2 Settings of other identifiers are ignored
     // rule: 6.5.2 A value changes its own setting and no other; one at fault none
-    /// Applies a value of SETTINGS that an end of the role `from` has sent. Identifiers other than
-    /// 1 to 6 are ignored.
+    /// Applies a value of SETTINGS that an end of the role `from` has sent. Identifiers other
+    /// than 1 to 6 are ignored.
     ///
     /// # Errors
     ///
-    /// L3 [`BadSetting`] with PROTOCOL_ERROR where ENABLE_PUSH is above 1, or 1 from a server, and
-    /// where a frame size is out of its range; with FLOW_CONTROL_ERROR where an initial window is
-    /// above 2<sup>31</sup> - 1. The settings are as before.
+    /// L3 [`BadSetting`]; the settings are unchanged. Its code is PROTOCOL_ERROR where
+    /// ENABLE_PUSH is above 1, or 1 from a server, or MAX_FRAME_SIZE is not from 16,384 to
+    /// 2<sup>24</sup> - 1, and FLOW_CONTROL_ERROR where INITIAL_WINDOW_SIZE is above
+    /// 2<sup>31</sup> - 1.
     #[tactic(auto, unfolding(crate::proofs::Rules::settings_rules))]
     pub fn apply(&mut self, from: Role, id: u16, value: u32) -> Result<(), BadSetting>
         ensures ok { OnOk result ((value_fault from (id, value) ≡ None)

@@ -10,13 +10,13 @@ use crate::fault::Closed;
 pub struct StreamState {
     /// Whether the peer has sent END_STREAM: "half-closed (remote)".
     pub ended_in: bool,
-    /// Whether this end has: "half-closed (local)".
+    /// Whether this end has sent END_STREAM: "half-closed (local)".
     pub ended_out: bool,
 }
 
 impl StreamState {
     // rule: 5.1 (own) h2_flow: each side of a stream ends once, and only that side
-    /// A stream of which neither side has ended.
+    /// Returns the state of a stream of which neither side has ended.
     pub fn open() -> StreamState
         ensures { result ≡ record { ended_in = false; ended_out = false } }
     {
@@ -27,11 +27,11 @@ impl StreamState {
     }
 
     // rule: 5.1 (own) h2_flow: each side of a stream ends once, and only that side
-    /// The peer sends END_STREAM.
+    /// Records that the peer has sent END_STREAM.
     ///
     /// # Errors
     ///
-    /// L4 [`Closed`] where it has already; nothing has changed.
+    /// L4 [`Closed`] if it had before; nothing has changed.
     pub fn end_in(&mut self) -> Result<(), Closed>
         ensures ok { OnOk result ((self.old.ended_in ≡ false)
             × (self.new ≡ record self.old { ended_in = true })) }
@@ -45,11 +45,11 @@ impl StreamState {
     }
 
     // rule: 5.1 (own) h2_flow: each side of a stream ends once, and only that side
-    /// This end sends END_STREAM.
+    /// Records that this end has sent END_STREAM.
     ///
     /// # Errors
     ///
-    /// L4 [`Closed`] where it has already; nothing has changed.
+    /// L4 [`Closed`] if it had before; nothing has changed.
     pub fn end_out(&mut self) -> Result<(), Closed>
         ensures ok { OnOk result ((self.old.ended_out ≡ false)
             × (self.new ≡ record self.old { ended_out = true })) }
@@ -63,7 +63,7 @@ impl StreamState {
     }
 
     // rule: 5.1 (own) h2_flow: each side of a stream ends once, and only that side
-    /// Whether both sides have ended: the stream is over.
+    /// Returns whether both sides have ended.
     pub fn closed(&self) -> bool
         ensures { result ≡ (self.now.ended_in && self.now.ended_out) }
     {

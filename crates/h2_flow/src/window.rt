@@ -9,8 +9,9 @@ ghost use Rattle.h2_flow.specs.Window.{is_out_of_range};
 use crate::fault::{Exceeded, Overflow};
 use h2_frame::limits::GREATEST_WINDOW;
 
-/// How many octets may be sent (RFC 9113, section 6.9): from -2<sup>31</sup> to 2<sup>31</sup> - 1,
-/// since settings can lower a stream's window below zero (section 6.9.2).
+/// A flow-control window: the number of octets that may be sent (RFC 9113, section 6.9), from
+/// -2<sup>31</sup> to 2<sup>31</sup> - 1. SETTINGS can make a stream's negative (section
+/// 6.9.2).
 #[derive(Clone, Copy, Debug, PartialEq, Eq, Hash)]
 pub struct Window {
     value: i64,
@@ -19,7 +20,7 @@ pub struct Window {
 
 impl Window {
     // rule: 6.9.2 (own) h2_flow: a window may be negative, and is shifted
-    /// A window of so many octets, at most 2<sup>31</sup> - 1.
+    /// Makes a window of `octets`, at most 2<sup>31</sup> - 1.
     pub fn new(octets: u32) -> Window
         requires { octets ≤ greatest_window }
         ensures { result.value ≡ pos octets }
@@ -30,7 +31,7 @@ impl Window {
     }
 
     // rule: 6.9.2 (own) h2_flow: a window may be negative, and is shifted
-    /// The octets that may be sent; below zero none may.
+    /// Returns the number of octets that may be sent; none may if it is negative.
     pub fn value(&self) -> i64
         ensures { result ≡ self.now.value }
     {
@@ -38,12 +39,12 @@ impl Window {
     }
 
     // rule: 6.9.1 (own) h2_flow: a window gives as many octets as it has
-    /// Octets are sent.
+    /// Takes the octets of sent DATA out of the window.
     ///
     /// # Errors
     ///
-    /// L2 [`Exceeded`] where they are more than none and more than the window has (RFC 9113,
-    /// section 6.9.1); it is as before.
+    /// L2 [`Exceeded`] where `octets` is above what the window has; 0 may always be taken (RFC
+    /// 9113, section 6.9.1). The window is unchanged.
     pub fn take(&mut self, octets: u32) -> Result<(), Exceeded>
         ensures ok { OnOk result ((exceeds octets self.old.value ≡ false)
             × (self.new.value ≡ self.old.value -ℤ pos octets)) }
@@ -58,11 +59,12 @@ impl Window {
     }
 
     // rule: 6.9.1 (own) h2_flow: a window is filled up to 2^31-1
-    /// The window is widened, by WINDOW_UPDATE.
+    /// Widens the window, by WINDOW_UPDATE.
     ///
     /// # Errors
     ///
-    /// L1 [`Overflow`] where it would be above 2<sup>31</sup> - 1 (section 6.9.1); it is as before.
+    /// L1 [`Overflow`] where it would be above 2<sup>31</sup> - 1 (section 6.9.1); it is
+    /// unchanged.
     pub fn give(&mut self, octets: u32) -> Result<(), Overflow>
         ensures ok { OnOk result ((overflows_by octets self.old.value ≡ false)
             × (self.new.value ≡ self.old.value +ℤ pos octets)) }
@@ -80,12 +82,12 @@ impl Window {
     // rule: 6.9.2 (own) h2_flow: a window may be negative, and is shifted
     // rule: 6.9.2 (own) h2_flow: a shift above 2^31-1 is refused
     // rule: 6.9.2 (own) h2_flow: a shift below -2^31 is refused
-    /// The window is shifted by the difference of two initial windows (section 6.9.2).
+    /// Shifts the window by the difference of two initial windows (section 6.9.2).
     ///
     /// # Errors
     ///
-    /// L1 [`Overflow`] where it would be above 2<sup>31</sup> - 1 or below -2<sup>31</sup>; it is
-    /// as before.
+    /// L1 [`Overflow`] where it would be above 2<sup>31</sup> - 1 or below -2<sup>31</sup>; it
+    /// is unchanged.
     pub fn shift(&mut self, difference: i64) -> Result<(), Overflow>
         ensures ok { OnOk result ((is_out_of_range (self.old.value +ℤ difference) ≡ false)
             × (self.new.value ≡ self.old.value +ℤ difference)) }

@@ -14,7 +14,8 @@ use byteorder::{BigEndian, ByteOrder};
 
 impl FrameParts<'_> {
     // rule: 4.2 No payload above 16,777,215 octets is written
-    /// How many octets the payload has, or none where no head can say it.
+    /// Returns the payload's length in octets; `None` above 16,777,215, which no head can
+    /// encode.
     pub(crate) fn payload_length(&self) -> Option<u32>
         ensures { MatchOption result (16777215 < length (payload_octets self.now))
             (λ count. (count ≡ length (payload_octets self.now)) × (count ≤ 16777215)) }
@@ -36,7 +37,7 @@ impl FrameParts<'_> {
 
     // rule: 4.1 A frame is sent without its reserved bit and undefined flags
     // rule: 4.1 A frame is sent with the length of its payload
-    /// Appends the head of a payload of so many octets.
+    /// Appends the head of a payload of `length` octets.
     pub(crate) fn append_head(&self, length: u32, out: &mut Vec<u8>)
         requires small { length < 2 ^ 24 }
         requires capacity { vec_len out.old + 9 ≤ vec_capacity out.old }
@@ -75,7 +76,7 @@ impl FrameParts<'_> {
 }
 
 impl FixedFields {
-    // How many octets there are.
+    // The number of octets.
     fn len(self) -> usize
         ensures value { result ≡ length (fixed_octets self) }
         ensures small { result ≤ 8 }
@@ -110,8 +111,7 @@ impl FixedFields {
 }
 
 impl Body<'_> {
-    // How many octets there are; where that is more than a payload may have, some number above
-    // that.
+    // The number of octets, or, if it is above 16,777,215, some number above 16,777,215.
     fn len(self) -> usize
         ensures small { result ≤ 16777215 → result ≡ length (body_octets self.entry) }
         ensures large { 16777215 < result → 16777215 < length (body_octets self.entry) }

@@ -5,42 +5,43 @@ ghost use Rattle.h2_frame.specs.Codes.{code_number, name_of};
 
 use std::fmt;
 
-/// An error code that an end may give: why a stream is reset or a connection ends.
+/// An error code of RST_STREAM and GOAWAY: why a stream is reset or a connection ends (RFC
+/// 9113, section 7).
 #[derive(Clone, Copy, Debug, PartialEq, Eq, Hash)]
 pub enum Code {
     /// 0: no error.
     NoError,
-    /// 1: the peer broke a rule that no other code names.
+    /// 1: the peer broke a rule that has no more specific code.
     ProtocolError,
-    /// 2: an end met a fault of its own, as an allocation that was refused.
+    /// 2: a fault of the end itself, such as a refused allocation.
     InternalError,
-    /// 3: the peer passed a window.
+    /// 3: the peer exceeded a flow-control window.
     FlowControlError,
     /// 4: the peer didn't acknowledge SETTINGS in time.
     SettingsTimeout,
-    /// 5: a frame came on a stream whose sending side was closed.
+    /// 5: a frame came after its stream was half-closed.
     StreamClosed,
-    /// 6: a frame has a length that its kind, or the limit, doesn't allow.
+    /// 6: a frame's length is not one that its type, or the limit, allows.
     FrameSizeError,
-    /// 7: a stream was refused before any of it was handed out.
+    /// 7: a stream was refused before any of it was processed.
     RefusedStream,
-    /// 8: a stream isn't wanted any more.
+    /// 8: a stream is no longer needed.
     Cancel,
-    /// 9: a field block doesn't decode.
+    /// 9: a field block cannot be decoded.
     CompressionError,
-    /// 10: a connection that CONNECT made failed.
+    /// 10: the connection that a CONNECT request established failed.
     ConnectError,
-    /// 11: the peer asks for more work than is given.
+    /// 11: the peer causes too much load.
     EnhanceYourCalm,
-    /// 12: the transport isn't safe enough.
+    /// 12: the transport is not secure enough.
     InadequateSecurity,
-    /// 13: HTTP/1.1 is asked for.
+    /// 13: HTTP/1.1 is required instead of HTTP/2.
     Http11Required,
 }
 
 impl Code {
     // rule: 7 Each error code has its number
-    /// The code's number in RFC 9113, section 7, from 0 to 13.
+    /// Returns the code's number (RFC 9113, section 7), from 0 to 13.
     pub fn number(self) -> u32
         ensures { result ≡ code_number self }
     {
@@ -63,8 +64,8 @@ impl Code {
     }
 
     // rule: 7 Each error code has its number
-    /// The code of a number, or none for a number above 13, which RFC 9113, section 7, doesn't
-    /// name.
+    /// Returns the code with this number; `None` above 13, where RFC 9113, section 7, has no
+    /// codes.
     pub fn from_number(number: u32) -> Option<Code>
         ensures some { IfSome result (λ code. code_number code ≡ number) }
         ensures none { IfNone result (13 < number) }
@@ -89,7 +90,7 @@ impl Code {
     }
 
     // rule: 7 Each error code has its name
-    /// The code's name in RFC 9113, section 7, as `PROTOCOL_ERROR`.
+    /// Returns the code's name (RFC 9113, section 7), such as `PROTOCOL_ERROR`.
     pub fn name(self) -> &'static str
         ensures { result.now ≡ name_of self }
     {

@@ -1,4 +1,4 @@
-//! Frames whose payload is lent, as they are read.
+//! Frames that are read, whose payload is lent.
 
 ghost use Rattle.std.specs.Prelude.{◌≡◌, ◌≤◌, [], length};
 ghost use Rattle.h2_frame.specs.Frames.{frame_of};
@@ -14,88 +14,89 @@ use thiserror::Error;
 /// A frame whose payload is lent.
 #[derive(Clone, Copy, Debug, PartialEq, Eq)]
 pub enum FrameRef<'a> {
-    /// Octets of a message's body (RFC 9113, section 6.1).
+    /// DATA: octets of a message's body (RFC 9113, section 6.1).
     Data {
         /// The stream, not 0.
         stream: u32,
-        /// Whether it is the last frame that its sender sends on the stream (END_STREAM).
+        /// Whether END_STREAM is set: the sender sends nothing more on the stream.
         end: bool,
         /// The octets, without padding.
         octets: &'a [u8],
-        /// How many octets of padding there were, where there was a pad length.
+        /// The pad length, if there was one (PADDED).
         pad: Option<u8>,
     },
-    /// The beginning of a field block (section 6.2).
+    /// HEADERS: the beginning of a field block (section 6.2).
     Headers {
         /// The stream, not 0.
         stream: u32,
-        /// Whether nothing follows the block on the stream (END_STREAM).
+        /// Whether END_STREAM is set: nothing follows the block on the stream.
         end: bool,
-        /// Whether the block ends with this frame (END_HEADERS).
+        /// Whether END_HEADERS is set: the block ends with this frame.
         whole: bool,
         /// The block's octets in this frame.
         fragment: &'a [u8],
-        /// How many octets of padding there were, where there was a pad length.
+        /// The pad length, if there was one (PADDED).
         pad: Option<u8>,
-        /// The five octets of a priority, where there were any; they are ignored.
+        /// The five octets of the priority, if there was one (PRIORITY); they are ignored.
         priority: Option<[u8; 5]>,
     },
-    /// A priority, which is ignored (section 6.3).
+    /// PRIORITY, which is ignored (section 6.3).
     Priority {
         /// The stream, not 0.
         stream: u32,
-        /// The octets.
+        /// The five octets of the priority.
         octets: [u8; 5],
     },
-    /// A stream ends at once (RST_STREAM, section 6.4).
+    /// RST_STREAM: the stream ends at once (section 6.4).
     Reset {
         /// The stream, not 0.
         stream: u32,
         /// The error code (section 7); any is allowed.
         code: u32,
     },
-    /// Settings, or that the settings of the peer were applied (section 6.5).
+    /// SETTINGS: values, or the acknowledgment of the peer's values (section 6.5).
     Settings {
-        /// Whether it acknowledges settings. Then it has no pairs.
+        /// Whether ACK is set: the peer's values were applied. Then there are no pairs.
         ack: bool,
         /// Identifiers and values, in order.
         pairs: Pairs<'a>,
     },
-    /// Eight octets to be sent back, or that were (section 6.7).
+    /// PING: eight octets to be sent back, or the answer with them (section 6.7).
     Ping {
-        /// Whether it answers one.
+        /// Whether ACK is set: it is the answer.
         ack: bool,
         /// The octets.
         octets: [u8; 8],
     },
-    /// The connection takes no further streams (section 6.8).
+    /// GOAWAY: the sender accepts no further streams (section 6.8).
     GoAway {
-        /// The greatest stream that its sender has taken, less than 2<sup>31</sup>.
+        /// The last stream that the sender has processed, less than 2<sup>31</sup>.
         last: u32,
         /// The error code (section 7); any is allowed.
         code: u32,
         /// Additional debug data.
         debug: &'a [u8],
     },
-    /// More octets may be sent (section 6.9).
+    /// WINDOW_UPDATE: more octets may be sent (section 6.9).
     WindowUpdate {
         /// The stream, or 0 for the connection.
         stream: u32,
-        /// How many octets more, less than 2<sup>31</sup>; 0 is a fault, which isn't checked here.
+        /// The number of further octets, less than 2<sup>31</sup>; 0 is a fault, which is not
+        /// checked here.
         increment: u32,
     },
-    /// More of a field block (section 6.10).
+    /// CONTINUATION: the next part of a field block (section 6.10).
     Continuation {
         /// The stream, not 0.
         stream: u32,
-        /// Whether the block ends with this frame (END_HEADERS).
+        /// Whether END_HEADERS is set: the block ends with this frame.
         whole: bool,
         /// The block's octets in this frame.
         fragment: &'a [u8],
     },
-    /// A frame of an unknown kind, as it came (section 5.5).
+    /// A frame of an unknown type, as it was received (section 5.5).
     Unknown {
-        /// The number of its kind, 10 or above.
+        /// Its type, 10 or above.
         kind: u8,
         /// Its flags.
         flags: u8,
@@ -110,7 +111,7 @@ pub enum FrameRef<'a> {
 impl FrameRef<'_> {
     // contract: 6 (own) A frame says its type and its stream, 0 for the connection
     // rule: 6 (own) A frame says its type and its stream, 0 for the connection
-    /// The frame's kind.
+    /// Returns the frame's type.
     pub fn kind(self) -> Kind
         ensures { result ≡ kind_of_frame (frame_of self.entry) }
     {
@@ -130,7 +131,7 @@ impl FrameRef<'_> {
 
     // contract: 6 (own) A frame says its type and its stream, 0 for the connection
     // rule: 6 (own) A frame says its type and its stream, 0 for the connection
-    /// The frame's stream; 0 is the connection.
+    /// Returns the frame's stream, 0 for the connection.
     pub fn stream(self) -> u32
         ensures { result ≡ stream_of (frame_of self.entry) }
     {
@@ -148,8 +149,8 @@ impl FrameRef<'_> {
 
     // contract: 6 (own) A frame says how many octets its payload has, padding included
     // rule: 6 (own) A frame says how many octets its payload has, padding included
-    /// How many octets the frame's payload has, padding and pad length included (RFC 9113, section
-    /// 4.1).
+    /// Returns the number of octets of the frame's payload, pad length and padding included
+    /// (RFC 9113, section 4.1).
     pub fn payload_len(self) -> usize
         ensures { result ≡ length (payload_of (frame_of self.entry)) }
     {
@@ -172,7 +173,7 @@ impl FrameRef<'_> {
     }
 }
 
-// How many octets the pad length and the padding are.
+// The number of octets of the pad length and the padding.
 pub(crate) fn padding_len(pad: Option<u8>) -> usize
     ensures value { result ≡ length (padded [] pad) }
     ensures small { result ≤ 256 }
@@ -183,7 +184,7 @@ pub(crate) fn padding_len(pad: Option<u8>) -> usize
     }
 }
 
-// How many octets the priority is.
+// The number of octets of the priority.
 fn priority_len(priority: Option<[u8; 5]>) -> usize
     ensures value { result ≡ length (prioritized [] priority) }
     ensures small { result ≤ 5 }
@@ -194,10 +195,10 @@ fn priority_len(priority: Option<[u8; 5]>) -> usize
     }
 }
 
-/// Why a payload isn't read.
+/// Why a payload cannot be read.
 #[derive(Clone, Copy, Debug, PartialEq, Eq, Hash, Error)]
 pub enum PayloadError {
-    /// The payload breaks a rule of its kind; the connection ends with this code.
+    /// The payload breaks a rule of its frame type; the connection ends with this code.
     #[error("invalid payload: {0}")]
     Code(Code),
 }

@@ -1,4 +1,4 @@
-//! The parts of a frame, as they are written.
+//! The parts of a frame that is written.
 
 ghost use Rattle.std.specs.Prelude.{◌≡◌, ◌^◌, nat_lt, ◌&&◌, flat_map};
 ghost use Rattle.h2_frame.specs.Frames.{Data, Headers, Priority, Reset, Settings, Ping, GoAway};
@@ -19,7 +19,7 @@ pub(crate) const ABOVE_31_BITS: u32 = 0x8000_0000;
 /// The fields of fixed length between a pad length and a body.
 #[derive(Clone, Copy)]
 pub(crate) enum FixedFields {
-    /// No octet.
+    /// None.
     Nothing,
     /// A priority.
     Priority([u8; 5]),
@@ -40,22 +40,22 @@ pub(crate) enum Body<'a> {
     Pairs(&'a [(u16, u32)]),
 }
 
-/// What is written of a frame, whatever its kind.
+/// The parts of a frame of any type that is written.
 #[derive(Clone, Copy)]
 pub(crate) struct FrameParts<'a> {
-    /// The kind.
+    /// The type.
     pub(crate) kind: Kind,
     /// The flags.
     pub(crate) flags: u8,
     /// The stream.
     pub(crate) stream: u32,
-    /// Whether the values can be written.
+    /// Whether the values may be written.
     pub(crate) has_good_values: bool,
-    /// How many octets of padding there are, where there is a pad length.
+    /// The pad length, if there is one.
     pub(crate) pad: Option<u8>,
     /// The fields of fixed length before the body.
     pub(crate) fixed_fields: FixedFields,
-    /// What precedes the padding.
+    /// The octets between those fields and the padding.
     pub(crate) body: Body<'a>,
 }
 
@@ -188,7 +188,7 @@ impl<'a> FrameParts<'a> {
     }
 
     // rule: 4.1 (own) A frame of an unknown type is sent with a type from 10 on
-    /// The parts of a frame of an unknown kind.
+    /// The parts of a frame of an unknown type.
     pub(crate) fn unknown(kind: u8, flags: u8, stream: u32, payload: &'a [u8]) -> FrameParts<'a>
         ensures { Describes result (Unknown kind flags stream payload.now) }
     {
@@ -200,7 +200,7 @@ impl<'a> FrameParts<'a> {
     }
 
     // rule: 4.1 A frame is sent without its reserved bit and undefined flags
-    /// Whether the stream's number has 31 bits, and a frame of the kind may be on it.
+    /// Whether the stream's number has 31 bits, and a frame of this type may be on it.
     pub(crate) fn has_good_stream(&self) -> bool
         ensures { result ≡ (nat_lt self.now.stream (2 ^ 31)
             && stream_fits self.now.kind self.now.stream) }
@@ -209,7 +209,7 @@ impl<'a> FrameParts<'a> {
     }
 
     // rule: 4.1 A frame is sent without its reserved bit and undefined flags
-    // The parts of a payload that is this body, with no flags.
+    // The parts of a frame without flags whose payload is this body.
     fn plain(kind: Kind, stream: u32, body: &'a [u8]) -> FrameParts<'a>
         ensures { IsPlain result kind stream body.now }
     {
@@ -234,8 +234,8 @@ fn complete_pairs(octets: &[u8]) -> &[u8]
     &octets[..count * PAIR]
 }
 
-// Reads each pair, from which a proof knows that its numbers have 16 and 32 bits. An optimizing
-// compiler drops it.
+// Reads each pair, so that a proof knows that its numbers have 16 and 32 bits. An optimizing
+// compiler removes the loop.
 fn read_each(pairs: &[(u16, u32)])
     ensures { ArePairs pairs.now }
 {

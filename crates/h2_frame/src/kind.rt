@@ -1,38 +1,38 @@
-//! Kinds of frames (RFC 9113, section 6).
+//! Frame types (RFC 9113, section 6).
 
 ghost use Rattle.std.specs.Prelude.{◌≡◌};
 ghost use Rattle.h2_frame.specs.Codes.{kind_of, number_of};
 
-/// The kind of a frame.
+/// The type of a frame.
 #[derive(Clone, Copy, Debug, PartialEq, Eq, Hash)]
 pub enum Kind {
-    /// 0: octets of a message's body.
+    /// 0, DATA: octets of a message's body.
     Data,
-    /// 1: a field block's beginning.
+    /// 1, HEADERS: the beginning of a field block.
     Headers,
-    /// 2: a priority, which is ignored.
+    /// 2, PRIORITY, which is ignored.
     Priority,
-    /// 3: a stream ends with a code.
+    /// 3, RST_STREAM: a stream ends with an error code.
     RstStream,
-    /// 4: settings, or that they were applied.
+    /// 4, SETTINGS: values, or the acknowledgment of the peer's values.
     Settings,
-    /// 5: a push, which is refused.
+    /// 5, PUSH_PROMISE, which is refused.
     PushPromise,
-    /// 6: eight octets to be sent back, or that were.
+    /// 6, PING: eight octets to be sent back, or the answer with them.
     Ping,
-    /// 7: the connection takes no further streams.
+    /// 7, GOAWAY: the sender accepts no further streams.
     GoAway,
-    /// 8: more octets may be sent.
+    /// 8, WINDOW_UPDATE: more octets may be sent.
     WindowUpdate,
-    /// 9: more of a field block.
+    /// 9, CONTINUATION: the next part of a field block.
     Continuation,
-    /// Any other number: [`Kind::from_number`] gives it for 10 and above alone.
+    /// Another type, by its number; [`Kind::from_number`] returns this only for 10 and above.
     Unknown(u8),
 }
 
 impl Kind {
     // rule: 6 Each type of frame has its number
-    /// The kind that an octet of a frame's head names.
+    /// Returns the frame type with this number.
     #[tactic(auto, unfolding(crate::specs::Codes::kind_of))]
     pub fn from_number(number: u8) -> Kind
         ensures { result ≡ kind_of number }
@@ -53,7 +53,7 @@ impl Kind {
     }
 
     // rule: 6 Each type of frame has its number
-    /// The number of the kind.
+    /// Returns the type's number.
     pub fn number(self) -> u8
         ensures { result ≡ number_of self }
     {

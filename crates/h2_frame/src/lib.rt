@@ -1,10 +1,11 @@
-//! The frames of HTTP/2 (RFC 9113, sections 4.1 and 6): heads, payloads and their faults, and
+//! HTTP/2 frames (RFC 9113, sections 4.1 and 6): reading heads and payloads, their faults, and
 //! writing.
 //!
-//! A frame's nine octets of head are read by [`head`], and checked by [`head_fault`] when no octet
-//! of its payload has come yet. [`pad_length`] checks the payload, and [`payload_frame`] reads it
-//! and lends it: reading allocates nothing. [`write`] appends the one encoding of a frame that
-//! is owned, and [`write_ref`] that of a frame whose payload is lent.
+//! [`head`] reads the nine octets of a frame header, here the *head*, and [`head_fault`] checks
+//! it before any octet of the payload has come. [`pad_length`] checks the payload, and
+//! [`payload_frame`] returns the frame, whose payload is lent: reading allocates nothing.
+//! [`write`] appends the encoding of a frame that owns its payload, [`write_ref`] that of one
+//! whose payload is lent.
 #![tactic(auto)]
 
 mod appending;

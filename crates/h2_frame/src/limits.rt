@@ -1,59 +1,59 @@
 //! The limits of this profile, each number once.
 //!
-//! Some are RFC 9113's, and those marked "own" are this profile's, where the RFC leaves the number
-//! open. Beside each stands the name of its definition, if `h2_spec_log` or the crate that uses it
-//! has one. HPACK's limit on
-//! the octets of an integer is `hpack_text::MAX_CONTINUATION_OCTETS`.
+//! Some are RFC 9113's; those marked "own" are this profile's, where the RFC leaves the number
+//! open. Beside a limit stands the name of its definition, if `h2_spec_log` or the crate that
+//! uses it has one. HPACK's limit on the octets of an integer is
+//! `hpack_text::MAX_CONTINUATION_OCTETS`.
 
-/// The most octets of a payload that a head can say: 24 bits (RFC 9113, section 4.1). A frame with
-/// more isn't written.
+/// The greatest payload, in octets, that a head can encode: 24 bits (RFC 9113, section 4.1). A
+/// frame with a longer one is not written.
 pub const MAX_PAYLOAD: u32 = 0xff_ffff;
 
-/// The most octets of a payload that an end reads until its SETTINGS say more, and the least number
-/// that SETTINGS_MAX_FRAME_SIZE may have (RFC 9113, sections 4.2 and 6.5.2): `least_max_frame`.
+/// The greatest payload, in octets, that an end reads until its SETTINGS raise that, and the
+/// least SETTINGS_MAX_FRAME_SIZE (RFC 9113, sections 4.2 and 6.5.2): `least_max_frame`.
 pub const LEAST_MAX_FRAME: u32 = 16_384;
 
 /// The greatest SETTINGS_MAX_FRAME_SIZE, in octets, that an end may be configured with (own; RFC
 /// 9113, section 6.5.2): `most_max_frame`.
 pub const MOST_MAX_FRAME: u32 = 1_048_576;
 
-/// The most octets of a payload that an end sends, whatever its peer reads (own; RFC 9113, section
-/// 4.2): `max_frame_size_sent`.
+/// The greatest payload, in octets, that an end sends, whatever its peer reads (own; RFC 9113,
+/// section 4.2): `max_frame_size_sent`.
 pub const MAX_FRAME_SENT: u32 = 65_536;
 
 /// The most octets of a field block, over all its frames (own; RFC 9113, sections 4.3 and 10.5.1).
 pub const MAX_BLOCK: usize = 65_552;
 
-/// The greatest size of a header list, in octets as HPACK counts them, that is reported or sent
-/// (own; RFC 9113, sections 6.5.2 and 10.5.1): `max_list`.
+/// The greatest size of a field list that is reported or sent, in octets: name, value and 32
+/// for each field (own; RFC 9113, sections 6.5.2 and 10.5.1): `max_list`.
 pub const MAX_LIST: u32 = 65_536;
 
-/// With so many octets of waiting output, or more, an end refuses its own calls, and returns no
-/// credit of its own accord (own; RFC 9113, section 10.5): `full_output`.
+/// With this many octets of queued output, or more, an end refuses calls that send, and returns
+/// no credit of its own accord (own; RFC 9113, section 10.5): `full_output`.
 pub const FULL_OUTPUT: usize = 65_536;
 
-/// The waiting output, in octets, that no reply may exceed (own; RFC 9113, section 10.5):
-/// `max_output`.
+/// The most octets of queued output that a reply, or the reset of a stream, may lead to (own;
+/// RFC 9113, section 10.5): `max_output`.
 pub const MAX_OUTPUT: usize = 262_144;
 
 /// The most octets of a body that one call sends (own): `max_data`.
 pub const MAX_DATA: usize = 65_536;
 
-/// The most streams that an end resets on a connection, in all its life (own; RFC 9113, section
-/// 10.5): `max_resets`.
+/// The most streams that an end resets during a connection (own; RFC 9113, section 10.5):
+/// `max_resets`.
 pub const MAX_RESETS: u32 = 1_000;
 
-/// The least SETTINGS_MAX_CONCURRENT_STREAMS that a server may be configured with, and how many
-/// streams a client keeps active until the server's SETTINGS have come (own; RFC 9113, section
-/// 5.1.2): `least_max_streams`.
+/// The least SETTINGS_MAX_CONCURRENT_STREAMS that a server may be configured with, and the most
+/// streams that a client keeps active until the server's SETTINGS have come (own; RFC 9113,
+/// section 5.1.2): `least_max_streams`.
 pub const LEAST_MAX_STREAMS: u32 = 100;
 
 /// The greatest SETTINGS_MAX_CONCURRENT_STREAMS that a server may be configured with, and the most
 /// streams that a client keeps active (own; RFC 9113, section 5.1.2): `most_max_streams`.
 pub const MOST_MAX_STREAMS: u32 = 1_000;
 
-/// The window of a connection at first, and of a stream until SETTINGS say otherwise, in octets
-/// (RFC 9113, section 6.9.2): `first_window`.
+/// The initial window of a connection, and of a stream until SETTINGS change it, in octets (RFC
+/// 9113, section 6.9.2): `first_window`.
 pub const FIRST_WINDOW: u32 = 65_535;
 
 /// The greatest window, in octets (RFC 9113, section 6.9.1), and the greatest
@@ -63,20 +63,20 @@ pub const GREATEST_WINDOW: u32 = 0x7fff_ffff;
 /// The greatest stream identifier (RFC 9113, section 5.1.1): 31 bits.
 pub const GREATEST_STREAM: u32 = 0x7fff_ffff;
 
-/// The size of a header table at first, in octets as HPACK counts them: the first
-/// SETTINGS_HEADER_TABLE_SIZE (RFC 9113, section 6.5.2).
+/// The initial SETTINGS_HEADER_TABLE_SIZE, in octets: name, value and 32 for each entry (RFC
+/// 9113, section 6.5.2).
 pub const FIRST_TABLE: u32 = 4_096;
 
 /// The greatest SETTINGS_HEADER_TABLE_SIZE, in octets, that an end may be configured with (own; RFC
 /// 9113, section 6.5.2): `max_table_limit`.
 pub const MAX_TABLE_LIMIT: u32 = 65_536;
 
-/// The greatest header table, in octets as HPACK counts them, that an end's encoder uses, whatever
-/// its peer allows (own; RFC 7541, section 4.2).
+/// The greatest header table, in octets, that an end's encoder uses, whatever its peer allows
+/// (own; RFC 7541, section 4.2).
 pub const MAX_ENCODER_TABLE: u32 = 4_096;
 
-/// The octets of a value of SETTINGS: an identifier of two, and a value of four (RFC 9113, section
-/// 6.5.1).
+/// The octets of one setting in SETTINGS: two of identifier and four of value (RFC 9113,
+/// section 6.5.1).
 pub const PAIR: usize = 6;
 
 /// The octets of a RST_STREAM (RFC 9113, section 6.4), and of a WINDOW_UPDATE (section 6.9): a
@@ -87,6 +87,6 @@ pub const SMALL_FRAME: usize = 13;
 /// a head, and eight more.
 pub const LARGE_FRAME: usize = 17;
 
-/// The most octets of a request's body that a server answers with its text, and that a client posts
-/// (own): `greatest_body`.
+/// The most octets of a request's body that a server echoes, and that a client posts (own):
+/// `greatest_body`.
 pub const GREATEST_BODY: usize = 1_048_576;

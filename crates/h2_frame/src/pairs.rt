@@ -7,7 +7,7 @@ ghost use Rattle.h2_frame.specs.Pairs.{lent_pairs, pairs_left};
 use crate::limits::PAIR;
 use byteorder::{BigEndian, ByteOrder};
 
-/// The pairs of a SETTINGS frame, identifier and value, in the octets that encode them.
+/// The pairs of identifier and value of a SETTINGS frame, lent as the octets that encode them.
 #[derive(Clone, Copy, Debug, PartialEq, Eq)]
 pub struct Pairs<'a> {
     pub(crate) octets: &'a [u8],
@@ -15,14 +15,14 @@ pub struct Pairs<'a> {
 
 impl<'a> Pairs<'a> {
     // contract: 6.5.1 The pairs are 16 bits of identifier and 32 of value, in order
-    /// How many pairs there are.
+    /// Returns the number of pairs.
     pub fn len(&self) -> usize
         ensures { result ≡ length (lent_pairs self.now) }
     {
         self.octets.len() / PAIR
     }
 
-    /// Whether there is none.
+    /// Returns whether there are no pairs.
     pub fn is_empty(&self) -> bool
         ensures { result ≡ (length (lent_pairs self.now) == 0) }
     {
@@ -30,7 +30,7 @@ impl<'a> Pairs<'a> {
     }
 
     // rule: 6.5.1 The pairs are 16 bits of identifier and 32 of value, in order
-    /// The pairs in order.
+    /// Returns an iterator over the pairs, in order.
     pub fn iter(&self) -> PairIter<'a>
         ensures { pairs_left result ≡ lent_pairs self.now }
     {
@@ -40,7 +40,7 @@ impl<'a> Pairs<'a> {
     }
 }
 
-/// Goes over the pairs of a SETTINGS frame in order.
+/// Iterates over the pairs of a SETTINGS frame, in order.
 #[derive(Debug, Drop)]
 pub struct PairIter<'a> {
     octets: &'a [u8],

@@ -20,16 +20,17 @@ use byteorder::{BigEndian, ByteOrder};
 // rule: 6.1 A fault of a payload is known at its last octet
 // contract: 6.2 Padding of HEADERS above what the priority leaves is PROTOCOL_ERROR
 // rule: 6.2 Padding of HEADERS above what the priority leaves is PROTOCOL_ERROR
-/// The pad length of a payload after a head without fault, or none where the payload begins with
-/// none (RFC 9113, sections 6.1 and 6.2). The slice has the head's length. It allocates nothing.
+/// Checks the payload after a head without fault, and returns its pad length; `None` if it has
+/// none (RFC 9113, sections 6.1 and 6.2). The slice has the head's length. It allocates
+/// nothing.
 ///
 /// # Errors
 ///
-/// The code of the payload's fault: PROTOCOL_ERROR where the pad length of DATA isn't less than the
-/// payload's length, or that of HEADERS is above what remains for the fragment.
+/// PROTOCOL_ERROR where the pad length of DATA is not less than the payload's length, or that
+/// of HEADERS is above the number of octets that follow it and the priority.
 #[tactic(auto, unfolding(crate::proofs::Rules::payload_rules))]
 pub fn pad_length(head: &Head, payload: &[u8]) -> Result<Option<u8>, Code>
-    // The head has no fault of its form, but for the limit.
+    // The head has no fault, except perhaps a length above the limit.
     requires form { form_fault head.now ≡ None }
     requires complete { length payload.now ≡ head.now.length }
     ensures { MatchResult result
@@ -61,15 +62,15 @@ pub fn pad_length(head: &Head, payload: &[u8]) -> Result<Option<u8>, Code>
 // contract: 6.5 ACK of SETTINGS and PING is read from its bit
 // contract: 6.7 PING is read with its octets
 // contract: 7 A received code is any number of 32 bits, and an unknown one does nothing
-/// Checks and reads the payload after a head without fault, and lends it (RFC 9113, section 6). The
-/// slice has the head's length. It allocates nothing.
+/// Checks the payload after a head without fault, and returns the frame, whose payload is lent
+/// (RFC 9113, section 6). The slice has the head's length. It allocates nothing.
 ///
 /// # Errors
 ///
-/// [`PayloadError::Code`] with the code of the payload's fault, which [`pad_length`] answers.
+/// [`PayloadError::Code`] with the code of the payload's fault, which [`pad_length`] returns.
 #[tactic(auto, unfolding(crate::proofs::Rules::form_rules))]
 pub fn read_payload<'a>(head: &Head, payload: &'a [u8]) -> Result<FrameRef<'a>, PayloadError>
-    // The head has no fault of its form, but for the limit.
+    // The head has no fault, except perhaps a length above the limit.
     requires form { form_fault head.now ≡ None }
     requires complete { length payload.now ≡ head.now.length }
     ensures { MatchResult result
@@ -91,9 +92,9 @@ pub fn read_payload<'a>(head: &Head, payload: &'a [u8]) -> Result<FrameRef<'a>, 
 // rule: 6.9 The reserved bit of WINDOW_UPDATE is ignored
 // rule: 6.10 CONTINUATION is a fragment, and END_HEADERS ends the block
 // rule: 7 A received code is any number of 32 bits, and an unknown one does nothing
-/// The frame of a payload without fault, after a head without fault (RFC 9113, section 6); the
-/// payload is lent. The slice has the head's length, and `pad` is what [`pad_length`] has answered
-/// for it. It allocates nothing.
+/// Returns the frame of a payload without fault, after a head without fault (RFC 9113, section
+/// 6); the payload is lent. The slice has the head's length, and `pad` is what [`pad_length`]
+/// returned for it. It allocates nothing.
 #[tactic(auto, unfolding(crate::proofs::Rules::payload_rules))]
 #[inline(always)]
 pub fn payload_frame<'a>(head: &Head, pad: Option<u8>, payload: &'a [u8]) -> FrameRef<'a>
@@ -125,7 +126,7 @@ pub fn payload_frame<'a>(head: &Head, pad: Option<u8>, payload: &'a [u8]) -> Fra
             ack,
             pairs: Pairs { octets: payload },
         },
-        // A head of this kind has a fault.
+        // A head of this type has a fault.
         Kind::PushPromise => unreachable!(),
         Kind::Ping => FrameRef::Ping {
             ack,
@@ -195,7 +196,7 @@ fn without_padding(pad: Option<u8>, payload: &[u8]) -> &[u8]
 }
 
 // rule: 6.2 HEADERS has a pad length, a priority, the fragment and the padding
-// What follows the priority, and the priority; or all of the body.
+// The octets after the priority, and the priority; all of the body if it has none.
 fn without_priority(flags: u8, body: &[u8]) -> (&[u8], Option<[u8; 5]>)
     requires { has_priority flags ≡ true → 5 ≤ length body.now }
     ensures { IsPrioritized (has_priority flags) body.now result.0.now result.1 }

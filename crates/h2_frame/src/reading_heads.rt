@@ -29,7 +29,7 @@ pub(crate) const PRIORITY: u8 = 0x20;
 // rule: 4.1 A head is 24 bits of length, 8 of type, 8 of flags, 1 + 31 of stream
 // contract: 4.1 The reserved bit of a head is ignored when it is received
 // rule: 4.1 The reserved bit of a head is ignored when it is received
-/// Reads the nine octets with which a frame begins. The reserved bit is dropped (RFC 9113, section
+/// Reads the nine octets of a frame header; the reserved bit is ignored (RFC 9113, section
 /// 4.1).
 #[tactic(auto, unfolding(crate::specs::Heads::head_of))]
 pub fn head(octets: &[u8; HEAD_LEN]) -> Head
@@ -57,19 +57,19 @@ pub fn head(octets: &[u8; HEAD_LEN]) -> Head
 // rule: 6.6 PUSH_PROMISE is PROTOCOL_ERROR, since no end here allows push
 // contract: 6.7 PING has eight octets
 // contract: 6.7 PING on a stream other than 0 is PROTOCOL_ERROR
-/// The fault of a head, where payloads may have at most `limit` octets: the first of these, or
-/// none.
+/// Returns the fault of a head where payloads may have at most `limit` octets, if it has one.
+/// It is the first of these:
 ///
 /// 1. A length above the limit: FRAME_SIZE_ERROR.
 /// 2. PUSH_PROMISE, which this profile refuses: PROTOCOL_ERROR.
-/// 3. A stream that the kind can't be on: PROTOCOL_ERROR.
-/// 4. A length that the kind can't have: FRAME_SIZE_ERROR.
+/// 3. A stream that a frame of this type may not be on: PROTOCOL_ERROR.
+/// 4. A length that the type and the flags do not allow: FRAME_SIZE_ERROR.
 #[tactic(auto, unfolding(crate::specs::Heads::head_fault, crate::specs::Heads::form_fault))]
 pub fn head_fault(head: &Head, limit: u32) -> Option<HeadFault>
     ensures value { result ≡ fault_of head.now limit }
 
-    // Where it is none, the length is within the limit, and the head has no fault of its form, but
-    // for the limit.
+    // Without a fault, the length is within the limit, and the head has none of the other
+    // faults.
     ensures within { result ≡ None → head.now.length ≤ limit }
     ensures form { result ≡ None → form_fault head.now ≡ None }
 {
@@ -96,7 +96,7 @@ pub fn head_fault(head: &Head, limit: u32) -> Option<HeadFault>
 // rule: 6.7 PING on a stream other than 0 is PROTOCOL_ERROR
 // rule: 6.8 GOAWAY on a stream other than 0 is PROTOCOL_ERROR
 // rule: 6.10 CONTINUATION on stream 0 is PROTOCOL_ERROR
-/// Whether a frame of the kind may be on the stream.
+/// Whether a frame of this type may be on the stream.
 #[tactic(auto, unfolding(crate::specs::Heads::fits_stream))]
 pub(crate) fn fits_stream(kind: Kind, stream: u32) -> bool
     ensures { result ≡ stream_fits kind stream }
@@ -124,7 +124,7 @@ pub(crate) fn fits_stream(kind: Kind, stream: u32) -> bool
 // rule: 6.7 PING has eight octets
 // rule: 6.8 GOAWAY has at least eight octets
 // rule: 6.9 WINDOW_UPDATE has four octets
-// Whether a payload of the kind, with these flags, may have the length.
+// Whether a payload of this type, with these flags, may have the length.
 #[tactic(auto, unfolding(crate::specs::Heads::fits_length))]
 fn fits_length(kind: Kind, flags: u8, length: u32) -> bool
     ensures { result ≡ length_fits kind flags length }
@@ -143,7 +143,8 @@ fn fits_length(kind: Kind, flags: u8, length: u32) -> bool
 }
 
 // rule: 6.2 HEADERS too short for its flags is FRAME_SIZE_ERROR
-/// The octets that flags ask for: the pad length, and the priority.
+/// The number of octets that the flags PADDED and PRIORITY add: the pad length and the
+/// priority.
 pub(crate) fn octets_of_flags(padded: bool, prioritized: bool) -> u32
     ensures { result ≡ flag_octets padded prioritized }
 {

@@ -13,17 +13,19 @@ use crate::heads::HEAD_LEN;
 use crate::owned::{Frame, Unwritable};
 
 // contract: 6 A frame is sent only on a stream that its type allows
-/// Appends the frame (RFC 9113, sections 4.1 and 6): its head and its payload, with reserved bits,
-/// flags that its kind doesn't define, and octets of padding zero.
+/// Appends a frame's head and payload (RFC 9113, sections 4.1 and 6). Reserved bits, flags that
+/// its type does not define, and padding are zero.
 ///
 /// # Errors
 ///
-/// The first of these, and `out` is unchanged: [`Unwritable::TooLong`] where the payload has more
-/// than 16,777,215 octets; [`Unwritable::BadStream`] where the kind can't be on the stream or its
-/// number is above 2<sup>31</sup> - 1; [`Unwritable::BadValue`] for a last stream or an increment
-/// above 2<sup>31</sup> - 1, for settings with ACK and pairs, and for an unknown kind with a number
-/// from 0 to 9; and [`Unwritable::Memory`], which doesn't come where `out` has capacity for the
-/// frame.
+/// The first of these that holds; `out` is unchanged then:
+///
+/// 1. [`Unwritable::TooLong`] (F1) where the payload has more than 16,777,215 octets.
+/// 2. [`Unwritable::BadStream`] (F2) where a frame of this type may not be on the stream, or
+///    the stream's number is above 2<sup>31</sup> - 1.
+/// 3. [`Unwritable::BadValue`] (F3) for a last stream or an increment above 2<sup>31</sup> - 1,
+///    for SETTINGS with ACK and pairs, and for [`Frame::Unknown`] with a known type, 0 to 9.
+/// 4. [`Unwritable::Memory`] (F4), which does not come where `out` has capacity for the frame.
 pub fn write(frame: &Frame, out: &mut Vec<u8>) -> Result<(), Unwritable>
     ensures ok { OnOk result ((refusal (owned_frame frame.now) ≡ None)
         × (out.new.items ≡ out.old.items ++ encoding_of (owned_frame frame.now))) }
@@ -39,7 +41,7 @@ pub fn write(frame: &Frame, out: &mut Vec<u8>) -> Result<(), Unwritable>
 }
 
 // contract: 6 A frame is sent only on a stream that its type allows
-/// Appends a frame that is lent, as [`write`] does.
+/// Appends a frame whose payload is lent, as [`write`] does.
 ///
 /// # Errors
 ///
@@ -65,7 +67,7 @@ pub fn write_ref(frame: FrameRef<'_>, out: &mut Vec<u8>) -> Result<(), Unwritabl
 // rule: 4.1 (own) A frame is refused for length, stream, values, memory, in order
 // rule: 4.1 (own) With room in the output memory is not refused to a frame
 // rule: 6 A frame is sent only on a stream that its type allows
-// Appends a frame that has these parts.
+// Appends a frame with these parts.
 fn write_parts(parts: &FrameParts<'_>, out: &mut Vec<u8>) -> Result<(), Unwritable>
     ensures ok { (frame : AnyFrame) → Describes parts.now frame
         → OnOk result ((refusal frame ≡ None)
@@ -94,7 +96,7 @@ fn write_parts(parts: &FrameParts<'_>, out: &mut Vec<u8>) -> Result<(), Unwritab
     Ok(())
 }
 
-// The parts of a frame that is lent.
+// The parts of a frame whose payload is lent.
 fn lent_parts(frame: FrameRef<'_>) -> FrameParts<'_>
     ensures { Describes result (frame_of frame.entry) }
 {
@@ -135,7 +137,7 @@ fn lent_parts(frame: FrameRef<'_>) -> FrameParts<'_>
     }
 }
 
-// The parts of a frame that is owned.
+// The parts of a frame that owns its payload.
 fn owned_parts(frame: &Frame) -> FrameParts<'_>
     ensures { Describes result (owned_frame frame.now) }
 {

@@ -29,7 +29,7 @@ use crate::verdict::first_broken;
 // contract: 8.1.1 A body to be sent that content-length denies breaks M11
 // rule: 8.1.1 A body to be sent that content-length denies breaks M11
 // contract: 8.1 M1, M2, M3 and M10 hold of trailers
-/// Whether a request that is to be sent breaks no rule. It takes no memory.
+/// Checks that a request to be sent breaks no rule. It takes no memory.
 ///
 /// # Errors
 ///
@@ -45,7 +45,7 @@ pub fn check_request(message: &Message) -> Result<(), Malformed>
     }
 }
 
-/// The rule that a request breaks.
+/// The first rule that a request breaks, if it breaks one.
 fn broken_by_request(message: &Message) -> Option<Malformed>
     ensures { result ≡ broken_by_request (message_value message.now) }
 {
@@ -86,14 +86,14 @@ fn broken_by_request(message: &Message) -> Option<Malformed>
 // contract: 8.1.1 A body of an own answer to HEAD, 204 or 304 breaks M11
 // contract: 8.1 M1, M2, M3 and M10 hold of trailers
 // contract: 8.6 Status 101 breaks M9, sent or read: HTTP/2 has no upgrade
-/// Whether a response that is to be sent breaks no rule; `to_head` says that it answers HEAD. It
+/// Checks that a response to be sent breaks no rule; `to_head` says that it answers HEAD. It
 /// takes no memory.
 ///
 /// # Errors
 ///
-/// The first of M1 to M6 and M9 to M11 ([`Malformed`]) that it breaks: M9 of an interim response
-/// too, and M11 where a response has a body that has none (to HEAD, 204 and 304; RFC 9110, section
-/// 6.4.1).
+/// The first of M1 to M6 and M9 to M11 ([`Malformed`]) that it breaks. M9 refuses interim
+/// statuses too, and M11 a body in a response that has none (to HEAD, 204 and 304; RFC 9110,
+/// section 6.4.1).
 pub fn check_response(message: &Message, to_head: bool) -> Result<(), Malformed>
     ensures ok { OnOk result (broken_by_response to_head (message_value message.now) ≡ None) }
     ensures err { IfErr result (λ rule. broken_by_response to_head (message_value message.now)
@@ -105,7 +105,7 @@ pub fn check_response(message: &Message, to_head: bool) -> Result<(), Malformed>
     }
 }
 
-/// The rule that a response breaks.
+/// The first rule that a response breaks, if it breaks one.
 fn broken_by_response(message: &Message, to_head: bool) -> Option<Malformed>
     ensures { result ≡ broken_by_response to_head (message_value message.now) }
 {
@@ -131,7 +131,7 @@ fn broken_by_response(message: &Message, to_head: bool) -> Option<Malformed>
 }
 
 // rule: 8.1 M1, M2, M3 and M10 hold of trailers
-/// What is seen of a message's trailers; of none where it has none.
+/// The scan of a message's trailers, or of no fields if it has none.
 fn scan_trailers(message: &Message) -> Scan
     ensures { IsScan Request (trailer_fields (message_value message.now).trailers) result }
 {
@@ -142,7 +142,7 @@ fn scan_trailers(message: &Message) -> Scan
 }
 
 // rule: 8.1.1 A body to be sent that content-length denies breaks M11
-/// Whether a head declares another length than this.
+/// Whether a length is declared, and is not `count`.
 fn differs_from(declared: Option<u64>, count: usize) -> bool
     ensures { result ≡ differs_from declared count }
 {

@@ -1,4 +1,4 @@
-//! What the values of `:method`, `:path`, `:status` and `content-length` say.
+//! Classes of the values of `:method`, `:path`, `:status` and `content-length`.
 
 ghost use Rattle.std.specs.Prelude.{◌≡◌, if◌then◌else◌, Some, None};
 ghost use Rattle.std.specs.List.{list_all};
@@ -6,31 +6,31 @@ ghost use Rattle.h2_message.specs.Octets.{begins_with_slash, is_bad_length, is_i
 ghost use Rattle.h2_message.specs.Octets.{is_status_code, is_token, is_token_octet, number_written};
 ghost use Rattle.h2_message.specs.Classes.{method_class, path_class, status_class};
 
-/// What a method says of its request (RFC 9110, section 9.1).
+/// The class of a method (RFC 9110, section 9.1).
 #[derive(Clone, Copy, Debug, PartialEq, Eq)]
 pub(crate) enum Method {
     /// It is not valid.
     Bad,
-    /// HEAD: its answer has no content.
+    /// HEAD, whose response has no content.
     Head,
-    /// OPTIONS: its path may be an asterisk.
+    /// OPTIONS, whose path may be an asterisk.
     Options,
     /// Any other.
     Other,
 }
 
-/// What a path is (RFC 9113, section 8.3.1).
+/// The class of a path (RFC 9113, section 8.3.1).
 #[derive(Clone, Copy, Debug, PartialEq, Eq)]
 pub(crate) enum Path {
     /// It is not valid.
     Bad,
-    /// An asterisk, of OPTIONS alone.
+    /// An asterisk, for OPTIONS alone.
     Asterisk,
     /// It begins with a slash.
     Slash,
 }
 
-/// What a status says of its response (RFC 9110, section 15).
+/// The class of a status (RFC 9110, section 15).
 #[derive(Clone, Copy, Debug, PartialEq, Eq)]
 pub(crate) enum Status {
     /// It is not valid.
@@ -59,7 +59,7 @@ pub(crate) fn method_class(value: &[u8]) -> Method
 }
 
 // rule: 8.3.1 A method that is no token, or is CONNECT (own), breaks M7
-/// The class of a method, whichever it is.
+/// The class of any method.
 #[inline(never)]
 #[tactic(auto, unfolding(crate::specs::Classes::method_class, crate::specs::Octets::is_bad_method))]
 fn class_of_other_method(value: &[u8]) -> Method
@@ -78,7 +78,7 @@ fn class_of_other_method(value: &[u8]) -> Method
 
 // contract: 8.3.1 A path without / at its begin, but * with OPTIONS, breaks M8
 // rule: 8.3.1 A path without / at its begin, but * with OPTIONS, breaks M8
-/// What a path is.
+/// The class of a path.
 #[tactic(auto, unfolding(crate::specs::Classes::path_class))]
 pub(crate) fn path_class(value: &[u8]) -> Path
     ensures { result ≡ path_class value.now }
@@ -108,7 +108,7 @@ fn begins_with_slash(value: &[u8]) -> bool
 // rule: 8.1.1 No length is compared in an answer to HEAD, in 204 and in 304
 // contract: 8.6 Status 101 breaks M9, sent or read: HTTP/2 has no upgrade
 // rule: 8.6 Status 101 breaks M9, sent or read: HTTP/2 has no upgrade
-/// What a status says.
+/// The class of a status.
 #[tactic(auto, unfolding(crate::specs::Classes::status_class, crate::specs::Octets::is_bad_status))]
 pub(crate) fn status_class(value: &[u8]) -> Status
     ensures { result ≡ status_class value.now }
@@ -125,7 +125,7 @@ pub(crate) fn status_class(value: &[u8]) -> Status
 }
 
 // rule: 8.3.2 A status that is not three digits from 100 on breaks M9
-/// Three digits, of which the first one isn't 0.
+/// Whether a value is three digits, of which the first is not 0.
 #[tactic(auto, unfolding(crate::specs::Octets::is_status_code))]
 fn is_status_code(value: &[u8]) -> bool
     ensures { result ≡ is_status_code value.now }
@@ -144,7 +144,7 @@ fn is_interim_status(value: &[u8]) -> bool
 }
 
 // rule: 8.1.1 A content-length that is no number, or several, breaks M11
-/// The number of a `content-length`: 1 to 19 digits.
+/// The number of a `content-length`, if that is 1 to 19 digits.
 pub(crate) fn length_number(value: &[u8]) -> Option<u64>
     ensures { result ≡ (if is_bad_length value.now then None else Some (number_written value.now)) }
 {
@@ -162,7 +162,7 @@ pub(crate) fn length_number(value: &[u8]) -> Option<u64>
 }
 
 // rule: 8.3.1 A method that is no token, or is CONNECT (own), breaks M7
-/// A token: one or more of its octets (RFC 9110, section 5.6.2).
+/// Whether octets are a token: one or more token octets (RFC 9110, section 5.6.2).
 #[tactic(auto, unfolding(crate::specs::Octets::is_token))]
 fn is_token(value: &[u8]) -> bool
     ensures { result ≡ is_token value.now }
@@ -170,7 +170,7 @@ fn is_token(value: &[u8]) -> bool
     !value.is_empty() && are_token_octets(value)
 }
 
-/// Octets of a token alone.
+/// Whether all octets are token octets.
 fn are_token_octets(value: &[u8]) -> bool
     ensures { result ≡ list_all is_token_octet value.now }
 {
@@ -178,7 +178,7 @@ fn are_token_octets(value: &[u8]) -> bool
 }
 
 // rule: 8.3.1 A method that is no token, or is CONNECT (own), breaks M7
-/// An octet of a token: a letter, a digit, or one of fifteen signs.
+/// Whether an octet is a token octet: a letter, a digit, or one of fifteen signs.
 #[tactic(auto, unfolding(crate::specs::Octets::is_token_octet))]
 fn is_token_octet(octet: u8) -> bool
     ensures { result ≡ is_token_octet octet }

@@ -1,7 +1,7 @@
 //! Scans of octets, up to 32 at once.
 //!
-//! A first scan asks of many octets at once whether one is unusual in a name, or low in a value, as
-//! every bad one is. Only where one is are they checked exactly.
+//! A first scan finds, for many octets at once, whether one is unusual in a name, or low in a
+//! value, as every forbidden octet is. Only then are the octets checked exactly.
 
 ghost use Rattle.std.specs.Prelude.{◌≡◌, ◌≤◌, ◌<◌, ◌+◌, length, take};
 ghost use Rattle.std.specs.List.{list_any};
@@ -10,11 +10,11 @@ ghost use Rattle.h2_message.specs.Octets.{is_unusual, is_low};
 
 use std::simd::prelude::*;
 
-/// How many octets are looked at once.
+/// The number of octets scanned at once.
 const LANES: usize = 32;
 
 // rule: 8.2.1 A name with an octet that it must not have breaks M1
-/// Whether no name has this octet (RFC 9113, section 8.2.1).
+/// Whether an octet is forbidden in names (RFC 9113, section 8.2.1).
 #[inline]
 #[tactic(auto, unfolding(crate::specs::Octets::is_bad_in_name))]
 pub(crate) fn is_bad_in_name(octet: u8) -> bool
@@ -24,7 +24,7 @@ pub(crate) fn is_bad_in_name(octet: u8) -> bool
 }
 
 // rule: 8.2.1 A name with an octet that it must not have breaks M1
-/// Whether no name has this octet after its first one.
+/// Whether an octet is forbidden in names after the first octet.
 #[inline]
 #[tactic(auto, unfolding(crate::specs::Octets::is_bad_after_first))]
 fn is_bad_after_first(octet: u8) -> bool
@@ -34,7 +34,7 @@ fn is_bad_after_first(octet: u8) -> bool
 }
 
 // rule: 8.2.1 A value with NUL, CR or LF breaks M2
-/// Whether no value has this octet (section 8.2.1).
+/// Whether an octet is forbidden in values (section 8.2.1).
 #[inline]
 #[tactic(auto, unfolding(crate::specs::Octets::is_bad_in_value))]
 fn is_bad_in_value(octet: u8) -> bool
@@ -46,7 +46,7 @@ fn is_bad_in_value(octet: u8) -> bool
 // rule: 8.2.1 A name with an octet that it must not have breaks M1
 // contract: 8.2.1 (own) A scan of 32 octets at once answers what each octet's condition says
 // rule: 8.2.1 (own) A scan of 32 octets at once answers what each octet's condition says
-/// Whether no name has one of these octets after its first one.
+/// Whether one of these octets is forbidden in names after the first octet.
 #[inline(always)]
 pub(crate) fn has_bad_after_first(octets: &[u8]) -> bool
     ensures { result ≡ list_any is_bad_after_first octets.now }
@@ -68,8 +68,8 @@ fn scan_after_first(octets: &[u8]) -> bool
 }
 
 // rule: 8.2.1 (own) A scan of 32 octets at once answers what each octet's condition says
-/// Whether there is an octet that few names have: in runs of 32 octets, and in the last 32, which
-/// may overlap with a run.
+/// Whether one of these octets is unusual in names. Runs of 32 octets are scanned, and the last
+/// 32, which may overlap a run.
 #[inline(always)]
 fn has_unusual(octets: &[u8]) -> bool
     ensures { result ≡ list_any is_unusual octets.now }
@@ -89,7 +89,7 @@ fn has_unusual(octets: &[u8]) -> bool
     run_has_unusual::<LANES>(&octets[octets.len() - LANES..])
 }
 
-/// The same of one run.
+/// The same for one run.
 #[inline(always)]
 fn lane_has_unusual(lane: &[u8; LANES]) -> bool
     ensures { result ≡ list_any is_unusual lane.now }
@@ -97,7 +97,7 @@ fn lane_has_unusual(lane: &[u8; LANES]) -> bool
     run_has_unusual::<LANES>(lane.as_slice())
 }
 
-/// The same of fewer than 16 octets.
+/// The same for fewer than 16 octets.
 #[inline(always)]
 fn few_have_unusual(octets: &[u8]) -> bool
     requires { length octets.now < 16 }
@@ -116,7 +116,7 @@ fn few_have_unusual(octets: &[u8]) -> bool
     found
 }
 
-/// The same of N octets or some more, up to twice as many: of the first N and of the last N.
+/// The same for N to twice N octets: the first N and the last N are scanned.
 #[inline(always)]
 fn ends_have_unusual<const N: usize>(octets: &[u8]) -> bool
     requires lanes { N ≤ 64 }
@@ -129,7 +129,7 @@ fn ends_have_unusual<const N: usize>(octets: &[u8]) -> bool
 
 // contract: 8.2.1 (own) A scan of 32 octets at once answers what each octet's condition says
 // rule: 8.2.1 (own) A scan of 32 octets at once answers what each octet's condition says
-/// The same of the first N octets.
+/// The same for the first N octets.
 #[inline(always)]
 fn run_has_unusual<const N: usize>(octets: &[u8]) -> bool
     requires lanes { N ≤ 64 }
@@ -154,7 +154,7 @@ fn is_unusual(octet: u8) -> bool
 // rule: 8.2.1 A value with NUL, CR or LF breaks M2
 // contract: 8.2.1 (own) A scan of 32 octets at once answers what each octet's condition says
 // rule: 8.2.1 (own) A scan of 32 octets at once answers what each octet's condition says
-/// Whether no value has one of these octets.
+/// Whether one of these octets is forbidden in values.
 #[inline(always)]
 pub(crate) fn has_bad_in_value(octets: &[u8]) -> bool
     ensures { result ≡ list_any is_bad_in_value octets.now }
@@ -163,7 +163,8 @@ pub(crate) fn has_bad_in_value(octets: &[u8]) -> bool
 }
 
 // rule: 8.2.1 A value with NUL, CR or LF breaks M2
-/// The same, exactly, in runs of 32: for values with an octet up to a carriage return, as a tab.
+/// The same, exactly, in runs of 32: for values with an octet up to a carriage return, such as
+/// a tab.
 #[inline(never)]
 fn scan_value(octets: &[u8]) -> bool
     ensures { result ≡ list_any is_bad_in_value octets.now }
@@ -183,7 +184,7 @@ fn scan_value(octets: &[u8]) -> bool
 
 // contract: 8.2.1 (own) A scan of 32 octets at once answers what each octet's condition says
 // rule: 8.2.1 (own) A scan of 32 octets at once answers what each octet's condition says
-/// The same of 32 octets.
+/// The same for 32 octets.
 #[inline]
 fn lane_is_bad_in_value(lane: &[u8; LANES]) -> bool
     ensures { result ≡ list_any is_bad_in_value lane.now }
@@ -196,8 +197,8 @@ fn lane_is_bad_in_value(lane: &[u8; LANES]) -> bool
 }
 
 // rule: 8.2.1 (own) A scan of 32 octets at once answers what each octet's condition says
-/// Whether there is an octet up to a carriage return: in runs of 32 octets, and in the last 32,
-/// which may overlap with a run.
+/// Whether one of these octets is at most a carriage return. Runs of 32 octets are scanned, and
+/// the last 32, which may overlap a run.
 #[inline(always)]
 fn has_low(octets: &[u8]) -> bool
     ensures { result ≡ list_any is_low octets.now }
@@ -217,7 +218,7 @@ fn has_low(octets: &[u8]) -> bool
     run_has_low::<LANES>(&octets[octets.len() - LANES..])
 }
 
-/// The same of one run.
+/// The same for one run.
 #[inline(always)]
 fn lane_has_low(lane: &[u8; LANES]) -> bool
     ensures { result ≡ list_any is_low lane.now }
@@ -225,7 +226,7 @@ fn lane_has_low(lane: &[u8; LANES]) -> bool
     run_has_low::<LANES>(lane.as_slice())
 }
 
-/// The same of fewer than 16 octets.
+/// The same for fewer than 16 octets.
 #[inline(always)]
 fn few_have_low(octets: &[u8]) -> bool
     requires { length octets.now < 16 }
@@ -247,7 +248,7 @@ fn few_have_low(octets: &[u8]) -> bool
     found
 }
 
-/// The same of N octets or some more, up to twice as many: of the first N and of the last N.
+/// The same for N to twice N octets: the first N and the last N are scanned.
 #[inline(always)]
 fn ends_have_low<const N: usize>(octets: &[u8]) -> bool
     requires lanes { N ≤ 64 }
@@ -260,7 +261,7 @@ fn ends_have_low<const N: usize>(octets: &[u8]) -> bool
 
 // contract: 8.2.1 (own) A scan of 32 octets at once answers what each octet's condition says
 // rule: 8.2.1 (own) A scan of 32 octets at once answers what each octet's condition says
-/// The same of the first N octets.
+/// The same for the first N octets.
 #[inline(always)]
 fn run_has_low<const N: usize>(octets: &[u8]) -> bool
     requires lanes { N ≤ 64 }

@@ -9,8 +9,8 @@ ghost use Rattle.h2_message.specs.Messages.{SentMessage, broken_by_request, brok
 ghost use Rattle.h2_message.specs.Reading.{Part, IsReadable, IsWellRead, as_read};
 
 // contract: 8.1 (own) A message that breaks no rule as sent breaks none as read
-/// A message that breaks no rule as it is sent breaks none as it is read, in however many DATA
-/// frames its body comes.
+/// A message that breaks no rule when it is sent breaks none when it is read, in however many
+/// DATA frames its body comes.
 pub fn sent_messages_are_well_read()
     ensures request { (message : SentMessage) (data_parts : List (List ℕ))
         → broken_by_request message ≡ None → sum_by length data_parts ≡ length message.body
@@ -22,7 +22,7 @@ pub fn sent_messages_are_well_read()
 {}
 
 // contract: 8.1.1 (own) A part that is refused breaks a rule, the least of which is named
-/// After parts that were read, a part breaks no rule exactly where it is read too.
+/// After the parts that were read, the next part is read if and only if it breaks no rule.
 pub fn refused_parts_break_a_rule()
     ensures { (reads : Reads) (parts : List (Part × Bool)) (part : Part × Bool)
         → IsReadable reads parts

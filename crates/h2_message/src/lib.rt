@@ -1,10 +1,10 @@
 //! HTTP messages over HTTP/2: requests and responses, and when one is malformed (RFC 9113,
 //! section 8).
 //!
-//! [`check_request`] and [`check_response`] say which rule a message breaks that is to be sent;
-//! [`Reading`] follows a message part by part as it is read, and says whether it can still be one
-//! that breaks none; [`check_request_head`] and [`check_response_head`] are for a message that is
-//! sent in parts. Nothing here takes memory.
+//! [`check_request`] and [`check_response`] check a complete message before it is sent;
+//! [`check_request_head`] and [`check_response_head`] check the head of one that is sent in
+//! parts. [`Reading`] takes a received message part by part, and refuses a part with which it
+//! is malformed. Only making a [`Message`] takes memory.
 #![tactic(auto)]
 
 mod checks;

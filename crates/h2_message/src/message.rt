@@ -1,4 +1,4 @@
-//! A message that is to be sent.
+//! Messages to be sent.
 
 ghost use Rattle.std.specs.Prelude.{◌≡◌, ◌∷◌, ◌++◌, [], None, IfOk, codes, decimal};
 ghost use Rattle.h2_message.specs.Messages.{asks_head, request_head, response_head, plain_field};
@@ -9,16 +9,17 @@ use std::alloc::{AllocError, Global};
 /// A request or a response (RFC 9113, section 8.1).
 #[derive(Debug, Drop)]
 pub struct Message {
-    /// The pseudo-fields, and then the fields, in the order in which they are sent.
+    /// The pseudo-header fields, and then the regular fields, in the order in which they are
+    /// sent.
     pub head: Vec<Field>,
     /// The octets of the body.
     pub body: Vec<u8>,
-    /// The fields after the body, if there are any.
+    /// The trailers, if there are any.
     pub trailers: Option<Vec<Field>>,
 }
 
 impl Message {
-    /// A GET request for a path, over `http`, as [`Message::request`].
+    /// Makes a GET request for a path with the scheme `http`, as [`Message::request`] does.
     ///
     /// # Errors
     ///
@@ -31,9 +32,10 @@ impl Message {
         Message::request(alloc, b"GET", authority, path)
     }
 
-    /// A request over `http` with the four pseudo-fields (RFC 9113, section 8.3.1), without body
-    /// and trailers. Whether it breaks a rule, as a path that begins with no slash does, is for
-    /// [`check_request`](crate::check_request), which a client's `request` asks.
+    /// Makes a request with the scheme `http`, its four pseudo-header fields (RFC 9113, section
+    /// 8.3.1), and no body or trailers. Whether it breaks a rule, for instance with a path that
+    /// does not begin with a slash, is for [`check_request`](crate::check_request), which a
+    /// client's `request` calls.
     ///
     /// # Errors
     ///
@@ -60,9 +62,9 @@ impl Message {
         })
     }
 
-    /// A response with a status (section 8.3.2), in decimal digits, without body and trailers.
-    /// Whether it breaks a rule, as a status of two digits does, is for
-    /// [`check_response`](crate::check_response), which a server's `respond` asks.
+    /// Makes a response with this status in decimal digits (section 8.3.2), and no body or
+    /// trailers. Whether it breaks a rule, for instance with a status of two digits, is for
+    /// [`check_response`](crate::check_response), which a server's `respond` calls.
     ///
     /// # Errors
     ///
@@ -81,7 +83,7 @@ impl Message {
         })
     }
 
-    /// The message with a further field at the end of its head.
+    /// Returns the message with a further field at the end of its head.
     ///
     /// # Errors
     ///
@@ -95,7 +97,7 @@ impl Message {
         Ok(self)
     }
 
-    /// The message with these octets at the end of its body.
+    /// Returns the message with these octets at the end of its body.
     ///
     /// # Errors
     ///
@@ -110,7 +112,7 @@ impl Message {
     }
 }
 
-/// A field of a name of the program.
+/// A field whose name is static.
 fn named(name: &'static [u8], value: Octets) -> Field
     ensures { result ≡ plain_field name.now value }
 {
@@ -123,8 +125,8 @@ fn named(name: &'static [u8], value: Octets) -> Field
 
 // contract: HTTP 9.3.2 A request asks with HEAD where the method of its head is HEAD
 // rule: HTTP 9.3.2 A request asks with HEAD where the method of its head is HEAD
-/// Whether the head of a request asks with HEAD: then its answer has no content (RFC 9110, section
-/// 9.3.2). It takes no memory.
+/// Returns whether the method in the head of a request is HEAD: then its response has no
+/// content (RFC 9110, section 9.3.2). It takes no memory.
 pub fn asks_head(head: &[Field]) -> bool
     ensures { result ≡ asks_head head.now }
 {
@@ -137,7 +139,7 @@ pub fn asks_head(head: &[Field]) -> bool
 }
 
 // rule: HTTP 9.3.2 A request asks with HEAD where the method of its head is HEAD
-/// [`asks_head`] of the head of a request that was read. It takes no memory.
+/// Does what [`asks_head`] does, for the head of a request that was read. It takes no memory.
 pub fn list_asks_head(head: &FieldList) -> bool
     ensures { result ≡ asks_head head.now }
 {

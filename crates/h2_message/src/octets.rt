@@ -10,7 +10,7 @@ use crate::lanes::{has_bad_after_first, has_bad_in_value, is_bad_in_name};
 
 // rule: 8.2.1 A name with an octet that it must not have breaks M1
 // rule: 8.2.1 (own) An empty name breaks M1
-/// Whether the octets are no name: empty, or with an octet that no name has.
+/// Whether the octets are not a valid name: empty, or with a forbidden octet.
 #[inline(never)]
 #[tactic(auto, unfolding(crate::specs::Octets::is_bad_name))]
 fn is_bad_name(name: &[u8]) -> bool
@@ -23,7 +23,7 @@ fn is_bad_name(name: &[u8]) -> bool
 }
 
 // rule: 8.2.1 A name with an octet that it must not have breaks M1
-/// The same, where it may be known already that they are a name.
+/// The same, unless they are known to be a valid name.
 #[inline(always)]
 pub(crate) fn is_bad_unless_known(known: bool, name: &[u8]) -> bool
     ensures { (known ≡ true → is_bad_name name.now ≡ false) → result ≡ is_bad_name name.now }
@@ -33,7 +33,7 @@ pub(crate) fn is_bad_unless_known(known: bool, name: &[u8]) -> bool
 
 // rule: 8.2.1 A name with an octet that it must not have breaks M1
 // rule: 8.2.1 (own) An empty name breaks M1
-/// The same of octets that don't begin with a colon.
+/// The same for octets that do not begin with a colon.
 #[inline(always)]
 pub(crate) fn is_bad_regular_name(name: &[u8]) -> bool
     ensures { is_colon_first name.now ≡ false → result ≡ is_bad_name name.now }
@@ -43,7 +43,7 @@ pub(crate) fn is_bad_regular_name(name: &[u8]) -> bool
 
 // rule: 8.2.1 A value with NUL, CR or LF breaks M2
 // rule: 8.2.1 A value that begins or ends with a space or a tab breaks M2
-/// Whether the octets are no value: with an octet that no value has, or a blank at an end.
+/// Whether the octets are not a valid value: with a forbidden octet, or a blank at either end.
 #[inline]
 #[tactic(auto, unfolding(crate::specs::Octets::is_bad_value))]
 pub(crate) fn is_bad_value(value: &[u8]) -> bool
@@ -76,7 +76,7 @@ fn ends_blank(value: &[u8]) -> bool
 }
 
 // rule: 8.2.1 A value that begins or ends with a space or a tab breaks M2
-/// A space or a tab.
+/// Whether an octet is a space or a tab.
 #[inline(always)]
 #[tactic(auto, unfolding(crate::specs::Octets::is_blank))]
 fn is_blank(octet: u8) -> bool
@@ -85,7 +85,7 @@ fn is_blank(octet: u8) -> bool
     octet <= b' ' && is_blank_of_low(octet)
 }
 
-/// The same of an octet up to a space, which few values begin or end with.
+/// The same for an octet up to a space, with which few values begin or end.
 #[inline(never)]
 #[tactic(auto, unfolding(crate::specs::Octets::is_blank))]
 fn is_blank_of_low(octet: u8) -> bool
@@ -94,7 +94,7 @@ fn is_blank_of_low(octet: u8) -> bool
     octet == b' ' || octet == b'\t'
 }
 
-/// Whether octets are a text.
+/// Whether the octets are this text.
 #[inline(always)]
 pub(crate) fn is_text<const N: usize>(octets: &[u8], text: &[u8; N]) -> bool
     ensures { result ≡ bytes_eq octets.now text.now }
@@ -107,10 +107,9 @@ pub(crate) fn is_text<const N: usize>(octets: &[u8], text: &[u8; N]) -> bool
 
 // rule: 8.3.1 An :authority with an @ in it names a user, and a call says so
 // contract: 8.3.1 An :authority with an @ in it names a user, and a call says so
-/// Whether an authority, as the value of `:authority` is one, names a user, as `user@example.com`
-/// does. "`:authority` MUST NOT include the deprecated userinfo subcomponent for `http` or `https`
-/// schemed URIs" (section 8.3.1). No check refuses it, so a server that minds asks here, and
-/// answers with status 400.
+/// Returns whether an authority (the value of `:authority`) names a user, as `user@example.com`
+/// does. Section 8.3.1 forbids that for `http` and `https`, but no check refuses it: a server
+/// that minds calls this, and answers with status 400.
 #[tactic(auto, unfolding(crate::specs::Octets::names_user))]
 pub fn names_user(authority: &[u8]) -> bool
     ensures { result ≡ names_user authority.now }

@@ -1,4 +1,4 @@
-//! A message that is sent in parts: its head, its body as it comes, and its trailers.
+//! Messages that are sent in parts: the head, the body as it comes, and the trailers.
 
 ghost use Rattle.std.specs.Prelude.{◌≡◌, IfOk, IfErr, OnOk, None, Some, true, false, List};
 ghost use Rattle.hpack.specs.declared.types.field.Field.{Field};
@@ -14,22 +14,22 @@ use crate::malformed::Malformed;
 use crate::scan::{Scan, scan_fields};
 use hpack::Field;
 
-/// How long the rest of a body has to be that is sent in parts: as long as its head says, empty
-/// where a response has no content, or of any length (RFC 9113, section 8.1.1).
+/// The length that the rest of a body sent in parts must have: what its head's `content-length`
+/// leaves, 0 where a response has no content, or any (RFC 9113, section 8.1.1).
 #[derive(Clone, Copy, Debug, PartialEq, Eq)]
 pub struct BodyLength {
-    /// So many octets; `None`: any number of them.
+    /// The number of octets; `None` for any number.
     pub(crate) left: Option<u64>,
 }
 
 // contract: 8.1.1 (own) A message to be sent is refused for the least of M1 to M11 it breaks
-/// Whether the head of a request that is to be sent before its body breaks no rule, and then how
-/// long the body has to be. It takes no memory.
+/// Checks the head of a request that is sent before its body, and returns the length that the
+/// body must have. It takes no memory.
 ///
 /// # Errors
 ///
-/// The first of M1 to M8 and M10, and of M11 a `content-length` that is no number or that differs
-/// from another one ([`Malformed`]).
+/// The first of M1 to M8, M10 and M11 ([`Malformed`]) that the head breaks; M11 where a
+/// `content-length` is not a number or two differ.
 pub fn check_request_head(head: &[Field]) -> Result<BodyLength, Malformed>
     ensures ok { IfOk result (λ length. (broken_by_head Requests head.now ≡ None)
         × (length.left ≡ length_to_send Requests head.now)) }
@@ -44,14 +44,14 @@ pub fn check_request_head(head: &[Field]) -> Result<BodyLength, Malformed>
 
 // contract: 8.1.1 (own) A message to be sent is refused for the least of M1 to M11 it breaks
 // contract: 8.1.1 A body of an own answer to HEAD, 204 or 304 breaks M11
-/// Whether the head of a response that is to be sent before its body breaks no rule, and then how
-/// long the body has to be: it has to be empty in an answer to HEAD (`to_head`), and with the
-/// status 204 or 304. It takes no memory.
+/// Checks the head of a response that is sent before its body, and returns the length that the
+/// body must have: 0 in a response to HEAD (`to_head`), and with the status 204 or 304. It
+/// takes no memory.
 ///
 /// # Errors
 ///
-/// The first of M1 to M6, M9 (of an interim response too) and M10, and of M11 a `content-length`
-/// that is no number or that differs from another one ([`Malformed`]).
+/// The first of M1 to M6 and M9 to M11 ([`Malformed`]) that the head breaks. M9 refuses interim
+/// statuses too; M11 comes where a `content-length` is not a number or two differ.
 pub fn check_response_head(head: &[Field], to_head: bool) -> Result<BodyLength, Malformed>
     ensures ok { IfOk result (λ length. (broken_by_head (Responses to_head) head.now ≡ None)
         × (length.left ≡ length_to_send (Responses to_head) head.now)) }
@@ -68,7 +68,7 @@ pub fn check_response_head(head: &[Field], to_head: bool) -> Result<BodyLength, 
 }
 
 // rule: 8.1.1 A body of an own answer to HEAD, 204 or 304 breaks M11
-/// The length that the body of a response has to have.
+/// The length that the body of a response must have.
 fn length_to_send(head: &Scan, to_head: bool) -> Option<u64>
     ensures { (fields : List Field) → IsScan Response fields head.now
         → has_bad_length fields ≡ false
@@ -83,12 +83,12 @@ fn length_to_send(head: &Scan, to_head: bool) -> Option<u64>
 impl BodyLength {
     // contract: 8.1.1 A body to be sent that content-length denies breaks M11
     // rule: 8.1.1 A body to be sent that content-length denies breaks M11
-    /// Whether so many octets more may come of the body, and, where `end` is set, its end with
-    /// them.
+    /// Checks that `count` further octets of the body may be sent and, if `end` is set, that
+    /// the body may end with them.
     ///
     /// # Errors
     ///
-    /// [`Malformed::BadLength`] (M11) where the body would be longer than it has to be or, at its
+    /// [`Malformed::BadLength`] (M11) where the body would be longer than it must be or, at its
     /// end, shorter.
     pub fn check(self, count: usize, end: bool) -> Result<(), Malformed>
         ensures ok { OnOk result (breaks_length self.left count end ≡ false) }
@@ -106,12 +106,12 @@ impl BodyLength {
     }
 
     // contract: 8.1 M1, M2, M3 and M10 hold of trailers
-    /// Whether these trailers may end the body now.
+    /// Checks that these trailers may end the body now.
     ///
     /// # Errors
     ///
-    /// The first of M1, M2, M3 and M10 that the trailers break, and M11 where the body is shorter
-    /// than its head says ([`Malformed`]).
+    /// The first of M1, M2, M3 and M10 that the trailers break, or else M11 where the body is
+    /// shorter than it must be ([`Malformed`]).
     pub fn check_trailers(self, trailers: &[Field]) -> Result<(), Malformed>
         ensures ok { OnOk result (broken_by_trailers self.left 0 trailers.now ≡ None) }
         ensures err { IfErr result (λ rule. broken_by_trailers self.left 0 trailers.now
@@ -124,7 +124,8 @@ impl BodyLength {
         }
     }
 
-    /// What is left once so many octets of the body were sent: `check` has allowed as many.
+    /// Returns the length that is left after `count` further octets, which `check` must have
+    /// allowed.
     pub fn after(self, count: usize) -> BodyLength
         ensures { result.left ≡ length_after self.left count }
     {

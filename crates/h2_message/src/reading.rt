@@ -1,4 +1,4 @@
-//! A message that is read part by part.
+//! Messages that are read part by part.
 
 ghost use Rattle.std.specs.Prelude.{◌≡◌, ◌≢◌, ◌&&◌, ℕ, Bool, List, [], ◌∷◌, length, false, IsNone};
 ghost use Rattle.std.specs.Prelude.{IfSome};
@@ -23,13 +23,14 @@ use crate::scan::{Scan, scan_list};
 use crate::verdict::first_broken;
 use hpack::FieldList;
 
-/// What an end reads on a stream: the messages of its peer.
+/// The messages that an end reads: those of its peer.
 #[derive(Clone, Copy, Debug, PartialEq, Eq)]
 pub enum Reads {
     /// A server reads requests.
     Requests,
-    /// A client reads responses. In an answer to HEAD the declared length is that of what GET would
-    /// get, and is not compared (RFC 9110, section 8.6); DATA in one is read all the same.
+    /// A client reads responses. In a response to HEAD `content-length` is the length that GET
+    /// would get, and is not compared with the body (RFC 9110, section 8.6); DATA in it is read
+    /// all the same.
     Responses {
         /// Whether the request was HEAD.
         to_head: bool,
@@ -50,24 +51,25 @@ pub enum Place {
 /// Which part comes next.
 #[derive(Clone, Copy, Debug, PartialEq, Eq)]
 pub(crate) enum Phase {
-    /// The head, or an interim one.
+    /// The head, or that of an interim response.
     AtHead,
     /// DATA, or the trailers.
     InBody {
-        /// How many octets of the body are still to come, where the head says so.
+        /// The number of octets of the body that are still to come, if the head declares its
+        /// length.
         left: Option<u64>,
     },
-    /// None: the message was read whole.
+    /// None: the message was read completely.
     AtEnd,
 }
 
-/// A message that is read part by part: it takes each part with which what was read still begins a
-/// message that breaks no rule, and refuses every other. It takes no memory.
+/// A message that is read part by part. It takes a part if a message that is not malformed can
+/// begin with the parts read so far and this one, and refuses it otherwise. It takes no memory.
 #[derive(Clone, Copy, Debug)]
 pub struct Reading {
     pub(crate) reads: Reads,
     pub(crate) phase: Phase,
-    /// Whether a request was read whose method is HEAD.
+    /// Whether a request with the method HEAD was read.
     pub(crate) asks_head: bool,
 }
 
@@ -75,7 +77,7 @@ impl Reading {
     // contract: 8.1 (own) A part is read where the parts so far begin a well-formed message
     // rule: 8.1 (own) A part is read where the parts so far begin a well-formed message
     // contract: HTTP 9.3.2 A request asks with HEAD where the method of its head is HEAD
-    /// A message of which nothing was read.
+    /// Makes a reading of a message of which nothing was read.
     pub fn new(reads: Reads) -> Reading
         ensures { Follows reads [] result }
     {
@@ -109,9 +111,9 @@ impl Reading {
     // rule: 8.1.1 DATA that is read is as long as content-length says, or breaks M11
     // contract: 8.1.1 No length is compared in an answer to HEAD, in 204 and in 304
     // contract: 8.6 Status 101 breaks M9, sent or read: HTTP/2 has no upgrade
-    /// Takes a field block, and answers which part of the message it is; or refuses it, since no
-    /// message that breaks no rule begins so. Then nothing has changed, and
-    /// [`Reading::broken_by_fields`] says which rule the block breaks.
+    /// Takes a field block, with END_STREAM where `end` is set, and returns which part of the
+    /// message it is. `None` if the message is malformed with it: nothing has changed, and
+    /// [`Reading::broken_by_fields`] says which rule it breaks.
     pub fn fields(&mut self, list: &FieldList, end: bool) -> Option<Place>
         ensures { (reads : Reads) (parts : List (Part × Bool)) → Follows reads parts self.old
             → FollowsFields reads parts list.now end result self.old self.new }
@@ -179,8 +181,8 @@ impl Reading {
     // contract: 8.1.1 DATA that is read is as long as content-length says, or breaks M11
     // rule: 8.1.1 DATA that is read is as long as content-length says, or breaks M11
     // contract: 8.1.1 No length is compared in an answer to HEAD, in 204 and in 304
-    /// Takes so many octets of a DATA frame, and answers whether it does; or refuses them, since no
-    /// message that breaks no rule begins so. Then nothing has changed, and
+    /// Takes `count` octets of a DATA frame, with END_STREAM where `end` is set, and returns
+    /// `true`. `false` if the message is malformed with them: nothing has changed, and
     /// [`Reading::broken_by_data`] says which rule they break.
     pub fn data(&mut self, count: usize, end: bool) -> bool
         ensures { (reads : Reads) (parts : List (Part × Bool)) (octets : List ℕ)
@@ -204,8 +206,9 @@ impl Reading {
 
     // contract: 8.1.1 (own) A part that is refused breaks a rule, the least of which is named
     // rule: 8.1.1 (own) A part that is refused breaks a rule, the least of which is named
-    /// The least rule that a field block breaks after what was read, for which [`Reading::fields`]
-    /// refuses it; none where it is taken. After END_STREAM it is M12, whatever the fields are.
+    /// Returns the first rule that a field block breaks after the parts read, for which
+    /// [`Reading::fields`] refuses it; `None` if it is not refused. After END_STREAM that is
+    /// M12, whatever the fields are.
     pub fn broken_by_fields(&self, list: &FieldList, end: bool) -> Option<Malformed>
         ensures { (reads : Reads) (parts : List (Part × Bool)) → Follows reads parts self.now
             → result ≡ broken_after reads parts (FieldsPart list.now, end) }
@@ -228,7 +231,7 @@ impl Reading {
     }
 
     // rule: 8.1.1 (own) A part that is refused breaks a rule, the least of which is named
-    /// The least rule that a head breaks where one comes next.
+    /// The first rule that a head breaks where one comes next.
     fn broken_by_head(&self, list: &FieldList, end: bool) -> Option<Malformed>
         ensures { result ≡ first_broken (rules_of_head self.now.reads list.now end) }
     {
@@ -258,8 +261,9 @@ impl Reading {
 
     // contract: 8.1.1 (own) A part that is refused breaks a rule, the least of which is named
     // rule: 8.1.1 (own) A part that is refused breaks a rule, the least of which is named
-    /// The rule that so many octets of a DATA frame break after what was read, for which
-    /// [`Reading::data`] refuses them: M11, or M12 outside a body; none where they are taken.
+    /// Returns the rule that `count` octets of a DATA frame break after the parts read, for
+    /// which [`Reading::data`] refuses them: M11, or M12 outside a body; `None` if they are not
+    /// refused.
     pub fn broken_by_data(&self, count: usize, end: bool) -> Option<Malformed>
         ensures { (reads : Reads) (parts : List (Part × Bool)) (octets : List ℕ)
             → length octets ≡ count → Follows reads parts self.now
@@ -276,8 +280,8 @@ impl Reading {
 
     // contract: HTTP 9.3.2 A request asks with HEAD where the method of its head is HEAD
     // rule: HTTP 9.3.2 A request asks with HEAD where the method of its head is HEAD
-    /// Whether a request was read whose method is HEAD: then its answer has no content (RFC 9110,
-    /// section 9.3.2).
+    /// Returns whether a request with the method HEAD was read: then its response has no
+    /// content (RFC 9110, section 9.3.2).
     pub fn asks_head(&self) -> bool
         ensures { result ≡ self.now.asks_head }
     {
@@ -286,7 +290,7 @@ impl Reading {
 
     // contract: 8.1 END_STREAM ends the message, and any further part breaks M12
     // rule: 8.1 END_STREAM ends the message, and any further part breaks M12
-    /// Whether the message was read whole.
+    /// Returns whether the message was read completely.
     pub fn is_over(&self) -> bool
         ensures { (reads : Reads) (parts : List (Part × Bool)) → Follows reads parts self.now
             → result ≡ ends_message parts }
@@ -296,8 +300,8 @@ impl Reading {
 }
 
 // rule: 8.1.1 DATA that is read is as long as content-length says, or breaks M11
-/// What comes next where so many octets of the body are to come, and whether the message has ended;
-/// nothing where it has ended too soon.
+/// The next phase, by the octets of the body still to come and whether the message ends; `None`
+/// where it ends too soon.
 fn in_body(left: Option<u64>, end: bool) -> Option<Phase>
     ensures { result ≡ phase_in_body left end }
 {
@@ -311,7 +315,7 @@ fn in_body(left: Option<u64>, end: bool) -> Option<Phase>
 }
 
 // rule: 8.1.1 (own) A part that is refused breaks a rule, the least of which is named
-/// M11 where a head ends a message of whose body octets are to come.
+/// M11 where a head ends the message, but octets of its body are still to come.
 fn broken_by_end(left: Option<u64>, end: bool) -> Option<Malformed>
     ensures { result ≡ first_broken ((end && is_short left, Malformed.BadLength) ∷ []) }
 {
@@ -319,7 +323,7 @@ fn broken_by_end(left: Option<u64>, end: bool) -> Option<Malformed>
 }
 
 // rule: 8.1.1 No length is compared in an answer to HEAD, in 204 and in 304
-/// The length of the body that is compared: none where the response has no content.
+/// The length with which a response's body is compared, if there is one; none without content.
 fn compared_length(head: &Scan, to_head: bool) -> Option<u64>
     ensures { (fields : List Field) → IsScan Response fields head.now
         → has_bad_length fields ≡ false

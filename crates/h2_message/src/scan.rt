@@ -1,4 +1,4 @@
-//! What is seen of a list of fields, one field after another.
+//! Scans of lists of fields, field by field.
 
 ghost use Rattle.std.specs.Prelude.{◌≡◌, Bool, true, false, List, [], ◌∷◌, ◌++◌};
 ghost use Rattle.std.specs.Prelude.{codes};
@@ -18,23 +18,23 @@ use crate::kind::Kind;
 use crate::octets::{is_bad_regular_name, is_bad_unless_known, is_bad_value, is_text};
 use hpack::{Field, FieldList};
 
-/// Which rules a list of fields breaks, and what its pseudo-fields and its length say (RFC 9113,
-/// sections 8.2 and 8.3).
+/// The rules that a list of fields breaks, and what its pseudo-header fields and its
+/// `content-length` say (RFC 9113, sections 8.2 and 8.3).
 #[derive(Clone, Copy, Debug)]
 pub(crate) struct Scan {
     /// A name is not valid.
     pub(crate) bad_name: bool,
     /// A value is not valid.
     pub(crate) bad_value: bool,
-    /// A field is no pseudo-field.
+    /// A field is a regular field.
     pub(crate) regular: bool,
-    /// A field is a pseudo-field.
+    /// A field is a pseudo-header field.
     pub(crate) pseudo: bool,
-    /// A pseudo-field stands after a regular field.
+    /// A pseudo-header field follows a regular field.
     pub(crate) late_pseudo: bool,
-    /// This kind of message has no such pseudo-field.
+    /// A pseudo-header field is one that this kind of message may not have.
     pub(crate) unknown_pseudo: bool,
-    /// A pseudo-field stands twice.
+    /// A pseudo-header field occurs twice.
     pub(crate) pseudo_twice: bool,
     /// The first `:method` of a request.
     pub(crate) method: Option<Method>,
@@ -46,7 +46,7 @@ pub(crate) struct Scan {
     pub(crate) authority: bool,
     /// The first `:status` of a response.
     pub(crate) status: Option<Status>,
-    /// A field is specific to one connection.
+    /// A field is connection-specific.
     pub(crate) connection_field: bool,
     /// A `content-length` is not valid, or several differ.
     pub(crate) bad_length: bool,
@@ -54,7 +54,7 @@ pub(crate) struct Scan {
     pub(crate) length: Option<u64>,
 }
 
-/// What is seen of no fields.
+/// The scan of no fields.
 pub(crate) fn empty() -> Scan
     ensures { (kind : Kind) → IsScan kind [] result }
 {
@@ -78,7 +78,7 @@ pub(crate) fn empty() -> Scan
 }
 
 // rule: 8.1.1 (own) A message to be sent is refused for the least of M1 to M11 it breaks
-/// What is seen of fields that are to be sent.
+/// The scan of fields to be sent.
 #[inline(never)]
 pub(crate) fn scan_fields(kind: Kind, fields: &[Field]) -> Scan
     ensures { IsScan kind fields.now result }
@@ -92,7 +92,7 @@ pub(crate) fn scan_fields(kind: Kind, fields: &[Field]) -> Scan
 
 // contract: 8.3 A final head is read only where it breaks no rule of its fields
 // rule: 8.3 A final head is read only where it breaks no rule of its fields
-/// What is seen of fields that were read.
+/// The scan of fields that were read.
 #[inline(never)]
 pub(crate) fn scan_list(kind: Kind, list: &FieldList) -> Scan
     ensures { IsScan kind list.now result }
@@ -108,7 +108,7 @@ pub(crate) fn scan_list(kind: Kind, list: &FieldList) -> Scan
 
 impl Scan {
     // rule: 8.3 A pseudo-field after a regular one, or in trailers, breaks M3
-    /// Adds what is seen of the next field.
+    /// Adds the next field to the scan.
     #[inline(always)]
     fn add(&mut self, kind: Kind, name: &[u8], value: &[u8])
         ensures { (fields : List Field) (sensitive : Bool) → IsScan kind fields self.old
@@ -131,7 +131,7 @@ impl Scan {
         }
     }
 
-    /// Adds a pseudo-field, and answers whether it is one that the kind of message has.
+    /// Adds a pseudo-header field, and returns whether this kind of message may have it.
     #[inline(always)]
     fn add_pseudo(&mut self, kind: Kind, name: &[u8], value: &[u8]) -> bool
         ensures seen { (fields : List Field) (sensitive : Bool) → is_colon_first name.now ≡ true
@@ -149,7 +149,7 @@ impl Scan {
 
     // rule: 8.3 A pseudo-field that its kind of message does not have breaks M4
     // rule: 8.3 A pseudo-field that stands twice breaks M5
-    /// Adds a pseudo-field of a request, and answers whether a request has it.
+    /// Adds a pseudo-header field of a request, and returns whether a request may have it.
     #[inline(always)]
     fn add_of_request(&mut self, name: &[u8], value: &[u8]) -> bool
         ensures seen { (fields : List Field) (sensitive : Bool) → is_colon_first name.now ≡ true
@@ -183,7 +183,7 @@ impl Scan {
 
     // rule: 8.3 A pseudo-field that its kind of message does not have breaks M4
     // rule: 8.3 A pseudo-field that stands twice breaks M5
-    /// Adds a pseudo-field of a response, and answers whether a response has it.
+    /// Adds a pseudo-header field of a response, and returns whether a response may have it.
     #[inline(always)]
     fn add_of_response(&mut self, name: &[u8], value: &[u8]) -> bool
         ensures seen { (fields : List Field) (sensitive : Bool) → is_colon_first name.now ≡ true
@@ -241,7 +241,7 @@ impl Scan {
 }
 
 // rule: 8.2.2 A connection-specific field breaks M10
-/// Whether a field with this name is specific to one connection (section 8.2.2).
+/// Whether a field with this name is connection-specific (section 8.2.2).
 #[inline(always)]
 fn is_connection_name(name: &[u8]) -> bool
     ensures { result ≡ list_any (λ other. bytes_eq name.now other) connection_names }

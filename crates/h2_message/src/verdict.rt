@@ -1,4 +1,4 @@
-//! What a scan of fields says of a message.
+//! What a scan of fields decides of a message.
 
 ghost use Rattle.std.specs.Prelude.{◌≡◌, ◌||◌, not, false, List};
 ghost use Rattle.hpack.specs.declared.types.field.Field.{Field};
@@ -30,7 +30,7 @@ pub(crate) fn first_broken(rules: &[(bool, Malformed)]) -> Option<Malformed>
 
 impl Scan {
     // rule: 8.3.1 A request without :method, :scheme or :path breaks M6
-    /// Whether a request lacks a pseudo-field that it must have.
+    /// Whether a request lacks a pseudo-header field that it must have.
     pub(crate) fn lacks_of_request(&self) -> bool
         ensures { (fields : List Field) → IsScan Request fields self.now
             → result ≡ lacks_pseudo Request fields }
@@ -39,7 +39,7 @@ impl Scan {
     }
 
     // rule: 8.3.2 A response without :status breaks M6
-    /// Whether a response does.
+    /// Whether a response lacks one.
     pub(crate) fn lacks_of_response(&self) -> bool
         ensures { (fields : List Field) → IsScan Response fields self.now
             → result ≡ lacks_pseudo Response fields }
@@ -70,7 +70,7 @@ impl Scan {
     }
 
     // rule: HTTP 9.3.2 A request asks with HEAD where the method of its head is HEAD
-    /// Whether a request asks with HEAD.
+    /// Whether the method of a request is HEAD.
     pub(crate) fn asks_head(&self) -> bool
         ensures { (fields : List Field) → IsScan Request fields self.now
             → result ≡ asks_head fields }
@@ -80,7 +80,7 @@ impl Scan {
 
     // rule: 8.3.2 A status that is not three digits from 100 on breaks M9
     // rule: 8.1 (own) No interim response is sent: a status 100 to 199 breaks M9
-    /// Whether the status of a response is not valid, or that of an interim response.
+    /// Whether the status of a response is not valid, or is interim.
     pub(crate) fn has_no_final_status(&self) -> bool
         ensures { (fields : List Field) → IsScan Response fields self.now
             → result ≡ (has_bad_status fields || is_interim fields) }
@@ -90,7 +90,7 @@ impl Scan {
     }
 
     // rule: 8.1 Interim responses come before the final head, without END_STREAM
-    /// Whether the status of a response is that of an interim response.
+    /// Whether the status of a response is interim.
     pub(crate) fn has_interim_status(&self) -> bool
         ensures { (fields : List Field) → IsScan Response fields self.now
             → result ≡ not (has_bad_status fields || not (is_interim fields)) }
@@ -109,7 +109,7 @@ impl Scan {
     }
 
     // rule: 8.3 A final head is read only where it breaks no rule of its fields
-    /// The rule that the head of a request breaks, of those of the head alone.
+    /// The first rule that the head of a request breaks, of those on a head alone.
     pub(crate) fn broken_by_request_head(&self) -> Option<Malformed>
         ensures { (fields : List Field) → IsScan Request fields self.now
             → result ≡ first_broken (request_head_rules fields) }
@@ -129,7 +129,7 @@ impl Scan {
     }
 
     // rule: 8.3 A final head is read only where it breaks no rule of its fields
-    /// The rule that the final head of a response breaks.
+    /// The first rule that the final head of a response breaks.
     pub(crate) fn broken_by_response_head(&self) -> Option<Malformed>
         ensures { (fields : List Field) → IsScan Response fields self.now
             → result ≡ first_broken (response_head_rules fields) }
@@ -148,7 +148,7 @@ impl Scan {
     }
 
     // rule: 8.1 Interim responses come before the final head, without END_STREAM
-    /// The rule that the head of an interim response breaks.
+    /// The first rule that the head of an interim response breaks.
     pub(crate) fn broken_by_interim(&self) -> Option<Malformed>
         ensures { (fields : List Field) → IsScan Response fields self.now
             → result ≡ first_broken (interim_rules fields) }
@@ -167,7 +167,7 @@ impl Scan {
 
     // rule: 8.3 A pseudo-field after a regular one, or in trailers, breaks M3
     // rule: 8.1 M1, M2, M3 and M10 hold of trailers
-    /// The rule that trailers break.
+    /// The first rule that trailers break.
     pub(crate) fn broken_by_trailers(&self) -> Option<Malformed>
         ensures { (fields : List Field) → IsScan Request fields self.now
             → result ≡ first_broken (trailer_rules fields) }

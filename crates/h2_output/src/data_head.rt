@@ -7,8 +7,8 @@ ghost use Rattle.h2_frame.specs.Encoding.{encoding_of};
 use h2_frame::{HEAD_LEN, Head, Kind};
 
 // rule: calls (own) Frames join the output that waits, in order
-/// The head of DATA without padding, of so many octets (RFC 9113, sections 4.1 and 6.1): followed
-/// by them, it is the frame.
+/// The head of a DATA frame of `length` octets without padding (RFC 9113, sections 4.1 and
+/// 6.1); with the octets after it, it is the frame.
 pub(crate) fn data_head(stream: u32, length: u32, end: bool) -> [u8; HEAD_LEN]
     requires { length < 2 ^ 24 }
     ensures { (octets : List ℕ) → count_of octets ≡ length

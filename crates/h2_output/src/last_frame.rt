@@ -5,8 +5,8 @@ ghost use Rattle.std.specs.Vec.{vec_capacity};
 
 use h2_frame::limits::LARGE_FRAME;
 
-/// The GOAWAY of a failed connection, which needs no memory: its octets, and how many of them were
-/// given out.
+/// The GOAWAY of a failed connection, which needs no memory: its octets, and how many of them
+/// were removed.
 #[derive(Clone, Copy, Debug)]
 pub(crate) struct LastFrame {
     pub(crate) octets: [u8; LARGE_FRAME],
@@ -16,7 +16,7 @@ pub(crate) struct LastFrame {
 
 impl LastFrame {
     // rule: 5.4.1 (own) The GOAWAY of a failed connection goes out last, once, without memory
-    /// How many of its octets wait.
+    /// The number of its octets that are left.
     pub(crate) fn len(&self) -> usize
         ensures value { result ≡ length (drop self.now.given self.now.octets) }
         ensures small { result ≤ 17 }
@@ -25,7 +25,7 @@ impl LastFrame {
     }
 
     // rule: 5.4.1 (own) The GOAWAY of a failed connection goes out last, once, without memory
-    /// Its octets that wait, from a place on.
+    /// Its octets that are left, from an offset on.
     pub(crate) fn part_from(&self, at: usize) -> &[u8]
         ensures { result.now ≡ drop at (drop self.now.given self.now.octets) }
     {
@@ -34,7 +34,7 @@ impl LastFrame {
     }
 
     // rule: 5.4.1 (own) The GOAWAY of a failed connection goes out last, once, without memory
-    /// Appends so many of its octets to `out`, which has capacity for them, and takes them away.
+    /// Appends `count` of its octets to `out`, which has the capacity, and removes them.
     pub(crate) fn put_out(&mut self, count: usize, out: &mut Vec<u8>)
         requires within { count ≤ length (drop self.old.given self.old.octets) }
         requires room { vec_len out.old + count ≤ vec_capacity out.old }
@@ -50,7 +50,7 @@ impl LastFrame {
     }
 
     // rule: 5.4.1 (own) The GOAWAY of a failed connection goes out last, once, without memory
-    /// Takes away so many of its octets.
+    /// Removes `count` of its octets.
     pub(crate) fn take_away(&mut self, count: usize)
         requires within { count ≤ length (drop self.old.given self.old.octets) }
         ensures waiting { drop self.new.given self.new.octets

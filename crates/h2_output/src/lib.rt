@@ -1,5 +1,5 @@
-//! The output of one end of a connection that waits to be given out: frames in their encoding, and
-//! at last the GOAWAY of a connection that has failed (RFC 9113, sections 4.1 and 6.8).
+//! The queued output of one end of a connection: encoded frames, and at last the GOAWAY of a
+//! connection that has failed (RFC 9113, sections 4.1 and 6.8).
 #![tactic(auto)]
 
 mod data_head;

@@ -1,4 +1,4 @@
-//! The output that waits.
+//! The queued output.
 
 ghost use Rattle.std.specs.Prelude.{◌≡◌, ◌+◌, ◌==◌, ◌^◌, ◌<◌, ◌≤◌, ◌++◌, [], length, min};
 ghost use Rattle.std.specs.Prelude.{take, drop, true, false, None, Some, OnOk, IfOk, OnErr, IsOk};
@@ -18,18 +18,17 @@ use h2_frame::{FrameRef, Head, Kind, word_octets, write_ref};
 use std::alloc::{AllocError, Global};
 use std::marker::Model;
 
-/// Room for the encoding of each control frame that an end adds.
+/// The capacity for the encoding of a control frame.
 const CONTROL: usize = 64;
 
-/// The output that waits to be given out. Room is had first (`reserve`), and then frames are added
-/// without taking memory.
+/// The queued output. Room is reserved first, and then frames are added without taking memory.
 #[derive(Drop)]
 pub struct Output {
-    /// What waits, but for the last frame.
+    /// The queued octets, without the last frame.
     queue: Queue,
-    /// What follows it, once the connection has failed.
+    /// The last frame, once the connection has failed.
     last: Option<LastFrame>,
-    /// A frame as it is encoded, with capacity for any but DATA and those of field blocks.
+    /// The encoding of one frame, with capacity for any but DATA and those of field blocks.
     frame: Vec<u8>,
 }
 
@@ -51,7 +50,7 @@ impl Model for Output {
 }
 
 impl Output {
-    /// Nothing waits.
+    /// Makes an empty output.
     ///
     /// # Errors
     ///
@@ -67,7 +66,7 @@ impl Output {
     }
 
     // rule: calls (own) Output is given out in order and once
-    /// How many octets wait. It takes no memory.
+    /// Returns the number of queued octets. It takes no memory.
     pub fn len(&self) -> usize
         ensures { result ≡ length self.now.waiting }
     {
@@ -79,7 +78,7 @@ impl Output {
     }
 
     // rule: calls (own) Output is given out in order and once
-    /// Whether nothing waits. It takes no memory.
+    /// Returns whether nothing is queued. It takes no memory.
     pub fn is_empty(&self) -> bool
         ensures { result ≡ (length self.now.waiting == 0) }
     {
@@ -88,9 +87,9 @@ impl Output {
 
     // contract: calls (own) An end lends its output, and says the place of a fault
     // rule: calls (own) An end lends its output, and says the place of a fault
-    /// Lends what waits from a place on, as much as lies there in one piece: frames, octets of a
-    /// body that were not copied, and what is left of the GOAWAY of a failed connection. It takes
-    /// no memory.
+    /// Lends the queued octets from an offset on, as many as lie there in one piece: of frames,
+    /// of a body that was not copied, or of the GOAWAY of a failed connection. It takes no
+    /// memory.
     pub fn waiting_from(&self, at: usize) -> &[u8]
         ensures part { StartsWith (drop at self.now.waiting) result.now }
         ensures some { at < length self.now.waiting → 0 < length result.now }
@@ -105,11 +104,11 @@ impl Output {
         }
     }
 
-    /// Makes room for so many octets more.
+    /// Reserves room for `additional` octets.
     ///
     /// # Errors
     ///
-    /// [`AllocError`] where there is less room and an allocation was refused.
+    /// [`AllocError`] where an allocation was needed and refused.
     pub fn reserve(&mut self, additional: usize) -> Result<(), AllocError>
         ensures waiting { self.new.waiting ≡ self.old.waiting }
         ensures ended { self.new.ended ≡ self.old.ended }
@@ -123,7 +122,7 @@ impl Output {
 
     // contract: calls (own) Frames join the output that waits, in order
     // rule: calls (own) Frames join the output that waits, in order
-    /// Adds a frame, of 64 octets at most, for which there is room. It takes no memory.
+    /// Adds a frame of at most 64 octets, for which there is room. It takes no memory.
     #[inline(always)]
     pub fn add_frame(&mut self, frame: FrameRef<'_>)
         requires up { self.old.ended ≡ false }
@@ -167,7 +166,7 @@ impl Output {
 
     // contract: calls (own) Frames join the output that waits, in order
     // rule: calls (own) Frames join the output that waits, in order
-    /// Adds a DATA frame without padding, for which there is room: its octets are copied once. It
+    /// Adds a DATA frame without padding, for which there is room, and copies its octets. It
     /// takes no memory.
     pub fn add_data(&mut self, stream: u32, octets: &[u8], end: bool)
         requires up { self.old.ended ≡ false }
@@ -186,8 +185,8 @@ impl Output {
 
     // contract: calls (own) Frames join the output that waits, in order
     // rule: calls (own) Frames join the output that waits, in order
-    /// Adds a DATA frame without padding, for which there is room, as [`Output::add_data`], with no
-    /// copy of its octets where they are many: they wait where they lie.
+    /// Adds a DATA frame without padding, for which there is room. If its octets are many they
+    /// are shared and not copied.
     pub fn add_shared_data(&mut self, stream: u32, octets: Bytes<Global>, end: bool)
         requires up { self.old.ended ≡ false }
         requires short { length octets < 2 ^ 24 }
@@ -205,7 +204,8 @@ impl Output {
 
     // contract: calls (own) Frames join the output that waits, in order
     // rule: calls (own) Frames join the output that waits, in order
-    /// Adds octets for which there is room: the frames of a field block. It takes no memory.
+    /// Adds the frames of a field block, already encoded, for which there is room. It takes no
+    /// memory.
     pub fn add_octets(&mut self, octets: &[u8])
         requires up { self.old.ended ≡ false }
         requires room { length octets.now ≤ self.old.spare }
@@ -219,8 +219,8 @@ impl Output {
 
     // contract: 5.4.1 (own) The GOAWAY of a failed connection goes out last, once, without memory
     // rule: 5.4.1 (own) The GOAWAY of a failed connection goes out last, once, without memory
-    /// Adds the GOAWAY of a connection that fails, after which nothing is added (RFC 9113, section
-    /// 6.8). It takes no memory and needs no room.
+    /// Adds the GOAWAY of a connection that fails, after which nothing is added (RFC 9113,
+    /// section 6.8). It takes no memory and needs no room.
     pub fn end_with_goaway(&mut self, last: u32, code: u32)
         requires up { self.old.ended ≡ false }
         requires number { last < 2 ^ 31 }
@@ -240,11 +240,11 @@ impl Output {
 
     // rule: calls (own) Output is given out in order and once
     // contract: 5.4.1 (own) The GOAWAY of a failed connection goes out last, once, without memory
-    /// Appends as many octets as wait, and at most `count`, to `out`, and takes them away.
+    /// Appends the first queued octets, at most `count`, to `out`, and removes them.
     ///
     /// # Errors
     ///
-    /// [`AllocError`] where `out` lacks the capacity and an allocation was refused. Neither has
+    /// [`AllocError`] where `out` lacks the capacity and an allocation was refused; nothing has
     /// changed.
     pub fn put_out(&mut self, count: usize, out: &mut Vec<u8>) -> Result<usize, AllocError>
         ensures ok { IfOk result (λ given. (given ≡ min count (length self.old.waiting))
@@ -261,7 +261,7 @@ impl Output {
 
         ensures shared { self.new.shared ≤ self.old.shared }
 
-        // Once nothing waits, all that waited and was copied is room again.
+        // Once nothing is queued, all that was copied is room again.
         ensures whole { self.old.ended ≡ false → self.new.waiting ≡ []
             → self.old.spare + length self.old.waiting ≤ self.new.spare + self.old.shared }
     {
@@ -277,7 +277,7 @@ impl Output {
 
     // rule: calls (own) Output is given out in order and once
     // contract: 5.4.1 (own) The GOAWAY of a failed connection goes out last, once, without memory
-    /// Takes away as many octets as wait, and at most `count`, which were read where they lie. It
+    /// Removes the first queued octets, at most `count`, which were read where they lie. It
     /// takes no memory.
     pub fn consume(&mut self, count: usize) -> usize
         ensures given { result ≡ min count (length self.old.waiting) }
@@ -287,7 +287,7 @@ impl Output {
 
         ensures shared { self.new.shared ≤ self.old.shared }
 
-        // Once nothing waits, all that waited and was copied is room again.
+        // Once nothing is queued, all that was copied is room again.
         ensures whole { self.old.ended ≡ false → self.new.waiting ≡ []
             → self.old.spare + length self.old.waiting ≤ self.new.spare + self.old.shared }
     {
@@ -301,7 +301,7 @@ impl Output {
     }
 }
 
-// Puts the encoding of a frame in the place of the octets, whose capacity suffices.
+// Replaces the octets, whose capacity suffices, by the encoding of a frame.
 fn encode(frame: FrameRef<'_>, octets: &mut Vec<u8>)
     requires writable { refusal (frame_of frame) ≡ None }
     requires room { length (encoding_of (frame_of frame)) ≤ vec_capacity octets.old }

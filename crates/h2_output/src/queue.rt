@@ -1,4 +1,4 @@
-//! Octets that wait in order: some are copied, and some lie where who has given them has them.
+//! A queue of octets, some copied and some shared with the caller.
 
 ghost use Rattle.std.specs.Prelude.{◌≡◌, ◌+◌, ◌^◌, ◌<◌, ◌≤◌, ◌++◌, [], length, take};
 ghost use Rattle.std.specs.Prelude.{drop, OnOk, OnErr, vec_len};
@@ -10,12 +10,12 @@ use bytes::{Bytes, BytesMut};
 use std::alloc::{AllocError, Global};
 use std::marker::Model;
 
-/// Octets that wait in order.
+/// A queue of octets.
 #[derive(Drop)]
 pub(crate) struct Queue {
-    /// Those that were copied.
+    /// The copied octets.
     own: BytesMut<Global>,
-    /// Those that are shared, each after some of the others.
+    /// The shared octets, in spans, each after some of the copied ones.
     spans: Spans,
 }
 
@@ -35,7 +35,7 @@ impl Model for Queue {
 }
 
 impl Queue {
-    /// Nothing waits.
+    /// Makes an empty queue.
     pub(crate) fn new(alloc: Global) -> Queue
         ensures { result.items ≡ [] }
     {
@@ -46,7 +46,7 @@ impl Queue {
     }
 
     // rule: calls (own) Output is given out in order and once
-    /// How many octets wait.
+    /// The number of queued octets.
     pub(crate) fn len(&self) -> usize
         ensures value { result ≡ length self.now.items }
         ensures bound { result < 2 ^ 63 + 2 ^ 33 }
@@ -55,7 +55,7 @@ impl Queue {
     }
 
     // rule: calls (own) An end lends its output, and says the place of a fault
-    /// The octets from a place on, as many as lie there in one piece.
+    /// The octets from an offset on, as many as lie there in one piece.
     pub(crate) fn part_from(&self, at: usize) -> &[u8]
         ensures part { StartsWith (drop at self.now.items) result.now }
         ensures some { at < length self.now.items → 0 < length result.now }
@@ -63,11 +63,11 @@ impl Queue {
         self.spans.part_from(self.own.as_slice(), at)
     }
 
-    /// Makes room for so many octets more.
+    /// Reserves room for `additional` octets.
     ///
     /// # Errors
     ///
-    /// [`AllocError`] where there is less room and an allocation was refused.
+    /// [`AllocError`] where an allocation was needed and refused.
     pub(crate) fn reserve(&mut self, additional: usize) -> Result<(), AllocError>
         ensures items { self.new.items ≡ self.old.items }
         ensures shared { self.new.shared ≡ self.old.shared }
@@ -79,7 +79,7 @@ impl Queue {
     }
 
     // rule: calls (own) Frames join the output that waits, in order
-    /// Adds octets, for which there is room, by a copy.
+    /// Copies octets into the queue, for which there is room.
     pub(crate) fn extend_reserved(&mut self, octets: &[u8])
         requires { length octets.now ≤ self.old.spare }
         ensures items { self.new.items ≡ self.old.items ++ octets.now }
@@ -90,7 +90,7 @@ impl Queue {
     }
 
     // rule: calls (own) Frames join the output that waits, in order
-    /// Adds octets, for which there is room, where they lie, or by a copy.
+    /// Adds octets, for which there is room: shared if they are many, else copied.
     pub(crate) fn share(&mut self, octets: Bytes<Global>)
         requires { length octets ≤ self.old.spare }
         ensures items { self.new.items ≡ self.old.items ++ octets }
@@ -106,7 +106,7 @@ impl Queue {
     }
 
     // rule: calls (own) Output is given out in order and once
-    /// Appends so many octets to `out`, which has capacity for them, and takes them away.
+    /// Appends the first `count` octets to `out`, which has the capacity, and removes them.
     pub(crate) fn put_out(&mut self, count: usize, out: &mut Vec<u8>)
         requires within { count ≤ length self.old.items }
         requires room { vec_len out.old + count ≤ vec_capacity out.old }
@@ -115,7 +115,7 @@ impl Queue {
         ensures spare { self.old.spare ≤ self.new.spare }
         ensures shared { self.new.shared ≤ self.old.shared }
 
-        // Once nothing waits, all that waited and was copied is room again.
+        // Once nothing is queued, all that was copied is room again.
         ensures whole { self.new.items ≡ []
             → self.old.spare + length self.old.items ≤ self.new.spare + self.old.shared }
         ensures capacity { vec_capacity out.old ≤ vec_capacity out.new }
@@ -131,14 +131,14 @@ impl Queue {
     }
 
     // rule: calls (own) Output is given out in order and once
-    /// Takes away so many octets.
+    /// Removes the first `count` octets.
     pub(crate) fn take_away(&mut self, count: usize)
         requires within { count ≤ length self.old.items }
         ensures waiting { self.new.items ≡ drop count self.old.items }
         ensures spare { self.old.spare ≤ self.new.spare }
         ensures shared { self.new.shared ≤ self.old.shared }
 
-        // Once nothing waits, all that waited and was copied is room again.
+        // Once nothing is queued, all that was copied is room again.
         ensures whole { self.new.items ≡ []
             → self.old.spare + length self.old.items ≤ self.new.spare + self.old.shared }
     {
@@ -151,5 +151,5 @@ impl Queue {
     }
 }
 
-/// So many octets are shared at least: fewer are copied, which costs less.
+/// The least number of octets that are shared; copying fewer costs less.
 const LEAST_SHARED: usize = 4_096;

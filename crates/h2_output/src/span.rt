@@ -1,4 +1,4 @@
-//! Octets of callers' that wait where they lie.
+//! Octets that are shared with the caller and not copied.
 
 ghost use Rattle.std.specs.Prelude.{◌≡◌, ◌+◌, ◌-◌, ◌<◌, ◌≤◌, ◌++◌, ◌∷◌, ℕ, List};
 ghost use Rattle.std.specs.Prelude.{[], length, drop, IfSome, IfNone};
@@ -10,30 +10,30 @@ use bytes::Bytes;
 use std::alloc::Global;
 use std::collections::VecDeque;
 
-/// Octets that are shared with who has given them, after so many octets of the queue.
+/// Shared octets, and their place among the copied ones.
 #[derive(Drop)]
 pub(crate) struct Span {
-    /// So many octets of the queue come before them, after the span before.
+    /// The number of copied octets between the span before and this one.
     pub(crate) before: usize,
     /// The octets.
     pub(crate) octets: Bytes<Global>,
 }
 
-/// Spans in order.
+/// The spans of a queue, in order.
 #[derive(Drop)]
 pub(crate) struct Spans {
     /// The spans, the first one first.
     pub(crate) all: VecDeque<Span, Global>,
-    /// How many octets of the queue come before the last of them.
+    /// The number of copied octets before the last span.
     pub(crate) before: usize,
-    /// How many octets they have.
+    /// The number of octets in the spans.
     pub(crate) shared: usize,
     ghost placed: { before ≡ octets_before all.items },
     ghost counted: { shared ≡ octets_shared all.items },
     ghost bounded: { shared ≤ most_shared },
 }
 
-/// So many octets are shared at once, at most; what comes then is copied.
+/// The most octets that are shared at once; further ones are copied.
 const MOST_SHARED: usize = 4_294_967_296;
 
 impl Spans {
@@ -49,8 +49,8 @@ impl Spans {
     }
 
     // rule: calls (own) Frames join the output that waits, in order
-    /// Adds a span, after so many octets of the queue, which hold those before the last span; gives
-    /// its octets back where an allocation was refused, or too many are shared.
+    /// Adds a span after `queued` copied octets, which include those before the last span.
+    /// Returns its octets where an allocation was refused, or too many are shared.
     pub(crate) fn add(&mut self, queued: usize, octets: Bytes<Global>) -> Option<Bytes<Global>>
         requires { self.old.before ≤ queued }
         ensures added { IfNone result ((self.new.all.items ≡ self.old.all.items
@@ -77,8 +77,8 @@ impl Spans {
     }
 
     // rule: calls (own) Output is given out in order and once
-    /// Takes away what lies in spans of so many octets of the queue and its spans; answers how
-    /// many of the queue are among them.
+    /// Removes the octets of spans among the first `count` of the queue, and returns how many
+    /// of these are copied ones.
     pub(crate) fn take_away(&mut self, count: usize) -> usize
         ensures woven { (queue : List ℕ) → self.old.before ≤ length queue
             → count ≤ length (weave self.old.all.items queue)
@@ -90,7 +90,7 @@ impl Spans {
         ensures shared { self.new.shared ≤ self.old.shared }
         ensures small { result ≤ count }
     {
-        // Mostly nothing is shared, and then nothing is looked at.
+        // Mostly nothing is shared; then all `count` octets are copied ones.
         if self.all.is_empty() {
             return count;
         }
@@ -120,7 +120,8 @@ impl Spans {
     }
 
     // rule: calls (own) An end lends its output, and says the place of a fault
-    /// The octets of a queue and its spans from a place on, as many as lie there in one piece.
+    /// The octets of copied octets and spans from an offset on, as many as lie there in one
+    /// piece.
     pub(crate) fn part_from<'a>(&'a self, queue: &'a [u8], at: usize) -> &'a [u8]
         requires fits { self.now.before ≤ length queue.now }
         ensures part { StartsWith (drop at (weave self.now.all.items queue.now)) result.now }

@@ -1,14 +1,14 @@
-//! Acts: calls of an end, and octets that it takes.
+//! Acts: calls of an end, and octets that it receives.
 
 use h2_conn::Config;
 use h2_frame::Code;
 use hpack::Field;
 
-/// A call with its arguments, or octets that have come.
+/// A call with its arguments, or octets that were received.
 #[derive(Drop)]
 pub enum Act {
-    /// Octets have come: [`Conn::take`](h2_conn::Conn::take) is called until it has used them and
-    /// reports nothing more, or the connection has failed.
+    /// Octets were received: [`Conn::take`](h2_conn::Conn::take) is called until it has used
+    /// them and reports nothing more, or the connection has failed.
     Take(Vec<u8>),
     /// [`Conn::open`](h2_conn::Conn::open).
     Open {

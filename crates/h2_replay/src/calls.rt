@@ -35,8 +35,8 @@ pub(crate) fn make_call(conn: &mut Conn, act: &Act, out: &mut Vec<u8>) -> Answer
     }
 }
 
-/// Sends PING. It is a function of its own, since the prover knows of a parameter that its octets
-/// are octets.
+/// Sends PING. It is a function of its own because the prover knows the octets of a parameter
+/// to be octets.
 fn pinged(conn: &mut Conn, octets: [u8; 8]) -> Answer
     ensures typed { IsTypedAct (logs.SendPing octets) }
     ensures makes { MakesCall conn.old (logs.SendPing octets) (answer_value result) [] conn.new }

@@ -1,5 +1,5 @@
-//! What a replay says: laws of what [`replay`](crate::replay) keeps. Each is the contract of a
-//! function that does nothing.
+//! Laws of what [`replay`](crate::replay) keeps, each the contract of a function that does
+//! nothing.
 
 ghost use Rattle.std.specs.Prelude.{◌≡◌, ◌<◌, ℕ, Bool, List, ◌∷◌, ◌++◌, not, Some, None, pos};
 ghost use Rattle.std.specs.Prelude.{int_lt, false, reverse};
@@ -29,9 +29,9 @@ ghost use Rattle.h2_replay.specs.Joined.{EndsWithCall};
 ghost use Rattle.h2_replay.specs.Replay.{KeepsReplay};
 
 // contract: replay (own) A replay keeps each act, its answer, its octets and its events
-/// The octets of the turns are those of the log: those that were used are a prefix of the octets of
-/// the acts, and all of them as long as the connection has not failed; those that joined the output
-/// are all that was written. The events are those that were reported, in order.
+/// The octets of the turns are those of the log. Those used are a prefix of the octets of the
+/// acts, and all of them while the connection has not failed; those that joined the output are
+/// all that was written. The events are those that were reported, in order.
 pub fn turns_are_of_the_log()
     ensures input { (role : Role) (values : Values) (acts : List ReplayAct)
         (kept : List code.Turn) (log : Log) (turns : List Turn)
@@ -54,9 +54,10 @@ pub fn turns_are_of_the_log()
 {}
 
 // contract: replay (own) A replay keeps each act, its answer, its octets and its events
-/// The output is a client's preface and then the items that were written, each of which can be
-/// sent. Each SETTINGS and each PING is replied to once, in order, and the field blocks are those
-/// of the lists that were accepted, in order (RFC 9113, sections 3.4, 4.1 to 4.3, 6.5.3 and 6.7).
+/// The output is a client's preface, if the end is one, and then the items written, each of
+/// which may be sent. Each SETTINGS and each PING is answered once, in order, and the field
+/// blocks are those of the accepted lists, in order (RFC 9113, sections 3.4, 4.1 to 4.3, 6.5.3
+/// and 6.7).
 pub fn output_of_a_replay()
     ensures items { (role : Role) (values : Values) (acts : List ReplayAct)
         (kept : List code.Turn) (log : Log) (turns : List Turn)
@@ -75,9 +76,10 @@ pub fn output_of_a_replay()
         log.encoder }
 {}
 
-/// The events are those of the items that were read, which are the frames, grouped (sections 4.3
-/// and 6.10). How the octets are cut into acts does not matter: replays that used the same octets,
-/// with the same calls and answers at the same places among them, report the same.
+/// The events are those of the items read, which are the frames, grouped (sections 4.3 and
+/// 6.10). How the octets are divided into acts does not matter: replays that used the same
+/// octets, with the same calls and answers at the same places among them, report the same
+/// events.
 pub fn events_of_a_replay()
     ensures grouped { (role : Role) (values : Values) (acts : List ReplayAct) (log : Log)
         (turns : List Turn) → IsReplay role values acts log turns → AreGrouped log }
@@ -91,7 +93,7 @@ pub fn events_of_a_replay()
         → script_of history ≡ script_of another → joined event_in kept ≡ joined event_in also }
 {}
 
-/// Where the connection has failed, the last frame of the output is GOAWAY with its code (section
+/// If the connection has failed, the last frame of the output is GOAWAY with its code (section
 /// 5.4.1).
 pub fn fault_of_a_replay()
     ensures { (role : Role) (values : Values) (acts : List ReplayAct) (log : Log)
@@ -99,15 +101,15 @@ pub fn fault_of_a_replay()
         → log.failed ≡ Some code → EndsInGoAway log code }
 {}
 
-/// Each call has an answer that it may have after the acts before it: it is refused for the first
-/// condition that holds, or when out of memory, and otherwise answered as the rules say.
+/// Each call has an answer that it may have after the acts before it: it is refused for the
+/// first condition that holds, or for lack of memory, and otherwise does what the rules say.
 pub fn calls_of_a_replay()
     ensures { (role : Role) (values : Values) (acts : List ReplayAct) (act : Act) (after : Log)
         (turns : List Turn) → IsReplay role values (Make act ∷ acts) after turns
         → EndsWithCall role values acts act after }
 {}
 
-/// Right after DATA with octets neither send window is negative (section 6.9.1).
+/// Right after DATA with octets, neither send window is negative (section 6.9.1).
 pub fn windows_of_a_replay()
     ensures { (role : Role) (values : Values) (acts : List ReplayAct) (log : Log)
         (turns : List Turn) (id count : ℕ) (octets : List ℕ) (end : Bool)

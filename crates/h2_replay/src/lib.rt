@@ -1,8 +1,8 @@
-//! Replays: a list of acts, which are calls or octets that have come, is made on a new end of a
-//! connection, and everything that happens is kept, in order.
+//! Replays: a list of acts, calls or octets received, is made on a new end of a connection, and
+//! everything that happens is kept, in order.
 //!
-//! What is kept is what the definitions of an end say of these acts. Laws say what that means:
-//! which octets are written, which events are reported, what is refused.
+//! What is kept is what the definitions of an end say of these acts. The laws say what follows:
+//! which octets are written, which events are reported, and what is refused.
 #![tactic(auto)]
 
 mod acts;

@@ -25,10 +25,10 @@ use std::alloc::{AllocError, Global};
 ///
 /// # Errors
 ///
-/// [`AllocError`] where an allocation of its own was refused, that of the new end among them; or
-/// once 2^64 - 1 octets have come, which no memory holds.
+/// [`AllocError`] where an allocation of the replay, or of the new end, was refused, and where
+/// 2<sup>64</sup> - 1 octets were used, which no memory holds.
 pub fn replay(alloc: Global, role: Role, config: Config, acts: Vec<Act>) -> Result<Log, AllocError>
-    // The turns are those of the acts, as the definitions of an end say them.
+    // The turns are those of the acts, by the definitions of an end.
     ensures { IfOk result (λ log. Replays role (values_of config) acts.items log.turns.items) }
 {
     let mut conn = new_conn(alloc, role, config)?;

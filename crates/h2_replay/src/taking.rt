@@ -1,4 +1,4 @@
-//! Octets that are taken.
+//! Octets that an end receives.
 
 ghost use Rattle.std.specs.Prelude.{map as each, ◌≡◌, ◌<◌, ◌≤◌, ◌++◌, length, take, IfOk, vec_len};
 ghost use Rattle.h2_spec_log.specs.Acts.{In, Out, Happened};
@@ -22,7 +22,7 @@ pub(crate) struct Taking {
     pub(crate) used: usize,
     /// What was reported.
     pub(crate) event: Option<Event<Vec<Field>, Vec<u8>>>,
-    /// The code with which the connection has failed: then nothing was reported.
+    /// The code with which the connection has failed, if it has: then nothing was reported.
     pub(crate) fault: Option<Code>,
 }
 
@@ -30,8 +30,8 @@ pub(crate) struct Taking {
 ///
 /// # Errors
 ///
-/// [`AllocError`] where an allocation was refused, and once 2^64 - 1 octets were used, which no
-/// memory holds.
+/// [`AllocError`] where an allocation was refused, and where 2<sup>64</sup> - 1 octets were
+/// used, which no memory holds.
 fn take_once(alloc: Global, conn: &mut Conn, piece: &[u8]) -> Result<Taking, AllocError>
     ensures used { IfOk result (λ taking. taking.used ≤ length piece.now) }
     ensures takes { IfOk result (λ taking. TakesCall conn.old piece.now taking conn.new) }
@@ -62,7 +62,7 @@ fn take_once(alloc: Global, conn: &mut Conn, piece: &[u8]) -> Result<Taking, All
     })
 }
 
-/// How a replay goes on after a call of `take`: with the octets after this number of them, or not.
+/// How a replay continues after a call of `take`: with the octets after the first ones, or not.
 #[derive(Clone, Copy)]
 pub(crate) enum Next {
     Again(usize),
@@ -129,8 +129,8 @@ fn take_piece(
 ///
 /// # Errors
 ///
-/// [`AllocError`] where an allocation was refused, and once 2^64 - 1 octets were used, which no
-/// memory holds.
+/// [`AllocError`] where an allocation was refused, and where 2<sup>64</sup> - 1 octets were
+/// used, which no memory holds.
 pub(crate) fn take_all(
     alloc: Global,
     conn: &mut Conn,

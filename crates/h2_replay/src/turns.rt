@@ -23,24 +23,24 @@ pub enum Answer {
 /// One thing that has happened.
 #[derive(Drop)]
 pub enum Turn {
-    /// Octets were used, by one call of [`Conn::take`](h2_conn::Conn::take): up to the end of one
-    /// frame, or up to the octet that made a fault, or else all of them; or none.
+    /// Octets were used, maybe none, by one call of [`Conn::take`](h2_conn::Conn::take): up to
+    /// the end of one frame, or up to the octet that made a fault, or else all of them.
     In(Vec<u8>),
     /// Octets have joined the queued output.
     Out(Vec<u8>),
     /// An act began.
     Call(Act),
-    /// It ended with this answer. What a call writes follows its answer.
+    /// The act ended with this answer. What a call writes follows its answer.
     Answer(Answer),
-    /// An event was reported, which is kept with its fields and octets.
+    /// An event was reported; its fields and octets are kept.
     Event(Event<Vec<Field>, Vec<u8>>),
 }
 
 /// What has happened in a replay.
 #[derive(Drop)]
 pub struct Log {
-    /// In order. The first is the output of the opening; then come, for each act, its
-    /// [`Turn::Call`] and its [`Turn::Answer`], with what its octets made in between, and after the
-    /// answer what the call has written.
+    /// The turns, in order: first the output of the opening; then, for each act, its
+    /// [`Turn::Call`], what its octets made, its [`Turn::Answer`], and what the call has
+    /// written.
     pub turns: Vec<Turn>,
 }

@@ -8,8 +8,8 @@ ghost use Rattle.h2_conn.specs.Conn.{ConnRepresents};
 use h2_conn::Conn;
 use std::alloc::{AllocError, Global};
 
-/// The octets that have joined the output in an act that has put `given` out, where `waited`
-/// octets were queued before it.
+/// The octets that have joined the output in an act that has removed `given` octets from it,
+/// where `waited` octets were queued before.
 ///
 /// # Errors
 ///

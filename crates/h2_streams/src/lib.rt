@@ -1,5 +1,5 @@
-//! The streams of one end of a connection: what is kept of those that are active, and of those that
-//! this end has reset (RFC 9113, section 5.1).
+//! The streams of one end of a connection (RFC 9113, section 5.1): what is kept of the active
+//! ones, and of those that this end has reset.
 #![tactic(auto)]
 
 mod entry;

@@ -22,8 +22,9 @@ use std::alloc::{AllocError, Global};
 use std::collections::{BTreeSet, HashMap};
 use std::marker::Model;
 
-/// What is kept of an active stream. Windows are kept as their difference from the initial window
-/// in force, so that SETTINGS, which shift all of them (RFC 9113, section 6.9.2), change none.
+/// What is kept of an active stream. Its windows are kept as differences from the initial
+/// windows in force, so SETTINGS, which shift all windows (RFC 9113, section 6.9.2), change
+/// none of these.
 #[derive(Clone, Copy, Debug)]
 pub(crate) struct Kept {
     pub(crate) send_offset: i64,
@@ -32,21 +33,21 @@ pub(crate) struct Kept {
     pub(crate) state: StreamState,
 }
 
-/// The streams of one end. The one that was opened last is found by one comparison, the other active
-/// ones by the hashes of their numbers, so that a look-up costs about the same for a thousand
-/// streams as for one; `next_active` and `greatest_send_window` go over all of them. Numbers that
-/// were reset are few: a tree has them.
+/// The streams of one end. The stream opened last is found by one comparison, other active ones
+/// by the hashes of their numbers, so a look-up costs about the same for 1,000 streams as for
+/// one; `next_active` and `greatest_send_window` go over all of them. The numbers that were
+/// reset are few, and in a tree.
 #[derive(Drop)]
 pub struct StreamTable {
     /// The active streams, by number.
     active: NumberTable<Kept>,
     /// The numbers that this end has reset.
     resets: BTreeSet<u32>,
-    /// The initial window of this end's sending side: the peer's value.
+    /// The initial send window of a stream: the peer's value.
     send_initial: u32,
-    /// That of the receiving side: the own value in force.
+    /// The initial receive window of a stream: this end's value in force.
     recv_initial: u32,
-    /// The greatest difference that an active stream's send window has had, 0 at least.
+    /// The greatest difference from the initial window that a send window has had, at least 0.
     send_most: i64,
 }
 
@@ -74,7 +75,7 @@ impl Model for StreamTable {
 }
 
 impl StreamTable {
-    /// A table without streams, with the initial windows of both directions.
+    /// Makes a table without streams, with the initial windows of both directions.
     pub fn new(alloc: Global, send_initial: u32, recv_initial: u32) -> StreamTable
         ensures { result ≡ record {
           entries = map.empty;
@@ -92,7 +93,7 @@ impl StreamTable {
     }
 
     // rule: 5.1 (own) What is kept of a stream is found by its number
-    /// What is kept of a number. It takes no memory.
+    /// Returns what is kept of a number, if anything is. It takes no memory.
     pub fn get(&self, id: u32) -> Option<Entry>
         ensures { option_map entry_value result ≡ map.get self.now.entries id }
     {
@@ -104,7 +105,7 @@ impl StreamTable {
     }
 
     // rule: 5.1 (own) What is kept of a stream is found by its number
-    /// The stream with this number, if it is active. It takes no memory.
+    /// Returns the stream with this number, if it is active. It takes no memory.
     pub fn stream(&self, id: u32) -> Option<Stream>
         ensures { option_map stream_view result ≡ stream_in (map.get self.now.entries id) }
     {
@@ -118,8 +119,8 @@ impl StreamTable {
     }
 
     // rule: 5.1 (own) A change of a stream changes that stream alone
-    /// Adds an active stream with a number of which nothing is kept. Its windows are no further
-    /// than 2<sup>32</sup> from zero.
+    /// Adds an active stream with a number of which nothing is kept. Its windows must be from
+    /// -2<sup>32</sup> to 2<sup>32</sup>.
     ///
     /// # Errors
     ///
@@ -141,8 +142,8 @@ impl StreamTable {
     }
 
     // rule: 5.1 (own) A change of a stream changes that stream alone
-    /// Changes an active stream. Its windows are no further than 2<sup>32</sup> from zero. It takes
-    /// no memory.
+    /// Changes an active stream. Its windows must be from -2<sup>32</sup> to 2<sup>32</sup>. It
+    /// takes no memory.
     pub fn set(&mut self, id: u32, stream: Stream)
         requires active { IsSome (stream_in (map.get self.old.entries id)) }
         requires send { is_far stream.send_window ≡ false }
@@ -159,8 +160,8 @@ impl StreamTable {
     }
 
     // rule: 5.1 (own) A change of a stream changes that stream alone
-    /// Forgets an active stream, since both sides have ended it, or the peer has reset it, or will
-    /// not process it. It takes no memory.
+    /// Forgets an active stream: both sides have ended it, or the peer has reset it or will not
+    /// process it. It takes no memory.
     #[inline(always)]
     pub fn close(&mut self, id: u32)
         requires { IsSome (stream_in (map.get self.old.entries id)) }
@@ -170,7 +171,7 @@ impl StreamTable {
     }
 
     // rule: 5.1 (own) A change of a stream changes that stream alone
-    /// Keeps of a number, whether a stream was active with it or not, that this end has reset it.
+    /// Records that this end has reset a number, whether or not a stream was active with it.
     ///
     /// # Errors
     ///
@@ -188,7 +189,7 @@ impl StreamTable {
         Ok(())
     }
 
-    /// The own initial window in force: that of the receiving side. It takes no memory.
+    /// Returns the initial receive window of a stream. It takes no memory.
     pub fn recv_initial(&self) -> u32
         ensures { result ≡ self.now.recv_initial }
     {
@@ -197,9 +198,9 @@ impl StreamTable {
 
     // contract: 6.9.2 INITIAL_WINDOW_SIZE shifts the window of each stream
     // rule: 6.9.2 INITIAL_WINDOW_SIZE shifts the window of each stream
-    /// Puts another initial window of the peer's in force: the send windows of all active streams
-    /// are shifted by the difference (RFC 9113, section 6.9.2), in one step whatever their number.
-    /// It takes no memory.
+    /// Sets the initial send window, which the peer has changed: the send windows of all active
+    /// streams are shifted by the difference (RFC 9113, section 6.9.2), in one step whatever
+    /// their number. It takes no memory.
     pub fn set_send_initial(&mut self, initial: u32)
         ensures { self.new ≡ record self.old {
           entries = each_entry (shifted_entry self.old.send_initial initial) self.old.entries;
@@ -210,8 +211,8 @@ impl StreamTable {
     }
 
     // rule: 6.9.2 INITIAL_WINDOW_SIZE shifts the window of each stream
-    /// Puts another own initial window in force: the receive windows of all active streams are
-    /// shifted. It takes no memory.
+    /// Sets the initial receive window, which this end has changed: the receive windows of all
+    /// active streams are shifted by the difference. It takes no memory.
     pub fn set_recv_initial(&mut self, initial: u32)
         ensures { self.new ≡ record self.old {
           entries = each_entry (recv_shifted_entry self.old.recv_initial initial) self.old.entries;
@@ -223,10 +224,10 @@ impl StreamTable {
 
     // contract: 6.9.2 A shift of a window above 2^31-1 is FLOW_CONTROL_ERROR
     // rule: 6.9.2 A shift of a window above 2^31-1 is FLOW_CONTROL_ERROR
-    /// Whether it is known, without a look at the streams, that an initial window of the peer's
-    /// brings no send window above 2<sup>31</sup> - 1: it is where the initial window, with the
-    /// greatest difference from the initial window in force that any stream has had, is at most
-    /// that. `false` says nothing. It takes no memory.
+    /// Returns `true` if the table knows, without going over the streams, that another initial
+    /// window of the peer's brings no send window above 2<sup>31</sup> - 1: that window and the
+    /// greatest difference that any send window has had are together at most that. `false`
+    /// decides nothing. It takes no memory.
     pub fn is_none_above(&self, initial: u32) -> bool
         ensures { result ≡ true → any_above self.now.send_initial initial
             (map.entries self.now.entries) ≡ false }
@@ -236,9 +237,9 @@ impl StreamTable {
 
     // contract: 6.9.2 A shift of a window above 2^31-1 is FLOW_CONTROL_ERROR
     // rule: 6.9.2 A shift of a window above 2^31-1 is FLOW_CONTROL_ERROR
-    /// The greatest send window of the active streams, if there are any: by it alone it is decided
-    /// whether an initial window would bring one of them above 2<sup>31</sup> - 1. It goes over all
-    /// active streams, and takes no memory.
+    /// Returns the greatest send window of the active streams, if there are any; it alone
+    /// decides whether another initial window brings a send window above 2<sup>31</sup> - 1. It
+    /// goes over all active streams, and takes no memory.
     pub fn greatest_send_window(&self) -> Option<i64>
         ensures { (initial : ℕ) → any_above self.now.send_initial initial
             (map.entries self.now.entries)
@@ -249,8 +250,8 @@ impl StreamTable {
     }
 
     // rule: 5.1 (own) The next active stream is the least above a number
-    /// The least active number above another. Where that is none of the next two, it goes over
-    /// all active streams. It takes no memory.
+    /// Returns the least active number above another. If neither of the next two numbers is
+    /// active, it goes over all active streams. It takes no memory.
     pub fn next_active(&self, above: u32) -> Option<u32>
         ensures number { number_or_none result
             ≡ first_active above (map.entries self.now.entries) }
@@ -262,7 +263,7 @@ impl StreamTable {
         }
     }
 
-    /// How a stream is kept.
+    /// A stream as it is kept.
     fn kept(&self, stream: Stream) -> Kept
         requires send { is_far stream.send_window ≡ false }
         requires recv { is_far stream.recv_window ≡ false }
@@ -303,7 +304,7 @@ fn greatest_of(streams: &HashMap<u32, Kept>) -> Option<i64>
     greatest
 }
 
-/// The greater of two differences, of which there may be but one.
+/// The greater of two differences, or the only one.
 fn greater_of(greatest: Option<i64>, offset: i64) -> i64
     ensures { result ≡ greater_of greatest offset }
 {
@@ -313,8 +314,8 @@ fn greater_of(greatest: Option<i64>, offset: i64) -> i64
     }
 }
 
-/// The first of the next two numbers that is active. A client uses odd numbers (RFC 9113, section
-/// 5.1.1), so it is mostly there while no stream has ended.
+/// The first of the next two numbers that is active. A client uses odd numbers (RFC 9113,
+/// section 5.1.1), so one of the two mostly is, until streams end.
 fn next_but_one(active: &NumberTable<Kept>, above: u32) -> Option<u32>
     ensures { IfSome result (λ number. IsLeastAbove above (all_of active.now) (Some number)) }
 {
@@ -329,7 +330,7 @@ fn next_but_one(active: &NumberTable<Kept>, above: u32) -> Option<u32>
     None
 }
 
-/// The least active number above another, if there are any.
+/// The least active number above another, if there is one.
 fn least_above(active: &NumberTable<Kept>, above: u32) -> Option<u32>
     ensures { IsLeastAbove above (all_of active.now) result }
 {
@@ -344,8 +345,8 @@ fn least_above(active: &NumberTable<Kept>, above: u32) -> Option<u32>
     }
 }
 
-/// The least number above another of some streams, if there are any. Those above it wrap to less
-/// than `rest`, in their order, and no others do: so each step of the loop is one addition and one
+/// The least number above another of some streams, if there is one. Only the numbers above it
+/// wrap to less than `rest`, in their order, so each step of the loop is one addition and one
 /// minimum.
 fn least_of(streams: &HashMap<u32, Kept>, above: u32) -> Option<u32>
     ensures { IsLeastAbove above streams.now.entries result }

@@ -21,11 +21,11 @@ use std::alloc::Global;
 /// What a cutter expects next.
 #[derive(Clone, Copy, Debug)]
 pub(crate) enum Phase {
-    /// The rest of the preface, of which so many octets were matched.
+    /// The rest of the preface, of which this many octets were matched.
     Preface(usize),
     /// A head, or the rest of one.
     Head,
-    /// A payload after this head, or the rest of one; the head had no fault when it came.
+    /// A payload after this head, or the rest of one; the head had no fault when it was read.
     Payload(Head),
     /// A head; octets that are kept are those of the frame that was returned last.
     Lent,
@@ -42,15 +42,15 @@ pub(crate) struct Buffer {
     pub(crate) greatest: u32,
     /// What is expected next.
     pub(crate) phase: Phase,
-    /// The octets of the frame that has begun, or of the one that was answered last if it was cut
-    /// in two.
+    /// The octets of the frame that has begun, or of the one returned last if it was cut in
+    /// two.
     pub(crate) octets: Vec<u8>,
-    /// How many octets were used, up to the greatest number, or the place of the fault.
+    /// The number of octets used, up to 2<sup>64</sup> - 1; after a fault its place.
     pub(crate) place: u64,
 }
 
 impl Buffer {
-    /// Nothing was used yet.
+    /// The state before any octet.
     pub(crate) fn new(alloc: Global, limit: u32, expect_preface: bool) -> Buffer
         ensures state { state_of result ≡ record {
           limit = limit;
@@ -96,7 +96,7 @@ impl Buffer {
             Phase::Head => self.take_head(piece, 0),
             Phase::Payload(head) => self.take_payload(piece, 0, head),
             Phase::Lent => {
-                // The frame that was answered last is kept no longer.
+                // The frame returned last is kept no longer.
                 self.octets.clear();
                 self.phase = Phase::Head;
                 self.take_head(piece, 0)
@@ -105,7 +105,7 @@ impl Buffer {
         }
     }
 
-    /// How many octets of a preface or a frame that isn't complete were used.
+    /// The number of octets used of a preface or a frame that is not complete.
     pub(crate) fn unparsed_len(&self) -> usize
         requires { BufferInvariant self.now }
         ensures value { result ≡ length (unparsed_of self.now.phase self.now.octets.items) }
@@ -133,7 +133,7 @@ impl Buffer {
     // rule: 3.4 A client sends the 24 octets of the preface and then frames
     // rule: 3.4 The first octet that differs from the preface is PROTOCOL_ERROR, there
     // rule: 3.4 (own) No octet of the preface is stored, so memory is not refused in it
-    // Takes octets inside the preface, of which so many were matched.
+    // Takes octets inside the preface, of which `matched` were matched before.
     #[inline(always)]
     fn take_preface(&mut self, matched: usize, piece: &[u8]) -> Result<Advance, WireFault>
         requires phase { self.old.phase ≡ Phase.Preface matched }
@@ -167,7 +167,7 @@ impl Buffer {
     }
 
     // rule: 4.2 A fault of a head is known at its ninth octet, whatever memory is
-    // A head begins or continues after so many octets of the piece.
+    // Takes a head that begins or continues at offset `start` of the piece.
     #[inline(always)]
     fn take_head(&mut self, piece: &[u8], start: usize) -> Result<Advance, WireFault>
         requires starts { StartsFrame self.old piece.now start }
@@ -202,8 +202,8 @@ impl Buffer {
     }
 
     // rule: 4.1 The frames of a stream do not depend on the pieces of its octets
-    // The head had no fault when it came, and its frame begins or continues after so many octets of
-    // the piece.
+    // Takes a payload whose head had no fault, and whose frame begins or continues at offset
+    // `start` of the piece.
     #[inline(always)]
     fn take_payload(&mut self, piece: &[u8], start: usize, head: Head) -> Result<Advance, WireFault>
         requires starts { StartsPayload self.old piece.now start head }
@@ -231,8 +231,8 @@ impl Buffer {
     }
 
     // rule: 4.1 (own) A frame that is cut in two is kept until the next call
-    // So many octets of the piece complete the frame with this head, which may have a fault of its
-    // payload.
+    // Ends the frame with this head, which the first `used` octets of the piece complete; its
+    // payload may be at fault.
     #[inline(always)]
     fn end_frame(
         &mut self,
@@ -259,7 +259,7 @@ impl Buffer {
     }
 
     // rule: 4.1 (own) A frame that is cut in two is kept until the next call
-    /// The payload of the complete frame with this head, where it lies.
+    /// Lends the payload of the complete frame with this head.
     pub(crate) fn payload<'a>(&'a self, piece: &'a [u8], head: Head, source: Source) -> &'a [u8]
         requires { length (octets_at self.now.octets.items piece.now (9 + head.length) source)
             ≡ 9 + head.length }
@@ -289,7 +289,7 @@ impl Buffer {
     }
 
     // rule: 5.4.1 The place of a fault counts the octets up to it, with the preface
-    // So many octets were used, and then this is expected.
+    // Counts `used` octets as used, and expects `phase` next.
     #[inline(always)]
     fn pass(&mut self, phase: Phase, used: usize)
         ensures { self.new ≡ record self.old {
@@ -302,7 +302,7 @@ impl Buffer {
     }
 
     // rule: 5.4.1 After a fault each layer answers that fault and changes nothing
-    // The stream is at fault, with the last of so many octets of the piece.
+    // Fails the stream with this fault, at the last of the first `used` octets of the piece.
     fn fail(&mut self, fault: WireFault, used: usize) -> WireFault
         ensures fault { result ≡ fault }
         ensures after { self.new ≡ record self.old {

@@ -1,4 +1,4 @@
-//! What one call cuts.
+//! The results of one call of a cutter.
 
 ghost use Rattle.std.specs.Prelude.{◌≡◌, ℕ, List, Some, length};
 ghost use Rattle.h2_wire.specs.Cutter.{CutterState, body_at};
@@ -8,20 +8,20 @@ use h2_frame::{FrameRef, HEAD_LEN, Head};
 /// Where the octets of a complete frame lie.
 #[derive(Clone, Copy, Debug, PartialEq, Eq)]
 pub(crate) enum Source {
-    /// In the piece, after so many of its octets.
+    /// In the piece, from this offset on.
     Piece(usize),
     /// In the cutter, which keeps a frame that was cut in two.
     Kept,
 }
 
-/// A complete frame: its head, its pad length, and whether it lies in the piece that completed it,
-/// or in the cutter, which keeps a frame that was cut in two.
-/// [`Cutter::frame`](crate::Cutter::frame) lends it, and
-/// [`Cutter::body`](crate::Cutter::body) its payload alone, without padding.
+/// A complete frame: its head, its pad length, and whether it lies in the piece that completed
+/// it, or in the cutter, which keeps a frame that was cut in two.
+/// [`Cutter::frame`](crate::Cutter::frame) lends it, and [`Cutter::body`](crate::Cutter::body)
+/// its payload alone, without padding.
 #[derive(Clone, Copy, Debug, PartialEq, Eq)]
 pub struct Complete {
     pub(crate) head: Head,
-    /// The pad length of a payload that begins with one.
+    /// The pad length, if the payload begins with one.
     pub(crate) pad: Option<u8>,
     pub(crate) source: Source,
 }
@@ -29,8 +29,8 @@ pub struct Complete {
 impl Complete {
     // contract: 6.1 With PADDED, DATA has a pad length, data and padding
     // rule: 6.1 With PADDED, DATA has a pad length, data and padding
-    /// How many octets [`Cutter::body`](crate::Cutter::body) lends of this frame, where they lie
-    /// there: of DATA those of its data. It takes no memory.
+    /// Returns the number of octets that [`Cutter::body`](crate::Cutter::body) lends of this
+    /// frame, if it lends any: for DATA the length of its data. It takes no memory.
     pub fn body_len(&self) -> usize
         ensures { (cutter : CutterState) (piece octets : List ℕ)
             → body_at cutter piece self.now ≡ Some octets → result ≡ length octets }
@@ -43,22 +43,22 @@ impl Complete {
     }
 }
 
-/// What one call of [`Cutter::advance`](crate::Cutter::advance) made of its piece; nothing is lent.
+/// The result of one call of [`Cutter::advance`](crate::Cutter::advance), which lends nothing.
 #[derive(Clone, Copy, Debug, PartialEq, Eq)]
 pub struct Advance {
-    /// How many octets of the piece were used: up to the end of the frame, or all of them where
-    /// there is none.
+    /// The number of octets of the piece that were used: up to the end of the frame, or all of
+    /// them if there is none.
     pub used: usize,
-    /// The frame that is complete now.
+    /// The frame that these octets complete, if they complete one.
     pub frame: Option<Complete>,
 }
 
-/// What one call of [`Cutter::cut`](crate::Cutter::cut) made of its piece.
+/// The result of one call of [`Cutter::cut`](crate::Cutter::cut).
 #[derive(Clone, Copy, Debug, PartialEq, Eq)]
 pub struct Cut<'a> {
-    /// How many octets of the piece were used: up to the end of the frame, or all of them where
-    /// there is none.
+    /// The number of octets of the piece that were used: up to the end of the frame, or all of
+    /// them if there is none.
     pub used: usize,
-    /// The frame that is complete now.
+    /// The frame that these octets complete, if they complete one.
     pub frame: Option<FrameRef<'a>>,
 }

@@ -40,14 +40,14 @@ impl Model for Cutter {
 
 impl Cutter {
     // contract: 3.4 A server sends frames at once, without a preface
-    /// A cutter that has used nothing. Payloads may have at most `limit` octets, until
-    /// [`Cutter::set_limit`] sets another limit, and where `expect_preface` is set, the stream
-    /// begins with the client's preface (RFC 9113, section 3.4).
+    /// Makes a cutter that has used nothing. Payloads may have at most `limit` octets, until
+    /// [`Cutter::set_limit`] sets another limit. If `expect_preface` is set, the stream must
+    /// begin with the client's preface (RFC 9113, section 3.4).
     pub fn new(alloc: Global, limit: u32, expect_preface: bool) -> Cutter
         ensures limit { result.limit ≡ limit }
         ensures greatest { result.greatest ≡ limit }
 
-        // It represents the stream of which nothing has come.
+        // It represents the empty stream.
         ensures represents { CutterRepresents result expect_preface (λ _. limit) [] [] }
     {
         Cutter {
@@ -58,27 +58,30 @@ impl Cutter {
     // contract: 4.1 (own) A frame whole in its piece is lent from there and takes no memory
     // rule: 4.1 (own) A frame whole in its piece is lent from there and takes no memory
     // contract: 4.1 (own) A frame that is cut in two is kept until the next call
-    /// Uses octets of the piece, up to the end of one frame, and says where that frame lies; or
-    /// uses all of them, where they complete no frame. The octets that follow a frame are for the
-    /// next call. [`Cutter::frame`] lends the frame, until the next call.
+    /// Uses octets of the piece, up to the end of one frame, and says where that frame lies; if
+    /// they complete no frame, it uses all of them. The octets after a frame are for the next
+    /// call. [`Cutter::frame`] lends the frame, until the next call.
     ///
     /// # Errors
     ///
-    /// [`WireFault::BadPreface`] at the first octet that isn't the preface's,
-    /// [`WireFault::HeadFault`] at the ninth octet of a head, [`WireFault::PayloadFault`] at the
-    /// last octet of a payload. [`Cutter::place`] says where, and every call from then on answers
-    /// the same fault. [`WireFault::Memory`] comes where an allocation is refused: nothing was
-    /// used, and the call may be made again.
+    /// - [`WireFault::BadPreface`] at the first octet that differs from the preface;
+    /// - [`WireFault::HeadFault`] at the ninth octet of a head;
+    /// - [`WireFault::PayloadFault`] at the last octet of a payload;
+    /// - [`WireFault::Memory`] where an allocation was refused: nothing was used, and the call
+    ///   may be repeated.
+    ///
+    /// After one of the first three, [`Cutter::place`] is the place of that octet, and every
+    /// later call returns the same fault.
     #[inline(always)]
     pub fn advance(&mut self, piece: &[u8]) -> Result<Advance, WireFault>
-        // A fault is answered again.
+        // A fault is returned again.
         ensures failed { IfSome self.old.fault (λ fault. result ≡ Err fault) }
 
-        // A head at fault is reported with its ninth octet, whatever memory there is.
+        // A head at fault is reported at its ninth octet, even without memory.
         ensures checked { (fault : HeadFault) → FaultsAtHead self.old piece.now fault
             → result ≡ Err (WireFault.HeadFault fault) }
 
-        // Memory is refused inside the preface only where more than its octets has come.
+        // Inside the preface memory can be refused only if the octets go past it.
         ensures preface { self.old.in_preface ≡ true → result ≡ Err WireFault.Memory
             → GoesPastPreface (self.old.unparsed ++ piece.now) }
 
@@ -88,9 +91,9 @@ impl Cutter {
         // Nor does a call without octets.
         ensures none { self.old.fault ≡ None → piece.now ≡ [] → result ≢ Err WireFault.Memory }
 
-        // Where the cutter represented a stream and its frames, it does with what was used, and
-        // with the frame that is complete, which lies where the answer says; or the stream is at
-        // fault.
+        // If the cutter represented a stream and its frames, it now represents that stream with
+        // the octets used, and those frames with the complete one, which lies where the result
+        // says; or the stream is at fault.
         ensures advances { Advances self.old piece.now result self.new }
     {
         self.buffer.take(piece)
@@ -99,15 +102,15 @@ impl Cutter {
     // contract: 4.1 (own) A frame whole in its piece is lent from there and takes no memory
     // rule: 4.1 (own) A frame whole in its piece is lent from there and takes no memory
     // contract: 4.1 (own) A frame that is cut in two is kept until the next call
-    /// Lends the frame that the last call of [`Cutter::advance`] answered; `piece` is the one that
-    /// it was given. It allocates nothing.
+    /// Lends the frame that the last call of [`Cutter::advance`] returned; `piece` is the one
+    /// given to that call. It allocates nothing.
     #[inline(always)]
     pub fn frame<'a>(&'a self, piece: &'a [u8], frame: Complete) -> FrameRef<'a>
         requires { HasFrame self.now piece.now frame }
         ensures value { Encodes (frame_of result) (octets_of self.now piece.now frame) }
 
-        // It is one that can be written: its numbers have the bits that their places have, and its
-        // stream and values are allowed for its kind.
+        // The frame may be written: its numbers fit their fields, and its type allows its
+        // stream and its values.
         ensures good { refusal (frame_of result) ≡ None }
 
         // The octets of DATA are what [`Cutter::body`] lends.
@@ -121,10 +124,10 @@ impl Cutter {
     // contract: 4.1 (own) A frame that is cut in two is kept until the next call
     // rule: 4.1 (own) A frame that is cut in two is kept until the next call
     // rule: 6.1 With PADDED, DATA has a pad length, data and padding
-    /// Lends the payload of the frame that the last call of [`Cutter::advance`] answered, without
-    /// pad length and padding (RFC 9113, sections 6.1 and 6.2): of DATA its data. `piece` is the
-    /// one that `advance` was given; where no such octets lie there, as in another piece, it is
-    /// `None`. It allocates nothing.
+    /// Lends the payload of the frame that the last call of [`Cutter::advance`] returned,
+    /// without pad length and padding (RFC 9113, sections 6.1 and 6.2): for DATA its data.
+    /// `piece` is the one given to that call; `None` if another one is too short to hold these
+    /// octets. It allocates nothing.
     pub fn body<'a>(&'a self, piece: &'a [u8], frame: Complete) -> Option<&'a [u8]>
         ensures { MatchOption result (body_at self.now piece.now frame ≡ None)
             (λ body. body_at self.now piece.now frame ≡ Some body.now) }
@@ -147,9 +150,9 @@ impl Cutter {
     // contract: 5.4.1 After a fault each layer answers that fault and changes nothing
     // contract: 5.4.1 The place of a fault counts the octets up to it, with the preface
     // contract: 6.1 A fault of a payload is known at its last octet
-    /// Uses octets of the piece, up to the end of one frame, and lends that frame; or uses all of
-    /// them, where they complete no frame. The octets that follow a frame are for the next call. It
-    /// is [`Cutter::advance`], and then [`Cutter::frame`].
+    /// Uses octets of the piece, up to the end of one frame, and lends that frame; if they
+    /// complete no frame, it uses all of them. The octets after a frame are for the next call.
+    /// It is [`Cutter::advance`] and then [`Cutter::frame`].
     ///
     /// # Errors
     ///
@@ -160,19 +163,19 @@ impl Cutter {
         ensures all { IfOk result (λ cut. cut.frame ≡ None → cut.used ≡ length piece.now) }
         ensures some { IfOk result (λ cut. IsSome cut.frame → 0 < cut.used) }
 
-        // A frame that is answered is one that can be written: its numbers have the bits that their
-        // places have, and its stream and values are allowed for its kind.
+        // A frame that is returned may be written: its numbers fit their fields, and its type
+        // allows its stream and its values.
         ensures good { IfOk result (λ cut. IfSome cut.frame (λ frame. refusal (frame_of frame)
             ≡ None)) }
 
-        // A fault is answered again.
+        // A fault is returned again.
         ensures failed { IfSome self.old.fault (λ fault. result ≡ Err fault) }
 
-        // A head at fault is reported with its ninth octet, whatever memory there is.
+        // A head at fault is reported at its ninth octet, even without memory.
         ensures checked { (fault : HeadFault) → FaultsAtHead self.old piece.now fault
             → result ≡ Err (WireFault.HeadFault fault) }
 
-        // Memory is refused inside the preface only where more than its octets has come.
+        // Inside the preface memory can be refused only if the octets go past it.
         ensures preface { self.old.in_preface ≡ true → result ≡ Err WireFault.Memory
             → GoesPastPreface (self.old.unparsed ++ piece.now) }
 
@@ -201,12 +204,12 @@ impl Cutter {
 
     // contract: 4.2 (own) A cutter's limit is changed for heads that are still to come
     // rule: 4.2 (own) A cutter's limit is changed for heads that are still to come
-    /// Sets the limit of payloads (RFC 9113, sections 4.2 and 6.5.2), for heads whose ninth octet
-    /// isn't used yet. A frame whose head was used before is cut as it would have been. It takes no
+    /// Sets the limit of payloads (RFC 9113, sections 4.2 and 6.5.2) for heads whose ninth
+    /// octet is not used yet. Frames whose head was used before are not affected. It takes no
     /// memory.
     pub fn set_limit(&mut self, limit: u32)
-        // Where the cutter represented a stream and its frames, it still does, with this limit for
-        // octets that follow.
+        // The cutter represents the same stream and frames, with this limit for the octets that
+        // follow.
         ensures { CutterLimited self.old limit self.new }
     {
         self.buffer.limit = limit;
@@ -217,8 +220,8 @@ impl Cutter {
     // rule: 4.1 Unparsed octets hold no complete frame and no fault
     // contract: 10.5 (own) What an end holds of a stream is bounded
     // rule: 10.5 (own) What an end holds of a stream is bounded
-    /// How many octets are unparsed: those of a preface or a frame that has begun and isn't
-    /// complete. It allocates nothing.
+    /// Returns the number of unparsed octets: those of a preface or a frame that has begun and
+    /// is not complete. It allocates nothing.
     pub fn held(&self) -> usize
         ensures value { result ≡ length self.now.unparsed }
         ensures preface { self.now.in_preface ≡ true → result ≤ 24 }
@@ -229,9 +232,8 @@ impl Cutter {
 
     // contract: 5.4.1 The place of a fault counts the octets up to it, with the preface
     // rule: 5.4.1 The place of a fault counts the octets up to it, with the preface
-    /// The place in the stream, counted from 1, of the octet that was used last, or of the octet
-    /// that made the fault; the greatest number of 64 bits where it is more than that. It allocates
-    /// nothing.
+    /// Returns the place in the stream, counted from 1, of the octet used last, or of the octet
+    /// that made the fault; up to 2<sup>64</sup> - 1. It allocates nothing.
     pub fn place(&self) -> u64
         ensures { result ≡ self.now.place }
     {
@@ -240,8 +242,8 @@ impl Cutter {
 
     // contract: 3.4 (own) A cutter says whether the preface is complete or none is expected
     // rule: 3.4 (own) A cutter says whether the preface is complete or none is expected
-    /// Whether the client's preface is complete, or none is expected (RFC 9113, section 3.4). After
-    /// [`WireFault::BadPreface`] it isn't. It allocates nothing.
+    /// Returns whether the client's preface is complete, or none is expected (RFC 9113, section
+    /// 3.4); `false` after [`WireFault::BadPreface`]. It allocates nothing.
     pub fn is_past_preface(&self) -> bool
         ensures { result ≡ not self.now.in_preface }
     {

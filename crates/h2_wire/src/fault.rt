@@ -7,19 +7,19 @@ use h2_frame::{Code, HeadFault};
 use std::alloc::AllocError;
 use thiserror::Error;
 
-/// Why a stream isn't cut any further.
+/// Why a stream cannot be cut any further.
 #[derive(Clone, Copy, Debug, PartialEq, Eq, Hash, Error)]
 pub enum WireFault {
-    /// An octet isn't that of the preface (RFC 9113, section 3.4).
+    /// V1: the input differs from the client's preface (RFC 9113, section 3.4).
     #[error("V1 BadPreface: the input does not begin with the connection preface")]
     BadPreface,
-    /// A head is at fault, known at its ninth octet.
+    /// V2: a head is at fault, known at its ninth octet.
     #[error("V2 HeadFault: {code}", code = .0.code())]
     HeadFault(HeadFault),
-    /// A payload is at fault, known at its last octet.
+    /// V3: a payload is at fault, known at its last octet.
     #[error("V3 PayloadFault: {0}")]
     PayloadFault(Code),
-    /// An allocation was refused.
+    /// V4: an allocation was refused.
     #[error("V4 Memory: out of memory")]
     Memory,
 }
@@ -37,8 +37,8 @@ impl From<AllocError> for WireFault {
 impl WireFault {
     // contract: 5.4 (own) Out of memory is INTERNAL_ERROR
     // rule: 5.4 (own) Out of memory is INTERNAL_ERROR
-    /// The code with which the connection ends: that of the fault, PROTOCOL_ERROR for a wrong
-    /// preface, and INTERNAL_ERROR for lack of memory.
+    /// Returns the code with which the connection ends: that of the head or the payload,
+    /// PROTOCOL_ERROR for a wrong preface, and INTERNAL_ERROR for a refused allocation.
     pub fn code(self) -> Code
         ensures { result ≡ wire_fault_code self }
     {

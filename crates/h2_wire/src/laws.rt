@@ -18,8 +18,8 @@ pub fn one_reading()
 {}
 
 // contract: 4.2 A payload as long as the limit is received
-/// What is read of a stream with some limits of payloads is read of it with limits that are nowhere
-/// less.
+/// The frames and unparsed octets of a stream are the same with limits of payloads that are
+/// nowhere lower.
 pub fn frames_are_read_with_wider_limits()
     ensures { (expects : Bool) (limits others : Limits) (stream : List ℕ) (frames : List Frame)
         (unparsed : List ℕ) → ((place : ℕ) → limits place ≤ others place)
@@ -28,8 +28,7 @@ pub fn frames_are_read_with_wider_limits()
 {}
 
 // contract: 5.4.1 A stream of octets has one fault at most, at one place
-/// A stream has one fault at most, at one place after the same frames, also with octets that
-/// follow.
+/// A stream has at most one fault, at one place after the same frames, whatever octets follow.
 pub fn one_fault()
     ensures { (expects : Bool) (limits : Limits) (stream more : List ℕ) (frames others : List Frame)
         (place other : ℕ) (fault another : Fault)

@@ -1,10 +1,10 @@
-//! A stream of HTTP/2 frames, cut (RFC 9113, sections 3.4 and 4.1).
+//! Cutting a stream of octets into HTTP/2 frames (RFC 9113, sections 3.4 and 4.1).
 //!
-//! [`Cutter::cut`] takes pieces of any length, and lends each frame once it is complete: from the
-//! piece, or from the cutter where it was cut in two. [`Cutter::advance`] and [`Cutter::frame`] are
-//! its two halves, for whoever changes something in between. The frames that `cut` answers are
-//! those of the joined octets, and a fault comes at its place in them, however they were cut into
-//! pieces.
+//! [`Cutter::cut`] takes the stream in pieces of any length, and lends each frame once it is
+//! complete: from the piece, or from the cutter if the frame was cut in two.
+//! [`Cutter::advance`] and [`Cutter::frame`] are its two halves, for a caller that changes
+//! something in between. The frames, and the place of a fault, are the same however the stream
+//! is cut into pieces.
 #![tactic(auto)]
 
 mod buffer;

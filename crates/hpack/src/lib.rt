@@ -1,8 +1,8 @@
 //! HPACK (RFC 7541): the dynamic table, the decoder and the encoder of field blocks.
 //!
-//! [`Decoder::decode`] answers the list and the table of a block exactly where the octets are one,
-//! unless memory runs out; [`Decoder::decode_into`] does so into a list that the caller keeps, and
-//! uses its room again. [`Encoder::encode`] appends a block of the list, in the one encoding that
+//! [`Decoder::decode`] returns the fields of a block if the octets are one, and an error
+//! otherwise; [`Decoder::decode_into`] does so with a list that the caller keeps, whose room it
+//! uses again. [`Encoder::encode`] appends a block of the list, in the one encoding that
 //! `docs/PROTOCOL.md` states.
 #![tactic(auto)]
 

@@ -1,27 +1,27 @@
-//! The faults of HPACK's texts.
+//! Faults of HPACK's integers and strings.
 
 ghost use Rattle.std.specs.Prelude.{◌≡◌};
 
 use std::alloc::AllocError;
 use thiserror::Error;
 
-/// Why octets are not read as a text, or a text is not written.
+/// Why an integer or a string cannot be read or written.
 #[derive(Clone, Copy, Debug, PartialEq, Eq, Hash, Error)]
 pub enum TextFault {
-    /// The octets end inside an integer or a string.
+    /// X1: the octets end inside an integer or a string.
     #[error("X1 Truncated: the input ends inside an integer or a string")]
     Truncated,
-    /// The fifth continuation octet of an integer has its top bit set.
+    /// X2: the fifth continuation octet of an integer has its top bit set.
     #[error("X2 TooLong: an integer has more than five continuation octets")]
     TooLong,
-    /// A Huffman-encoded string ends in more than seven bits that are no symbol, or in other bits
-    /// than ones.
+    /// X3: the last symbol of a Huffman-encoded string is followed by more than seven bits, or
+    /// by bits that are not all ones.
     #[error("X3 BadPadding: a Huffman-encoded string isn't padded with at most seven ones")]
     BadPadding,
-    /// A Huffman-encoded string has the code of EOS, the end symbol, in it.
+    /// X4: a Huffman-encoded string contains the code of the EOS symbol.
     #[error("X4 EndSymbol: a Huffman-encoded string contains the EOS symbol")]
     EndSymbol,
-    /// Memory was refused.
+    /// X5: an allocation was refused.
     #[error("X5 Memory: out of memory")]
     Memory,
 }

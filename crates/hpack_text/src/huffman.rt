@@ -21,7 +21,7 @@ use writer::append_huffman;
 
 // contract: HPACK 5.2 A Huffman-encoded string is written with the codes
 // contract: HPACK 5.2 A Huffman-encoded string is padded with ones
-/// How many octets [`huff_write`] appends for the text. It takes no memory.
+/// Returns the number of octets that [`huff_write`] appends for the text. It takes no memory.
 pub fn huff_len(text: &[u8]) -> usize
     requires { length text.now < 2 ^ 35 }
     ensures { result ≡ length (huffman_bits text.now) }
@@ -36,12 +36,13 @@ pub fn huff_len(text: &[u8]) -> usize
 // contract: HPACK 5.2 A Huffman-encoded string is written with the codes
 // rule: HPACK 5.2 A Huffman-encoded string is written with the codes
 // contract: HPACK 5.2 A Huffman-encoded string is padded with ones
-/// Appends the text in the Huffman code: the codes of its octets, and ones that pad the last octet.
+/// Appends the Huffman encoding of the text: the codes of its octets, and ones that pad the
+/// last octet.
 ///
 /// # Errors
 ///
-/// [`TextFault::Memory`], and `out` is unchanged. It doesn't come where `out` has room for
-/// [`huff_len`] octets.
+/// [`TextFault::Memory`] where an allocation was refused; `out` is unchanged. It does not come
+/// where `out` has room for [`huff_len`] octets.
 pub fn huff_write(text: &[u8], out: &mut Vec<u8>) -> Result<(), TextFault>
     requires { length text.now < 2 ^ 35 }
     ensures ok { OnOk result (out.new.items ≡ out.old.items ++ huffman_bits text.now) }
@@ -65,18 +66,18 @@ pub fn huff_write(text: &[u8], out: &mut Vec<u8>) -> Result<(), TextFault>
 // contract: HPACK 5.2 Padding of others than ones is a fault
 // contract: HPACK 5.2 The code of EOS inside a string is a fault
 // rule (contract): HPACK 5.2 (own) A text without octets is read without memory
-/// Reads all of `octets` as a text in the Huffman code.
+/// Reads all of `octets` as Huffman-encoded text.
 ///
 /// # Errors
 ///
-/// The fault that comes first from the left: [`TextFault::EndSymbol`] where the code of EOS, the
-/// end symbol, follows the last octet that can be read, and [`TextFault::BadPadding`] where
-/// anything else than at most seven ones follows it. [`TextFault::Memory`] comes where an
-/// allocation is refused, and not where there are no octets.
+/// The first from the left of [`TextFault::EndSymbol`], where the code of EOS follows the last
+/// octet that can be read, and [`TextFault::BadPadding`], where anything but at most seven ones
+/// follows it. [`TextFault::Memory`] where an allocation was refused, which needs at least one
+/// octet.
 pub fn huff_read(alloc: Global, octets: &[u8]) -> Result<Vec<u8>, TextFault>
     ensures ok { IfOk result (λ text. Huff text.items octets.now) }
 
-    // What is encoded is read, unless memory runs out.
+    // Encoded text is read, unless memory runs out.
     ensures only { (text : List ℕ) → Huff text octets.now
         → MatchResult result (λ read. read.items ≡ text) (λ fault. fault ≡ TextFault.Memory) }
     ensures fault { IfErr result (HuffFault octets.now) }
@@ -88,10 +89,11 @@ pub fn huff_read(alloc: Global, octets: &[u8]) -> Result<Vec<u8>, TextFault>
 }
 
 // rule: HPACK B The code is read by half octets, from state to state
-/// Reads four bits more, the most significant one first, from a state, and answers the next state
-/// and the octet whose code the bits end, if any. A state is a proper prefix of a code, numbered;
-/// 0 is the empty one. No four bits end two codes, as each code has five bits at least. None comes
-/// where the bits of the state and these four begin with the code of EOS. It takes no memory.
+/// Reads four more bits from a state, the most significant first, and returns the next state
+/// and the octet whose code the bits end, if they end one. A state is the number of a proper
+/// prefix of a code; 0 is the empty prefix. Four bits never end two codes, since each code has
+/// at least five. `None` where the prefix and these bits begin with the code of EOS. It takes
+/// no memory.
 #[inline]
 pub fn huff_step(state: u8, half: u8) -> Option<(u8, Option<u8>)>
     requires { half < 16 }

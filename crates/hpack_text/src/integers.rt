@@ -18,14 +18,14 @@ pub const MAX_CONTINUATION_OCTETS: usize = 5;
 // contract: HPACK 5.1 After a prefix of ones follow at most five (own) octets
 // contract: HPACK 5.1 An integer that is cut off or too long is a fault
 /// Reads the integer at the start of `octets`, whose first octet has `prefix` bits of it, and
-/// answers its value and how many octets encode it. The bits above the prefix are ignored, and
-/// octets may follow. At most five continuation octets are read; superfluous ones of zeros count
-/// too (RFC 7541, section 5.1).
+/// returns its value and the number of octets that encode it (RFC 7541, section 5.1). The bits
+/// above the prefix are ignored, and octets may follow. At most five continuation octets are
+/// read, superfluous zeros included. It takes no memory.
 ///
 /// # Errors
 ///
 /// [`TextFault::Truncated`] where the octets end inside the integer, and [`TextFault::TooLong`]
-/// where the fifth continuation octet says that a sixth follows. It takes no memory.
+/// where the fifth continuation octet says that a sixth follows.
 pub fn read_int(prefix: u8, octets: &[u8]) -> Result<(u64, usize), TextFault>
     requires at_least { 1 ≤ prefix }
     requires at_most { prefix ≤ 8 }
@@ -47,8 +47,8 @@ pub fn read_int(prefix: u8, octets: &[u8]) -> Result<(u64, usize), TextFault>
 ///
 /// # Errors
 ///
-/// [`TextFault::Memory`], and `out` is unchanged. It doesn't come where `out` has room for the
-/// encoding.
+/// [`TextFault::Memory`] where an allocation was refused; `out` is unchanged. It does not come
+/// where `out` has room for the encoding.
 #[inline(always)]
 pub fn write_int(prefix: u8, first_bits: u8, value: u64, out: &mut Vec<u8>) -> Result<(), TextFault>
     requires at_least { 1 ≤ prefix }
@@ -93,7 +93,7 @@ fn leading_int(prefix: u8, octets: &[u8]) -> Result<(u64, usize), TextFault>
 
 // rule: HPACK 5.1 After a prefix of ones follow at most five (own) octets
 // rule: HPACK 5.1 An integer that is cut off or too long is a fault
-/// Reads continuation octets: the number that they encode, seven bits each, and how many they are.
+/// Reads continuation octets, and returns the number that they encode and how many they are.
 fn read_continuation(octets: &[u8]) -> Result<(u64, usize), TextFault>
     ensures answer { MatchResult result (λ read. HasContinuation octets.now read.0 read.1)
         (ContinuationFault octets.now) }
@@ -112,7 +112,7 @@ fn read_continuation(octets: &[u8]) -> Result<(u64, usize), TextFault>
     Err(TextFault::TooLong)
 }
 
-/// Appends the encoding of an integer. On `Err` its first octets, or none, were appended.
+/// Appends the encoding of an integer. On `Err` a prefix of it was appended.
 #[inline(always)]
 fn append_integer(
     prefix: u8,
@@ -140,7 +140,7 @@ fn append_integer(
 }
 
 // rule: HPACK 5.1 (own) The shortest encoding of an integer is written
-/// Appends the continuation octets of a number. On `Err` the first of them, or none, were appended.
+/// Appends the continuation octets of a number. On `Err` a prefix of them was appended.
 fn append_continuation(number: u64, out: &mut Vec<u8>) -> Result<(), AllocError>
     requires { number < 2 ^ 35 }
     ensures ok { OnOk result (out.new.items ≡ out.old.items ++ continuation_of 4 number) }

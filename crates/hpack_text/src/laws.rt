@@ -1,4 +1,4 @@
-//! Laws of the texts, each the contract of a function that does nothing.
+//! Laws of integers and strings, each the contract of a function that does nothing.
 
 ghost use Rattle.std.specs.Prelude.{◌≡◌, ℕ, ◌^◌, ◌<◌, ◌≤◌, ◌%◌, nat_le, Bool, List, ◌++◌, length};
 ghost use Rattle.std.specs.List.{AllByRecursion};
@@ -9,28 +9,28 @@ ghost use Rattle.hpack_text.specs.Integers.{Int, integer};
 ghost use Rattle.hpack_text.specs.Strings.{Str, has_bit_h, string};
 
 // contract: HPACK 5.2 With H the octets are the codes of appendix B
-/// No code of a symbol begins the code of another one, EOS included.
+/// No symbol's code is a prefix of another symbol's, EOS included.
 pub fn no_code_begins_another()
     ensures { (symbol other : ℕ) (more following : List Bool) → symbol < 257 → other < 257
         → code symbol ++ more ≡ code other ++ following → symbol ≡ other }
 {}
 
-/// The code is complete: whatever thirty bits come, or more, they begin with the code of a symbol.
+/// The code is complete: any thirty bits, or more, begin with the code of a symbol.
 pub fn some_code_begins()
     ensures { (bit_list : List Bool) → 30 ≤ length bit_list
         → (symbol : ℕ) × (more : List Bool) × (symbol < 257) × (bit_list ≡ code symbol ++ more) }
 {}
 
 // contract: HPACK 5.2 With H the octets are the codes of appendix B
-/// Octets encode one text at most.
+/// Octets are the Huffman encoding of at most one text.
 pub fn one_text()
     ensures { (text other octets : List ℕ) → Huff text octets → Huff other octets → text ≡ other }
 {}
 
 // contract: HPACK 5.2 A Huffman-encoded string is written with the codes
 // contract: HPACK 5.2 A Huffman-encoded string is padded with ones
-/// A text has one encoding, which is the one that is written, and its length is the bits of its
-/// codes, rounded up.
+/// A text has one Huffman encoding, which is the one that is written. Its length is the bits of
+/// its codes, rounded up to octets.
 pub fn one_coding()
     ensures encoded { (text : List ℕ) → AllByRecursion IsOctet text
         → Huff text (huffman_bits text) }
@@ -47,8 +47,8 @@ pub fn one_coding_fault()
 {}
 
 // contract: HPACK 5.1 A value below 2^N-1 stands in the prefix of N bits
-/// No encoding of an integer begins another one, so what was written is read again, whatever
-/// follows it.
+/// No encoding of an integer is a prefix of another, so what was written is read again,
+/// whatever follows it.
 pub fn no_integer_begins_another()
     ensures { (prefix value other : ℕ) (octets others more following : List ℕ)
         → Int prefix value octets → Int prefix other others
@@ -66,8 +66,8 @@ pub fn shortest_integer()
 {}
 
 // contract: HPACK 5.2 A string is the bit H, its length and its octets
-/// No encoding of a string begins a different one, so what was written is read again, whatever
-/// follows it.
+/// No encoding of a string is a prefix of another's, so what was written is read again,
+/// whatever follows it.
 pub fn no_string_begins_another()
     ensures { (text other octets others more following : List ℕ) → Str text octets
         → Str other others

@@ -1,8 +1,8 @@
-//! The texts of HPACK (RFC 7541, section 5 and appendix B): integers with a prefix, the Huffman
-//! code, and strings.
+//! HPACK's integers and strings (RFC 7541, section 5 and appendix B): integers with a prefix,
+//! the Huffman code, and string literals.
 //!
-//! A text is read exactly where the octets encode it, and written in one stated encoding. Each
-//! fault has a number.
+//! A value is read if and only if the octets encode it, and is written in one stated encoding.
+//! Each fault has a number.
 #![tactic(auto)]
 
 mod fault;

@@ -12,7 +12,7 @@ use crate::huffman::{append_text, huff_len, huff_write};
 use crate::integers::{read_int, write_int};
 use std::alloc::Global;
 
-/// How many bits of the first octet are the length's.
+/// The number of bits of the first octet that hold the length.
 const PREFIX: u8 = 7;
 
 /// The bit H, which says that the string is Huffman-encoded.
@@ -22,21 +22,20 @@ const BIT_H: u8 = 128;
 // rule: HPACK 5.2 A string is the bit H, its length and its octets
 // contract: HPACK 5.2 Octets that end inside a string are a fault
 // rule (contract): HPACK 5.2 (own) A text without octets is read without memory
-/// Reads the string at the start of `octets`, and answers its text and how many octets encode it.
-/// Octets may follow.
+/// Reads the string at the start of `octets`, and returns its text and the number of octets
+/// that encode it. Octets may follow.
 ///
 /// # Errors
 ///
-/// [`TextFault::Truncated`] where the octets end inside the string, whatever its text is, and
-/// [`TextFault::TooLong`] as [`read_int`](crate::read_int) has it for the length; then the faults
-/// of a Huffman-encoded string, as [`huff_read`](crate::huff_read) has them. [`TextFault::Memory`]
-/// comes where an allocation is refused, and only where the complete string is there and holds an
-/// octet at least.
+/// [`TextFault::Truncated`] where the octets end inside the string, whatever its text is;
+/// [`TextFault::TooLong`] for the length, as in [`read_int`](crate::read_int); then, for a
+/// Huffman-encoded string, the faults of [`huff_read`](crate::huff_read). [`TextFault::Memory`]
+/// where an allocation was refused, which needs a complete string with at least one octet.
 pub fn read_string(alloc: Global, octets: &[u8]) -> Result<(Vec<u8>, usize), TextFault>
     ensures ok { IfOk result (λ read. (read.1 ≤ length octets.now)
         × Str read.0.items (take read.1 octets.now)) }
 
-    // What is encoded at the start is read, unless memory runs out.
+    // An encoded string is read, unless memory runs out.
     ensures only { (text : List ℕ) (count : ℕ) → count ≤ length octets.now
         → Str text (take count octets.now)
         → MatchResult result (λ read. (read.0.items ≡ text) × (read.1 ≡ count))
@@ -52,19 +51,19 @@ pub fn read_string(alloc: Global, octets: &[u8]) -> Result<(Vec<u8>, usize), Tex
 // contract: HPACK 5.2 A string is the bit H, its length and its octets
 // rule: HPACK 5.2 A string is the bit H, its length and its octets
 // rule: HPACK 5.2 (own) A text is appended to what stands there, or nothing is
-/// Reads the string at the start of `octets` as [`read_string`] does, appends its text to `out`,
-/// and answers how many octets encode it.
+/// Reads the string at the start of `octets` as [`read_string`] does, appends its text to
+/// `out`, and returns the number of octets that encode it.
 ///
 /// # Errors
 ///
-/// Those of [`read_string`], and `out` is unchanged. [`TextFault::Memory`] doesn't come where `out`
-/// has room for as many octets as the string holds, or, where it is Huffman-encoded, for 8/5 of
-/// that, which no text exceeds.
+/// Those of [`read_string`]; `out` is unchanged. [`TextFault::Memory`] does not come where
+/// `out` has room for as many octets as the string holds, or, if it is Huffman-encoded, for 8/5
+/// of them, which no text exceeds.
 pub fn read_string_into(octets: &[u8], out: &mut Vec<u8>) -> Result<usize, TextFault>
     ensures ok { IfOk result (λ count. (text : List ℕ) × (out.new.items ≡ out.old.items ++ text)
         × (count ≤ length octets.now) × Str text (take count octets.now)) }
 
-    // What is encoded at the start is read, unless memory runs out.
+    // An encoded string is read, unless memory runs out.
     ensures only { (text : List ℕ) (count : ℕ) → count ≤ length octets.now
         → Str text (take count octets.now)
         → MatchResult result
@@ -80,12 +79,12 @@ pub fn read_string_into(octets: &[u8], out: &mut Vec<u8>) -> Result<usize, TextF
 }
 
 // contract: HPACK 5.2 (own) A string is Huffman-encoded where that is not longer
-/// Appends the text as a string: Huffman-encoded where that isn't longer than raw.
+/// Appends the text as a string, Huffman-encoded where that is not longer than raw.
 ///
 /// # Errors
 ///
-/// [`TextFault::Memory`], and `out` is unchanged. It doesn't come where `out` has room for the
-/// string.
+/// [`TextFault::Memory`] where an allocation was refused; `out` is unchanged. It does not come
+/// where `out` has room for the string.
 pub fn write_string(text: &[u8], out: &mut Vec<u8>) -> Result<(), TextFault>
     requires { length text.now < 2 ^ 35 }
     ensures ok { OnOk result (out.new.items ≡ out.old.items ++ string text.now) }
@@ -104,7 +103,8 @@ pub fn write_string(text: &[u8], out: &mut Vec<u8>) -> Result<(), TextFault>
 
 // rule: HPACK 5.2 A string is the bit H, its length and its octets
 // rule: HPACK 5.2 Octets that end inside a string are a fault
-/// Appends the text of the string at the start of `octets`, and answers how many octets encode it.
+/// Appends the text of the string at the start of `octets`, and returns how many octets encode
+/// it.
 fn leading_string(octets: &[u8], out: &mut Vec<u8>) -> Result<usize, TextFault>
     ensures answer { MatchResult result
         (λ count. (text : List ℕ) × (out.new.items ≡ out.old.items ++ text)

@@ -80,7 +80,7 @@ fn build_block(
     read_fields(alloc, table, unparsed, builder)
 }
 
-/// Applies the size updates, after which the maximum is within the limit, and answers the octets
+/// Applies the size updates, after which the maximum is within the limit, and returns the octets
 /// of the fields.
 #[inline(always)]
 fn read_updates<'a>(table: &mut Table, limit: u32, octets: &'a [u8]) -> Result<&'a [u8], Fault>

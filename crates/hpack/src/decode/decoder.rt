@@ -14,7 +14,7 @@ use crate::types::field_list::FieldList;
 use std::alloc::Global;
 use std::marker::Model;
 
-/// Decodes the blocks of one direction of a connection, in order.
+/// Decodes the field blocks of one direction of a connection, in order.
 #[derive(Debug, Drop)]
 pub struct Decoder {
     alloc: Global,
@@ -37,7 +37,7 @@ impl Model for Decoder {
 }
 
 impl Decoder {
-    /// A decoder with an empty table, whose maximum and limit are `maximum`.
+    /// Makes a decoder with an empty table, whose maximum size and limit are `maximum` octets.
     ///
     /// # Errors
     ///
@@ -59,8 +59,8 @@ impl Decoder {
         })
     }
 
-    /// Sets the limit for the updates of later blocks. The maximum stays until an update. It takes
-    /// no memory.
+    /// Sets the limit, in octets, for the size updates of later blocks (RFC 7541, section 4.2).
+    /// The table's maximum changes only by such an update. It takes no memory.
     pub fn set_limit(&mut self, limit: u32)
         ensures { self.new ≡ record self.old { limit = limit } }
     {
@@ -68,7 +68,7 @@ impl Decoder {
     }
 
     // rule: HPACK 2.3.2 (own) The table that is lent is the decoder's or the encoder's own
-    /// The dynamic table, to be read. It takes no memory.
+    /// Returns the dynamic table, for reading. It takes no memory.
     pub fn table(&self) -> &Table
         ensures { result.now ≡ self.now.table }
     {
@@ -84,23 +84,23 @@ impl Decoder {
     // contract: HPACK 3.1 A block is decoded exactly where its octets are one
     // rule: HPACK 3.1 A block is decoded exactly where its octets are one
     // contract: HPACK 4.2 Size updates stand at the beginning of a block
-    /// Decodes a complete block: its fields in order, or [`List::TooLarge`] where their size is
-    /// above `list_limit` octets, by [`list_size`](crate::list_size) (RFC 9113, section 6.5.2); the
-    /// table is as after the complete block in either case. Past the limit no further field is
-    /// stored.
+    /// Decodes a complete block, and returns its fields in order, or [`List::TooLarge`] where
+    /// their size ([`list_size`](crate::list_size)) is above `list_limit` octets (RFC 9113,
+    /// section 6.5.2). Either way the complete block has changed the table; past the limit no
+    /// further field is stored.
     ///
     /// # Errors
     ///
-    /// [`Fault::Compression`] only where the octets are no block at this table and limit.
-    /// [`Fault::Memory`] where an allocation was refused. After either the decoder has failed, and
-    /// every call answers [`Fault::Failed`].
+    /// [`Fault::Compression`] where the octets are no block for this table and limit, and
+    /// [`Fault::Memory`] where an allocation was refused. After either the decoder has failed,
+    /// and every call returns [`Fault::Failed`].
     pub fn decode(&mut self, octets: &[u8], list_limit: u32) -> Result<List, Fault>
         ensures failed { self.old.failed ≡ true → (result ≡ Err Fault.Failed)
             × (self.new ≡ self.old) }
         ensures ok { IfOk result (λ list. (self.old.failed ≡ false)
             × Decodes self.old octets.now list_limit list self.new) }
 
-        // What is a block is decoded, unless memory runs out.
+        // A block is decoded, unless memory runs out.
         ensures only { (fields : Items OneField) (after : Entries) → self.old.failed ≡ false
             → Block self.old.table self.old.limit octets.now fields after
             → IfErr result (λ fault. fault ≡ Fault.Memory) }
@@ -118,12 +118,12 @@ impl Decoder {
     // rule: HPACK 3.1 A block is decoded exactly where its octets are one
     // contract: HPACK 4.2 Size updates stand at the beginning of a block
     // rule: HPACK 3.2 (own) A list that the caller keeps is emptied, then has the block's fields
-    /// Decodes a complete block as [`Decoder::decode`] does, into a list that the caller keeps. The
-    /// list is emptied first, and its room is used again; it is empty where the answer is
-    /// [`Decoded::TooLarge`]. Past the limit no further field is stored.
+    /// Decodes a complete block as [`Decoder::decode`] does, into a list that the caller keeps.
+    /// The list is emptied first, and its room is used again; it stays empty where the result
+    /// is [`Decoded::TooLarge`].
     ///
-    /// Memory is taken where the list lacks room, for an entry that is added to the table, and once
-    /// where the updates of the block change the capacity of the table's ring.
+    /// Memory is taken where the list lacks room, for an entry that is added to the table, and
+    /// once where the updates of the block change the capacity of the table's ring.
     ///
     /// # Errors
     ///
@@ -139,7 +139,7 @@ impl Decoder {
         ensures ok { IfOk result (λ decoded. (self.old.failed ≡ false)
             × DecodesInto self.old octets.now list_limit decoded list.new self.new) }
 
-        // What is a block is decoded, unless memory runs out.
+        // A block is decoded, unless memory runs out.
         ensures only { (fields : Items OneField) (after : Entries) → self.old.failed ≡ false
             → Block self.old.table self.old.limit octets.now fields after
             → IfErr result (λ fault. fault ≡ Fault.Memory) }
@@ -162,7 +162,7 @@ impl Decoder {
         decoded
     }
 
-    /// Answers [`Fault::Failed`] where an earlier block failed.
+    /// Returns [`Fault::Failed`] if an earlier block failed.
     fn check(&self) -> Result<(), Fault>
         ensures ok { OnOk result (self.now.failed ≡ false) }
         ensures err { IfErr result (λ fault. (fault ≡ Fault.Failed) × (self.now.failed ≡ true)) }

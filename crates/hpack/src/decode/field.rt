@@ -14,10 +14,10 @@ use crate::types::literal::Literal;
 use crate::types::read_field::ReadField;
 use std::alloc::Global;
 
-/// The room for a literal whose field is copied: as many octets as most have.
+/// The capacity for a literal whose field is copied: most have fewer octets.
 const LITERAL_ROOM: usize = 500;
 
-/// Appends the name and the value of the field at the start of `octets`, and answers what was read.
+/// Appends the name and the value of the field at the start of `octets`, and returns what was read.
 #[inline(always)]
 pub(crate) fn field_at(
     alloc: Global,
@@ -48,7 +48,7 @@ pub(crate) fn field_at(
     literal_at(alloc, table, kind, octets, out)
 }
 
-/// Reads the field at the start of `octets` as [`field_at`] does, and answers a copy of it and how
+/// Reads the field at the start of `octets` as [`field_at`] does, and returns a copy of it and how
 /// many octets encode it. The octets of a literal go through `literal`.
 #[inline(always)]
 pub(crate) fn owned_at(
@@ -74,8 +74,8 @@ pub(crate) fn owned_at(
 }
 
 // rule: HPACK 6.2 A literal has its name from an index or a string
-/// Reads the field at the start of `octets` as [`field_at`] does, and answers only how many octets
-/// encode it: of what an index names nothing is appended.
+/// Reads the field at the start of `octets` as [`field_at`] does, and returns only how many
+/// octets encode it: a field that an index names is not appended.
 pub(crate) fn skip_at(
     alloc: Global,
     table: &mut Table,
@@ -94,7 +94,7 @@ pub(crate) fn skip_at(
     Ok(read.count)
 }
 
-/// Whether the first octet is that of an index: its first bit is 1.
+/// Whether the first octet begins an index: its first bit is 1.
 #[inline(always)]
 fn begins_with_index(octets: &[u8]) -> bool
     ensures { IsTrue result ↔ FirstOctet 0x80 0x100 octets.now }
@@ -105,7 +105,7 @@ fn begins_with_index(octets: &[u8]) -> bool
 // rule: HPACK 6.2.1 A literal with incremental indexing is added to the table
 // rule: HPACK 6.2.2 A literal without indexing is not added
 // rule: HPACK 6.2.3 A literal never indexed is not added, and is sensitive
-/// The kind of a literal, by its first octet, or nothing where that is an update's.
+/// The kind of a literal, by its first octet; `None` for a size update.
 fn kind_of(first: u8) -> Option<Literal>
     requires { first < 0x80 }
     ensures { MatchOption result ((0x20 ≤ first) × (first < 0x40)) (λ kind. IsKind kind first) }

@@ -16,7 +16,7 @@ pub(crate) struct FieldListBuilder {
     pub(crate) octets: Vec<u8>,
     /// Where each field is.
     places: Vec<FieldPlace>,
-    /// What the limit leaves, or nothing where the size of the fields is above it.
+    /// What the limit leaves; `None` once the size of the fields is above it.
     remaining: Option<u32>,
 }
 

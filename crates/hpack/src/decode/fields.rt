@@ -13,7 +13,7 @@ use crate::table::dynamic_table::Table;
 use crate::types::fault::Fault;
 use std::alloc::Global;
 
-/// No octet.
+/// No first octet.
 const NO_INDEX: u16 = 0x100;
 
 // rule: HPACK 4.2 Size updates stand at the beginning of a block
@@ -39,10 +39,10 @@ pub(crate) fn read_fields(
     Ok(())
 }
 
-/// Reads the field at the start of `octets` into the list, and answers how many octets encode it.
-/// The field that was read last may have been an index in one octet, `repeatable`: the same octet
-/// then is the same field, of which no other copy is made. Answered too is that octet for the next
-/// field, or `NO_INDEX`.
+/// Reads the field at the start of `octets` into the list, and returns how many octets encode
+/// it and, if it is an index in one octet, that octet, or else `NO_INDEX`. `repeatable` is that
+/// octet of the field before: if it comes again, it is the same field, of which no other copy
+/// is made.
 #[inline(always)]
 fn read_next(
     alloc: Global,
@@ -73,8 +73,8 @@ fn read_next(
     Ok((count, NO_INDEX))
 }
 
-/// Reads the field at the start of `octets` into the list, and answers how many octets encode it.
-/// Where the list is too large, no copy is made of what an index names.
+/// Reads the field at the start of `octets` into the list, and returns how many octets encode
+/// it. Where the list is too large, no field that an index names is copied.
 #[inline(always)]
 fn read_one(
     alloc: Global,

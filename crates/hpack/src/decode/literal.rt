@@ -17,7 +17,7 @@ use crate::types::literal::Literal;
 use crate::types::read_field::ReadField;
 use std::alloc::{AllocError, Global};
 
-/// How many bits of an indexed field's index are in its first octet.
+/// The number of bits of an indexed field's index in the first octet.
 const INDEX_PREFIX: u8 = 7;
 
 // rule: HPACK 6.1 An indexed field is the entry
@@ -41,8 +41,8 @@ pub(crate) fn indexed<'a>(
 }
 
 // rule: HPACK 6.1 An indexed field is the entry
-/// Appends the name and the value of the field that the index at the start of `octets` names, and
-/// answers how long the name is and how many octets encode the index.
+/// Appends the name and the value of the field that the index at the start of `octets` names,
+/// and returns the length of the name and how many octets encode the index.
 #[inline(always)]
 pub(crate) fn indexed_at(
     table: &Table,
@@ -67,8 +67,8 @@ pub(crate) fn indexed_at(
 // rule: HPACK 6.2.1 A literal with incremental indexing is added to the table
 // rule: HPACK 6.2.2 A literal without indexing is not added
 // rule: HPACK 6.2.3 A literal never indexed is not added, and is sensitive
-/// Appends the name and the value of the literal at the start of `octets`, and answers what was
-/// read. What is to be added to the table is added.
+/// Appends the name and the value of the literal at the start of `octets`, adds the field to
+/// the table if its kind says so, and returns what was read.
 #[inline(always)]
 pub(crate) fn literal_at(
     alloc: Global,
@@ -120,8 +120,8 @@ fn add_literal(
 }
 
 // rule: HPACK 4.4 An entry larger than the maximum empties the table
-/// Adds a copy of the name and the value, which follows it, to the table. No copy is made of what
-/// is larger than the table's maximum, which empties it.
+/// Adds a copy of the name, and of the value that follows it, to the table. If they are larger
+/// than the table's maximum, they are not copied, and the table is emptied.
 #[inline(always)]
 fn add_copy(
     alloc: Global,
@@ -141,7 +141,7 @@ fn add_copy(
     Ok(())
 }
 
-/// How many bits of the index of a literal's name are in its first octet.
+/// The number of bits of the index of a literal's name in the first octet.
 fn index_prefix_bits(kind: Literal) -> u8
     ensures { result ≡ prefix_bits_of kind }
 {
@@ -152,7 +152,7 @@ fn index_prefix_bits(kind: Literal) -> u8
 }
 
 // rule: HPACK 6.2 A literal has its name from an index or a string
-/// Appends the name and the value of a literal, and answers how long the name is and how many
+/// Appends the name and the value of a literal, and returns how long the name is and how many
 /// octets encode the literal.
 #[inline(always)]
 fn parts_at(
@@ -181,8 +181,8 @@ fn parts_at(
 
 // rule: HPACK 4.4 A name by index is looked up before entries leave
 // rule: HPACK 6.2 A literal has its name from an index or a string
-/// Appends the name of a literal, after its index, and answers how many octets encode it: none
-/// where the index is that of an entry.
+/// Appends the name of a literal, after its index, and returns how many octets encode it: none
+/// where the index names an entry.
 #[inline(always)]
 fn name_at(table: &Table, index: u64, octets: &[u8], out: &mut Vec<u8>) -> Result<usize, Fault>
     ensures ok { IfOk result (λ count. (name : Items ℕ) × (out.new.items ≡ out.old.items ++ name)

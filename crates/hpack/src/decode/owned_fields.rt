@@ -15,7 +15,7 @@ use crate::types::field::List;
 use std::alloc::Global;
 
 // rule: HPACK 4.2 Size updates stand at the beginning of a block
-/// Reads all of `octets` as fields, and answers those, or that their size is above `list_limit`.
+/// Reads all of `octets` as fields, and returns them, or that their size is above `list_limit`.
 pub(crate) fn read_owned_fields(
     alloc: Global,
     table: &mut Table,
@@ -36,9 +36,9 @@ pub(crate) fn read_owned_fields(
     Ok(builder.list)
 }
 
-/// Reads the field at the start of `octets` into the list, and answers how many octets encode it.
-/// Where the list is too large, no copy is made of what an index names. The octets of a literal go
-/// through `literal`, whose room is used again.
+/// Reads the field at the start of `octets` into the list, and returns how many octets encode
+/// it. Where the list is too large, no field that an index names is copied. The octets of a
+/// literal go through `literal`, whose room is used again.
 #[inline(always)]
 fn read_owned(
     alloc: Global,

@@ -8,8 +8,8 @@ use crate::types::fault::Fault;
 use crate::types::field::{Field, List};
 use std::alloc::Global;
 
-/// The capacity that the first field reserves: as many fields as most requests have, in less than
-/// 1,024 octets, from where the C library allocates by another way.
+/// The capacity that the first field reserves: it holds the fields of most requests, in less
+/// than 1,024 octets, above which the C library allocates differently.
 const FIRST_CAPACITY: usize = 12;
 
 /// The list so far.

@@ -40,7 +40,7 @@ impl<T: Drop> From<AllocFailed<T>> for Fault {
     }
 }
 
-/// Reads the integer at the start of `octets`, and answers it and how many octets encode it.
+/// Reads the integer at the start of `octets`, and returns it and how many octets encode it.
 pub(crate) fn int_at(prefix_bits: u8, octets: &[u8]) -> Result<(u64, usize), Fault>
     requires at_least { 1 ≤ prefix_bits }
     requires at_most { prefix_bits ≤ 8 }
@@ -52,7 +52,7 @@ pub(crate) fn int_at(prefix_bits: u8, octets: &[u8]) -> Result<(u64, usize), Fau
     Ok(read)
 }
 
-/// Appends the text of the string at the start of `octets`, and answers how many octets encode it.
+/// Appends the text of the string at the start of `octets`, and returns how many octets encode it.
 pub(crate) fn text_at(octets: &[u8], out: &mut Vec<u8>) -> Result<usize, Fault>
     ensures ok { IfOk result (λ count. (text : Items ℕ) × (out.new.items ≡ out.old.items ++ text)
         × (count ≤ length octets.now) × Str text (take count octets.now)) }

@@ -9,13 +9,13 @@ use crate::decode::texts::int_at;
 use crate::table::dynamic_table::Table;
 use crate::types::fault::Fault;
 
-/// How many bits of a new maximum are in its first octet.
+/// The number of bits of a new maximum in its first octet.
 const MAXIMUM_PREFIX: u8 = 5;
 
 // rule: HPACK 6.3 A size update above the limit is a fault
 // rule: HPACK 4.2 A block without the update that a lower limit asks for is a fault
 // rule: HPACK 4.2 Size updates stand at the beginning of a block
-/// Applies the size updates at the beginning of `octets`, and answers the octets after them. The
+/// Applies the size updates at the beginning of `octets`, and returns the octets after them. The
 /// table is changed once, after the last update.
 #[inline(always)]
 pub(crate) fn apply_updates<'a>(
@@ -45,8 +45,8 @@ pub(crate) fn apply_updates<'a>(
 }
 
 // rule: HPACK 6.3 A size update sets the maximum
-/// The least maximum of those before the last update, and that of the last, after one more. Of the
-/// first update it is both.
+/// The least maximum before the last update, and the maximum of the last, after one more
+/// update; of a first update both are its own.
 fn with_maximum(maxima: Option<(u32, u32)>, maximum: u32) -> (u32, u32)
     ensures { (table : Entries) → after_maxima table (Some result)
         ≡ resized (after_maxima table maxima) maximum }

@@ -11,11 +11,11 @@ use crate::types::chains::Chains;
 use circular_buffer::HeapCircularBuffer;
 use std::alloc::{AllocError, Global};
 
-/// By how much numbers are lowered where the greatest one could be passed.
+/// By how much numbers are lowered before they would overflow.
 const REBASE: u32 = 1 << 31;
 
 impl Chains {
-    /// The chains of no entries, with room for so many.
+    /// Makes the chains of no entries, with the capacity for `capacity` of them.
     pub(crate) fn new(alloc: Global, capacity: usize) -> Result<Chains, AllocError>
         requires some { 0 < capacity }
         requires few { capacity ≤ 2 ^ 28 }
@@ -29,7 +29,8 @@ impl Chains {
         })
     }
 
-    /// The place of the newest entry in the bucket of a hash, or one past the last entry.
+    /// The place of the newest entry in the bucket of a hash; past the last entry if there is
+    /// none.
     #[inline(always)]
     pub(crate) fn first(&self, hash: u64) -> usize
         requires { hash < 2 ^ 64 }
@@ -55,7 +56,7 @@ impl Chains {
         }
     }
 
-    /// A new entry, in the bucket of its hash. It takes no memory.
+    /// Pushes a new entry into the bucket of its hash. It takes no memory.
     #[inline(always)]
     pub(crate) fn push(&mut self, hash: u64)
         ensures chains { (bucket : Entry → ℕ) (entries : List Entry) (one : Entry)
@@ -74,7 +75,7 @@ impl Chains {
         self.newest[bucket] = self.pushed;
     }
 
-    /// Lowers all numbers where the greatest one is reached.
+    /// Lowers all numbers before they would overflow.
     #[inline(always)]
     fn keep_countable(&mut self)
         ensures chains { (bucket : Entry → ℕ) (entries : List Entry)
@@ -91,8 +92,8 @@ impl Chains {
     }
 }
 
-/// Lowers all numbers, where the greatest one could be passed: what is older than that is as good
-/// as none, since far fewer entries are kept.
+/// Lowers all numbers before they would overflow. An entry whose number becomes 0 is lost, but
+/// is older than any that is still kept.
 fn lower(newest: &mut Vec<u32>)
     ensures len { length newest.new.items ≡ length newest.old.items }
     ensures lowered { (one : ℕ) → one < length newest.old.items

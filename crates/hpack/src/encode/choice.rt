@@ -31,9 +31,10 @@ pub(crate) enum Choice {
 // rule: HPACK 6.2.3 A sensitive field is never indexed
 // rule: HPACK 6.2.1 (own) Any other field is added to the table
 // rule: HPACK 6.2.2 (own) A field larger than the maximum is not added
-/// The choice for a field: a sensitive one is never indexed. Otherwise an exact entry gives its
-/// index; a field that is larger than the maximum isn't added, and any other is. Where it is added,
-/// its hashes are answered too.
+/// Chooses how a field is written. A sensitive field is a literal that is never indexed.
+/// Another one is the index of an exact entry if there is one, else a literal, which is added
+/// to the table unless it is larger than the maximum; if it is added, its hashes are returned
+/// too.
 pub(crate) fn choose(pending: &PendingTable, table: &Table, field: &Field) -> (Choice, Hashes)
     requires { IsPendingTable pending.now table.now }
     ensures chosen { choice_of result.0 ≡ choice (represented pending.now table.now) field.now }
@@ -62,7 +63,7 @@ pub(crate) fn choose(pending: &PendingTable, table: &Table, field: &Field) -> (C
 }
 
 // rule: HPACK 6.2 (own) A literal is encoded with the least index of its name
-/// The least index of the entries with the field's name, those of the static table first, or 0.
+/// The least index of an entry with the field's name, the static table first, or 0.
 #[inline(always)]
 fn name_index(pending: &PendingTable, table: &Table, name_hash: u64, field: &Field) -> u64
     requires pending { IsPendingTable pending.now table.now }
@@ -80,8 +81,8 @@ fn name_index(pending: &PendingTable, table: &Table, name_hash: u64, field: &Fie
 
 // contract: HPACK 6.1 (own) A field with an exact entry is its least index
 // rule: HPACK 6.1 (own) A field with an exact entry is its least index
-/// The least index of the entries with the field's name and value, those of the static table first,
-/// or 0 and the hash of both.
+/// The least index of an entry with the field's name and value, the static table first, or 0
+/// and the hash of both.
 fn exact_index(pending: &PendingTable, table: &Table, name_hash: u64, field: &Field) -> (u64, u64)
     requires pending { IsPendingTable pending.now table.now }
     requires hash { name_hash ≡ hash_of_octets 0 field.now.name }

@@ -18,15 +18,15 @@ use std::alloc::Global;
 use std::fmt;
 use std::marker::Model;
 
-/// The octets that are reserved for a field before its encoding is known: more than most have.
+/// The octets reserved for a field before its encoding is known; most have fewer.
 const FIELD_ROOM: usize = 32;
 
-/// Encodes the blocks of one direction of a connection, in order.
+/// Encodes the field blocks of one direction of a connection, in order.
 #[derive(Drop)]
 pub struct Encoder {
     alloc: Global,
     table: Table,
-    /// What becomes of the table while a block is encoded.
+    /// The table with the changes of the block that is being encoded.
     pending: PendingTable,
     /// The least limit since the last block, that block's own included.
     least: u32,
@@ -52,7 +52,7 @@ impl Model for Encoder {
 }
 
 impl Encoder {
-    /// An encoder with an empty table, whose maximum and limit are `maximum`.
+    /// Makes an encoder with an empty table, whose maximum size and limit are `maximum` octets.
     ///
     /// # Errors
     ///
@@ -76,10 +76,10 @@ impl Encoder {
     }
 
     // rule: HPACK 4.2 After the limit fell a block begins with one update or two
-    /// Sets the limit, in octets, of the peer's table (RFC 7541, section 4.2). The next block
-    /// announces what changed. It takes no memory; the next block takes room for `limit / 32`
-    /// entries, and [`Encoder::encode`] answers [`Fault::Memory`] as long as that is refused. So a
-    /// caller that has the limit from a peer caps it first, which the standard allows.
+    /// Sets the limit, in octets, of the peer's table (RFC 7541, section 4.2); the next block
+    /// announces the change. It takes no memory, but the next block takes room for `limit / 32`
+    /// entries, and [`Encoder::encode`] fails with [`Fault::Memory`] as long as that is
+    /// refused. So a limit that a peer sets should be capped first, which the standard allows.
     pub fn set_limit(&mut self, limit: u32)
         ensures { self.new ≡ after_limit self.old limit }
     {
@@ -88,7 +88,7 @@ impl Encoder {
     }
 
     // rule: HPACK 2.3.2 (own) The table that is lent is the decoder's or the encoder's own
-    /// The dynamic table, to be read. It takes no memory.
+    /// Returns the dynamic table, for reading. It takes no memory.
     pub fn table(&self) -> &Table
         ensures { result.now ≡ self.now.table }
     {
@@ -98,21 +98,23 @@ impl Encoder {
     // contract: HPACK 6.1 (own) A field with an exact entry is its least index
     // contract: HPACK 3.1 What is encoded is a block of the list
     // rule: HPACK 3.1 What is encoded is a block of the list
-    /// Appends the block of the fields (RFC 7541, section 6): the updates that are due, then each
-    /// field as the least index that names it, or as a literal with the least index of its name,
-    /// added to the table unless it is sensitive or larger than the maximum. Strings are
-    /// Huffman-encoded where that isn't longer. The list's size ([`list_size`](crate::list_size))
-    /// must be below 2<sup>35</sup>.
+    /// Appends the block of the fields (RFC 7541, section 6): the size updates that are due,
+    /// then each field as the least index of an entry equal to it, or else as a literal with
+    /// the least index of its name. A sensitive field is always a literal that is never
+    /// indexed; another literal is added to the table unless it is larger than the maximum.
+    /// Strings are Huffman-encoded where that is not longer. The list's size
+    /// ([`list_size`](crate::list_size)) must be below 2<sup>35</sup>.
     ///
     /// # Errors
     ///
-    /// [`Fault::Memory`], and neither the encoder nor `out` has changed.
+    /// [`Fault::Memory`] where an allocation was refused; neither the encoder nor `out` has
+    /// changed.
     pub fn encode(&mut self, fields: &[Field], out: &mut Vec<u8>) -> Result<(), Fault>
         requires { list_size fields.now < 2 ^ 35 }
         ensures ok { OnOk result ((out.new.items ≡ out.old.items ++ block_of self.old fields.now)
             × (self.new ≡ after_block self.old fields.now)) }
 
-        // It is a block of the list, for every decoder with the same table whose limit isn't below.
+        // It is a block of the list, for every decoder with the same table and no lower limit.
         ensures block { OnOk result ((limit : ℕ) → self.old.limit ≤ limit
             → Block self.old.table limit (block_of self.old fields.now) fields.now self.new.table) }
         ensures err { IfErr result (λ fault. (fault ≡ Fault.Memory)
@@ -123,12 +125,13 @@ impl Encoder {
     }
 
     // rule: HPACK 3.1 What is encoded is a block of the list
-    /// [`Encoder::encode`] for a caller that has asked for the list's size already: `size` is what
-    /// [`list_size`](crate::list_size) answers of the fields, below 2<sup>35</sup>.
+    /// Does what [`Encoder::encode`] does for a caller that knows the list's size: `size` is
+    /// what [`list_size`](crate::list_size) returns for the fields, below 2<sup>35</sup>.
     ///
     /// # Errors
     ///
-    /// [`Fault::Memory`], and neither the encoder nor `out` has changed.
+    /// [`Fault::Memory`] where an allocation was refused; neither the encoder nor `out` has
+    /// changed.
     pub fn encode_sized(
         &mut self,
         fields: &[Field],
@@ -167,8 +170,8 @@ impl Encoder {
     }
 
     // rule: HPACK 3.1 What is encoded is a block of the list
-    /// Appends the block of the fields. What can fail comes first: the table is changed once all is
-    /// written and copied. On `Err` a prefix of the block has been appended.
+    /// Appends the block of the fields. The table is changed last, after all that can fail. On
+    /// `Err` a prefix of the block has been appended.
     fn append_block(&mut self, fields: &[Field], out: &mut Vec<u8>) -> Result<(), Fault>
         requires { list_size fields.now < 2 ^ 35 }
         ensures block { OnOk result ((limit : ℕ) → self.old.limit ≤ limit

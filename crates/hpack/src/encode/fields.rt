@@ -53,7 +53,7 @@ pub(crate) fn append_fields(
     Ok(())
 }
 
-/// The items of a slice are octets: a proof learns this from the call, which does nothing.
+/// Does nothing; its contract tells a proof that the items of a slice are octets.
 fn are_octets(octets: &[u8])
     ensures { AllByRecursion IsOctet octets.now }
 {

@@ -5,11 +5,11 @@ ghost use Rattle.hpack.specs.Hashes.{bucket_of};
 ghost use Rattle.hpack.specs.Hashes.{mixed as mixed_word, short_word as short_word_of};
 ghost use Rattle.hpack.specs.Hashes.{hash_from as hash_of_octets};
 
-/// An odd number whose bits are about evenly spread, and with which the names of the static table
-/// are in 52 of 128 buckets, one in each.
+/// An odd number whose bits are about evenly spread. With it the 52 names of the static table
+/// fall into 52 different buckets of 128.
 const MULTIPLIER: u64 = 0xE085_CD84_E9EA_6675;
 
-/// The hash of octets that follow those of a hash, eight at a time.
+/// Continues a hash with further octets, eight at a time.
 pub(crate) fn hash_from(hash: u64, octets: &[u8]) -> u64
     ensures { result ≡ hash_of_octets hash octets.now }
 {
@@ -35,7 +35,7 @@ pub(crate) fn hash_from(hash: u64, octets: &[u8]) -> u64
     mixed(before_last, last)
 }
 
-/// The word of fewer than eight octets.
+/// Fewer than eight octets as a word.
 #[inline(always)]
 fn short_word(octets: &[u8]) -> u64
     requires { length octets.now < 8 }
@@ -54,7 +54,7 @@ fn short_word(octets: &[u8]) -> u64
     u64::from(u32::from_le_bytes(*first)) + (u64::from(u32::from_le_bytes(*last)) << 32)
 }
 
-/// A hash and one word more.
+/// Continues a hash with one word.
 #[inline(always)]
 fn mixed(hash: u64, word: u64) -> u64
     ensures { result ≡ mixed_word hash word }
@@ -63,7 +63,7 @@ fn mixed(hash: u64, word: u64) -> u64
     product ^ (product >> 32)
 }
 
-/// The bucket of a hash, among so many.
+/// The bucket of a hash, among `count`.
 #[inline(always)]
 pub(crate) fn bucket_at(count: usize, hash: u64) -> usize
     requires some { 0 < count }

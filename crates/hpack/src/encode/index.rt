@@ -24,7 +24,7 @@ pub(crate) fn hashes_of(name: &[u8], value: &[u8]) -> Hashes
 }
 
 impl Index {
-    /// The index of no entries, with room for those of a table with this maximum.
+    /// Makes the index of no entries, with the capacity for those of a table with this maximum.
     pub(crate) fn new(alloc: Global, maximum: u32) -> Result<Index, AllocError>
         ensures empty { IfOk result (λ index. IsIndexOf index []) }
         ensures capacity { IfOk result (λ index. index.names.skips.capacity ≡ maximum / 32 + 1) }
@@ -36,7 +36,7 @@ impl Index {
         })
     }
 
-    /// The chains of what is sought.
+    /// The chains by which to search.
     #[inline(always)]
     pub(crate) fn chains(&self, sought: Sought) -> &Chains
         ensures { (entries : List Entry) → IsIndexOf self.now entries
@@ -48,7 +48,7 @@ impl Index {
         }
     }
 
-    /// A new entry. It takes no memory.
+    /// Adds a new entry. It takes no memory.
     #[inline(always)]
     pub(crate) fn push(&mut self, hashes: Hashes)
         ensures entries { (entries : List Entry) (one : Entry) → IsIndexOf self.old entries
@@ -61,7 +61,7 @@ impl Index {
         self.exacts.push(hashes.exact);
     }
 
-    /// The index of a table's entries. It takes no memory.
+    /// Makes the index of a table's entries anew. It takes no memory.
     pub(crate) fn rebuild(&mut self, table: &Table)
         requires { table.now.maximum / 32 < self.old.names.skips.capacity }
         ensures entries { IsIndexOf self.new table.now.entries }
@@ -74,7 +74,7 @@ impl Index {
         }
     }
 
-    /// Room for a table with this maximum.
+    /// Reserves the capacity for a table with this maximum.
     pub(crate) fn reserve(
         &mut self,
         alloc: Global,

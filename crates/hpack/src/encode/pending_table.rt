@@ -1,4 +1,4 @@
-//! What becomes of a table while a block is encoded.
+//! The table with the changes of the block that is being encoded.
 
 ghost use Rattle.std.specs.Prelude.{◌≡◌, ℕ, ◌+◌, ◌-◌, ◌^◌, ◌/◌, ◌<◌, ◌≤◌, [], ◌∷◌, ◌++◌, min};
 ghost use Rattle.std.specs.Prelude.{length};
@@ -24,24 +24,24 @@ use std::alloc::{AllocError, Global};
 /// The index of the newest entry of a dynamic table.
 const FIRST_INDEX: u64 = 62;
 
-/// A table after changes that it hasn't undergone yet: of the entries that were added, from the
-/// newest on, and then of the table's own, the first `live` are still there.
+/// A table with changes not made in it yet: of the entries added, newest first, and then the
+/// table's own, the first `live` are in it.
 #[derive(Drop)]
 pub(crate) struct PendingTable {
-    /// Copies of what was added, the newest last.
+    /// Copies of the entries added, the newest last.
     added: Vec<Entry>,
-    /// How many entries are still there.
+    /// The number of entries in it.
     live: usize,
-    /// Their size.
+    /// The size of these.
     size: usize,
-    /// The greatest size.
+    /// The maximum size.
     maximum: u32,
-    /// Finds the entries that are still there.
+    /// Finds these entries.
     pub(crate) index: Index,
 }
 
 impl PendingTable {
-    /// An empty table.
+    /// Makes an empty table.
     pub(crate) fn new(alloc: Global, maximum: u32) -> Result<PendingTable, AllocError>
         ensures ready { IfOk result (λ pending. IsReady pending (empty_table maximum)) }
     {
@@ -54,7 +54,7 @@ impl PendingTable {
         })
     }
 
-    /// Room to find the entries of a table with this maximum.
+    /// Reserves the capacity to find the entries of a table with this maximum.
     pub(crate) fn reserve(
         &mut self,
         alloc: Global,
@@ -68,7 +68,7 @@ impl PendingTable {
         self.index.reserve(alloc, maximum, table)
     }
 
-    /// The table itself, before any change.
+    /// Starts from the table itself, without changes.
     pub(crate) fn begin(&mut self, table: &Table)
         requires { IsReady self.old table.now }
         ensures same { represented self.new table.now ≡ table.now }
@@ -82,7 +82,7 @@ impl PendingTable {
     }
 
     // rule: HPACK 3.1 What is encoded is a block of the list
-    /// The table itself again, and no change of it. It takes no memory.
+    /// Drops all changes. It takes no memory.
     pub(crate) fn undo(&mut self, table: &Table)
         requires { table.now.maximum / 32 < capacity_of self.old }
         ensures { IsReady self.new table.now }
@@ -91,7 +91,7 @@ impl PendingTable {
         self.index.rebuild(table);
     }
 
-    /// Sets the maximum, and lets the oldest entries leave.
+    /// Sets the maximum, and evicts the oldest entries.
     pub(crate) fn resize(&mut self, table: &Table, maximum: u32)
         requires pending { IsPendingTable self.old table.now }
         requires room { maximum / 32 < capacity_of self.old }
@@ -105,7 +105,7 @@ impl PendingTable {
         self.maximum = maximum;
     }
 
-    /// Adds an entry with these hashes, and lets the oldest entries leave.
+    /// Adds an entry with these hashes, and evicts the oldest entries.
     pub(crate) fn add(
         &mut self,
         table: &Table,
@@ -131,7 +131,7 @@ impl PendingTable {
     }
 
     // rule: HPACK 6.1 (own) A field with an exact entry is its least index
-    /// The least index of the dynamic entries that are looked for, or 0.
+    /// The least index of the dynamic entries sought, or 0.
     #[inline(always)]
     pub(crate) fn dynamic_index(
         &self,
@@ -176,8 +176,8 @@ impl PendingTable {
         }
     }
 
-    /// How many of the entries, from the newest on, have a size that is at most the bound, and that
-    /// size.
+    /// The number of the entries, newest first, whose size together is at most the bound, and
+    /// that size.
     #[inline(always)]
     fn fitting(&self, table: &Table, bound: usize) -> (usize, usize)
         requires live { self.now.live ≤ length (newest_first self.now table.now) }
@@ -198,7 +198,7 @@ impl PendingTable {
         (live, size)
     }
 
-    /// Whether the entry at a place, from the newest on, is what is looked for.
+    /// Whether the entry at a place, counted from the newest, is one sought.
     #[inline(always)]
     fn is_match_at(&self, table: &Table, place: usize, sought: Sought, field: &Field) -> bool
         ensures { (other : Entry) → place < length (newest_first self.now table.now)
@@ -211,7 +211,7 @@ impl PendingTable {
         }
     }
 
-    /// The size of an entry, by its place from the newest on.
+    /// The size of an entry, by its place counted from the newest.
     #[inline(always)]
     fn size_at(&self, table: &Table, place: usize) -> usize
         ensures { (other : Entry) → place < length (newest_first self.now table.now)
@@ -225,7 +225,7 @@ impl PendingTable {
         }
     }
 
-    /// The name and the value of an entry, by its place from the newest on.
+    /// The name and the value of an entry, by its place counted from the newest.
     #[inline(always)]
     fn get<'a>(&'a self, table: &'a Table, place: usize) -> Option<(&'a [u8], &'a [u8])>
         ensures { MatchOption result (length (newest_first self.now table.now) ≤ place)

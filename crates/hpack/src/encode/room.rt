@@ -1,4 +1,4 @@
-//! Room for a block before it is appended.
+//! Reserves room for a block before it is appended.
 
 ghost use Rattle.std.specs.Prelude.{◌≡◌, ◌+◌, ◌^◌, ◌<◌, ◌≤◌, OnOk, IfErr, vec_len};
 ghost use Rattle.std.specs.Vec.{vec_capacity};
@@ -11,8 +11,8 @@ use crate::types::field::Field;
 /// The octets of two size updates.
 const UPDATES: usize = 12;
 
-/// By how much a field's share of a list's size exceeds that of its block, beside name and value:
-/// 32 octets, and three integers of six octets.
+/// By how much a field's share of a list's size exceeds its share of the block, beside name and
+/// value: 32 octets less three integers of six.
 const SPARE: usize = 14;
 
 // rule: HPACK 3.1 What is encoded is a block of the list
@@ -29,7 +29,7 @@ pub(crate) fn reserve_block(fields: &[Field], size: usize, out: &mut Vec<u8>) ->
     Ok(())
 }
 
-/// The most octets of the block of the fields, whose list has this size.
+/// The most octets that the block of the fields has; their list has this size.
 fn octets_of_block(fields: &[Field], size: usize) -> usize
     requires bound { size_of_list fields.now < 2 ^ 35 }
     requires size { size ≡ size_of_list fields.now }

@@ -1,4 +1,4 @@
-//! Looking for the entry of a field in the static table.
+//! Searches the static table for the entry of a field.
 
 ghost use Rattle.std.specs.Prelude.{◌≡◌, ◌-◌, ◌<◌, ◌≤◌, true, false, length, take, drop};
 ghost use Rattle.std.specs.Prelude.{slice_index_or};
@@ -13,10 +13,10 @@ use crate::encode::static_chains::{first_place, skip_after, value_len};
 use crate::table::static_table::static_entry;
 use crate::types::field::Field;
 
-/// How many entries the static table has.
+/// The number of entries of the static table.
 const STATIC_COUNT: usize = 61;
 
-/// What is looked for.
+/// What is sought.
 #[derive(Clone, Copy)]
 pub(crate) enum Sought {
     /// An entry with the field's name and value.
@@ -38,8 +38,8 @@ pub(crate) fn is_match(sought: Sought, field: &Field, name: &[u8], value: &[u8])
 }
 
 // rule: HPACK 6.1 (own) A field with an exact entry is its least index
-/// The least index of the static table's entries that are looked for, or 0, by the hash of the
-/// field's name. Only names in the bucket of the hash are compared.
+/// The least index of the static table's entries sought, or 0, by the hash of the field's name.
+/// Only names in the bucket of the hash are compared.
 #[inline(always)]
 pub(crate) fn static_index(sought: Sought, hash: u64, field: &Field) -> u64
     requires { hash ≡ hash_from 0 field.now.name }
@@ -55,7 +55,7 @@ pub(crate) fn static_index(sought: Sought, hash: u64, field: &Field) -> u64
     0
 }
 
-/// Whether the entry of the static table at a place is looked for.
+/// Whether the entry of the static table at a place is one sought.
 #[inline(always)]
 fn is_static_match(sought: Sought, field: &Field, place: usize) -> bool
     requires { place < 61 }
@@ -68,8 +68,8 @@ fn is_static_match(sought: Sought, field: &Field, place: usize) -> bool
     is_entry_match(sought, field, place)
 }
 
-/// Whether a value is looked for that has another length than that of the entry at a place, as most
-/// values that differ have.
+/// Whether the value sought differs in length from that of the entry at a place; most values
+/// that differ do.
 #[inline(always)]
 fn differs_in_length(sought: Sought, field: &Field, place: usize) -> bool
     requires { place < 61 }
@@ -82,7 +82,7 @@ fn differs_in_length(sought: Sought, field: &Field, place: usize) -> bool
     }
 }
 
-/// Whether the entry of the static table at a place is looked for, by its octets.
+/// Whether the entry of the static table at a place is one sought, by its octets.
 #[inline(always)]
 fn is_entry_match(sought: Sought, field: &Field, place: usize) -> bool
     requires { place < 61 }
@@ -103,8 +103,8 @@ fn is_same(octets: &[u8], others: &[u8]) -> bool
     octets.len() == others.len() && have_same_words(octets, others)
 }
 
-/// Whether octets are the same that are as many: the last eight, and then the others from the
-/// beginning on.
+/// Whether two slices of the same length are equal: the last eight octets are compared, and
+/// then the others from the beginning on.
 fn have_same_words(octets: &[u8], others: &[u8]) -> bool
     requires length { length octets.now ≡ length others.now }
     requires octets { AreOctetsByPlace octets.now }
@@ -122,8 +122,8 @@ fn have_same_words(octets: &[u8], others: &[u8]) -> bool
     have_same_beginnings(octets, others)
 }
 
-/// Whether octets are the same that are as many, and fewer than eight: the first four, and then
-/// the last four.
+/// Whether two slices of the same length, below eight, are equal: the first four octets are
+/// compared, and then the last four.
 #[inline(always)]
 fn have_same_halves(octets: &[u8], others: &[u8]) -> bool
     requires few { length octets.now < 8 }
@@ -156,7 +156,7 @@ fn halves(octets: &[u8]) -> (u32, u32)
     (u32::from_le_bytes(*first), u32::from_le_bytes(*last))
 }
 
-/// All octets of a slice whose length is known: the compiler then knows it too.
+/// The whole slice, of a length that the compiler then knows.
 #[inline(always)]
 fn of_length(octets: &[u8], count: usize) -> &[u8]
     requires { length octets.now ≡ count }
@@ -165,7 +165,7 @@ fn of_length(octets: &[u8], count: usize) -> &[u8]
     &octets[..count]
 }
 
-/// Whether octets are the same whose last eight are.
+/// Whether two slices are equal whose last eight octets are.
 #[inline(always)]
 fn have_same_beginnings(octets: &[u8], others: &[u8]) -> bool
     requires long { 8 ≤ length octets.now }

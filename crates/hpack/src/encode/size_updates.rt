@@ -13,13 +13,13 @@ use crate::encode::pending_table::PendingTable;
 use crate::table::dynamic_table::Table;
 use crate::types::fault::Fault;
 
-/// How many bits of a maximum are in an update's first octet.
+/// The number of bits of a maximum in an update's first octet.
 const PREFIX: u8 = 5;
 
 /// The first bits of an update.
 const FIRST_BITS: u8 = 0x20;
 
-/// The maxima that a block announces before its fields.
+/// The size updates that a block begins with.
 #[derive(Clone, Copy)]
 pub(crate) enum SizeUpdates {
     /// None.
@@ -33,9 +33,9 @@ pub(crate) enum SizeUpdates {
 impl SizeUpdates {
     // rule: HPACK 4.2 After the limit fell a block begins with one update or two
     // rule: HPACK 4.2 After the limit only rose the block begins with one update to it
-    /// What is due at a table with this maximum: where the limit fell below the maximum, the least
-    /// limit, and the limit now if that is another; where it didn't and is above the maximum, the
-    /// limit now.
+    /// The updates due for a table with this maximum. If the limit fell below the maximum: the
+    /// least limit, and the limit now if it is another. Otherwise, if the limit is above the
+    /// maximum: the limit now.
     pub(crate) fn due(maximum: u32, least: u32, limit: u32) -> SizeUpdates
         ensures due { (state : EncoderState) → state.table.maximum ≡ maximum → state.least ≡ least
             → state.limit ≡ limit → maxima_of result ≡ size_updates_of state }

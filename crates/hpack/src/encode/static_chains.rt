@@ -8,7 +8,8 @@ ghost use Rattle.hpack.specs.Chains.{LeadsTo, name_bucket};
 
 use crate::encode::hash::bucket_at;
 
-/// The place of the first entry whose name is in the bucket of a hash, or one past the last entry.
+/// The place of the first entry whose name is in the bucket of a hash; past the last entry if
+/// there is none.
 #[inline(always)]
 pub(crate) fn first_place(hash: u64) -> usize
     ensures { LeadsTo name_bucket (bucket_of 128 hash) static_entries result }
@@ -16,7 +17,7 @@ pub(crate) fn first_place(hash: u64) -> usize
     usize::from(FIRST_PLACES[bucket_at(128, hash)])
 }
 
-/// How many entries lie between the one at a place and the next one in its bucket.
+/// The number of entries between the one at a place and the next one in its bucket.
 #[inline(always)]
 pub(crate) fn skip_after(place: usize) -> usize
     requires { place < 61 }
@@ -28,7 +29,7 @@ pub(crate) fn skip_after(place: usize) -> usize
     usize::from(SKIPS[place])
 }
 
-/// How many octets the value of the entry at a place has.
+/// The number of octets of the value of the entry at a place.
 #[inline(always)]
 pub(crate) fn value_len(place: usize) -> usize
     requires { place < 61 }
@@ -48,14 +49,14 @@ static FIRST_PLACES: [u8; 128] = [
     61, 55, 33, 61, 61, 61, 61, 61,
 ];
 
-/// For each entry, how many lie between it and the next one in its bucket, or 61.
+/// For each entry, the number of entries between it and the next one in its bucket, or 61.
 static SKIPS: [u8; 61] = [
     61, 0, 61, 0, 61, 0, 61, 0, 0, 0, 0, 0, 0, 61, 61, 61, 61, 61, 61, 61, 61, 61, 61, 61, 61, 61,
     61, 61, 61, 61, 61, 61, 61, 61, 61, 61, 61, 61, 61, 61, 61, 61, 61, 61, 61, 61, 61, 61, 61, 61,
     61, 61, 61, 61, 61, 61, 61, 61, 61, 61, 61,
 ];
 
-/// For each entry, how many octets its value has.
+/// For each entry, the number of octets of its value.
 static VALUE_LENGTHS: [u8; 61] = [
     0, 3, 4, 1, 11, 4, 5, 3, 3, 3, 3, 3, 3, 3, 0, 13, 0, 0, 0, 0, 0, 0, 0, 0, 0, 0, 0, 0, 0, 0, 0,
     0, 0, 0, 0, 0, 0, 0, 0, 0, 0, 0, 0, 0, 0, 0, 0, 0, 0, 0, 0, 0, 0, 0, 0, 0, 0, 0, 0, 0, 0,

@@ -9,7 +9,7 @@ ghost use Rattle.hpack.specs.Blocks.{Block, Update};
 ghost use Rattle.hpack.specs.Lists.{NoBlock};
 
 // contract: HPACK 3.1 A block is decoded exactly where its octets are one
-/// Octets are one block at most: one list of fields, and one table after it.
+/// Octets are at most one block: one list of fields, and one table after it.
 pub fn one_block()
     ensures { (table after other : Entries) (limit : ℕ) (octets : List ℕ)
         (fields others : List Field)
@@ -29,8 +29,8 @@ pub fn longest_prefix()
 {}
 
 // contract: HPACK 4.2 Size updates stand at the beginning of a block
-/// Size updates are at the beginning of a block alone (RFC 7541, section 4.2): octets in which an
-/// update follows a field are no block.
+/// Size updates come only at the beginning of a block (RFC 7541, section 4.2): octets in which
+/// an update follows a field are no block.
 pub fn no_update_after_a_field()
     ensures { (table after : Entries) (limit maximum : ℕ) (octets update others : List ℕ)
         (field : Field) (fields : List Field)

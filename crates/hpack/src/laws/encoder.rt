@@ -9,15 +9,16 @@ ghost use Rattle.hpack.specs.Written.{IsValidEncoder, AreOctets};
 ghost use Rattle.hpack.specs.Limits.{after_limit, chosen, IsSettled};
 
 // contract: HPACK 3.1 What is encoded is a block of the list
-/// What an encoder writes for a list is a block of that list, for every decoder with the encoder's
-/// table whose limit isn't below the encoder's, and it leaves the encoder's table.
+/// What an encoder writes for a list is a block of that list for every decoder with the
+/// encoder's table and no lower limit, and leaves the decoder with the encoder's table.
 pub fn written_block()
     ensures block { (state : EncoderState) (limit : ℕ) (fields : List Field) → IsValidEncoder state
         → AreOctets fields → list_size fields < 2 ^ 35
         → state.limit ≤ limit → Block state.table limit (block_of state fields) fields
         (after_block state fields).table }
 
-    // It holds of a new encoder, and after a block: the table is within its maximum, the limit.
+    // It holds for a new encoder, and after a block: the table is within its maximum, the
+    // limit.
     ensures begins { (maximum : ℕ) → maximum < 2 ^ 32
         → IsValidEncoder (record {
           table = empty_table maximum;
@@ -32,26 +33,26 @@ pub fn written_block()
 {}
 
 // contract: HPACK 4.2 After the limit fell a block begins with one update or two
-/// Of the limits that are set between two blocks, in order, the least and the last decide all that
-/// is written: what an encoder writes, which records no more of them, is what the list of them all
-/// says.
+/// Of the limits set between two blocks, in order, only the least and the last decide what is
+/// written: an encoder, which records no others, writes what the list of all of them asks for.
 pub fn least_and_last()
     ensures block { (state : EncoderState) (limits : List ℕ) (fields : List Field) → IsSettled state
         → block_of (fold after_limit state limits) fields ≡ chosen state.table limits fields }
 
-    // An encoder begins without limits that were set, and every block leaves it so.
+    // An encoder begins with no limits set, and each block leaves it so.
     ensures begins { (maximum : ℕ)
         → IsSettled (record { table = empty_table maximum; least = maximum; limit = maximum }) }
     ensures settled { (state : EncoderState) (fields : List Field) → IsValidEncoder state
         → IsSettled (after_block state fields) }
 
-    // Setting a limit leaves an encoder as it must be for what it writes to be a block.
+    // Setting a limit leaves an encoder valid, so that what it writes is a block.
     ensures limited { (state : EncoderState) (limit : ℕ) → limit < 2 ^ 32 → IsValidEncoder state
         → IsValidEncoder (after_limit state limit) }
 {}
 
 // contract: HPACK 3.1 What is encoded is a block of the list
-/// A block has at most the octets of its fields' names and values, 18 for each field, and 12.
+/// A block has at most as many octets as its fields' names and values, 18 for each field, and
+/// 12.
 pub fn most_octets_of_a_block()
     ensures { (state : EncoderState) (fields : List Field)
         → length (block_of state fields) ≤ most_octets fields }

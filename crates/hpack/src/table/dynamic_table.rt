@@ -18,16 +18,16 @@ use std::marker::Model;
 /// The least size of an entry.
 const LEAST_SIZE: u32 = 32;
 
-/// A dynamic table: entries, the newest first, and a maximum for their size. The size of an entry
-/// is that of its name and value, and 32; the size of the table is their sum, and is at most the
-/// maximum.
+/// A dynamic table: entries, the newest first, and a maximum for their size. An entry's size is
+/// the octets of its name and its value, and 32; the table's size is the sum of these, at most
+/// the maximum.
 #[derive(Drop)]
 pub struct Table {
     /// The entries, the newest at the front. It has room for all that the maximum allows.
     ring: HeapCircularBuffer<Entry>,
     /// The size of the entries.
     size: usize,
-    /// The greatest size.
+    /// The maximum size.
     maximum: u32,
 }
 
@@ -43,7 +43,7 @@ impl Model for Table {
 }
 
 impl Table {
-    /// An empty table with room for all the entries that the maximum allows.
+    /// Makes an empty table with room for all the entries that the maximum allows.
     pub(crate) fn new(alloc: Global, maximum: u32) -> Result<Table, AllocError>
         ensures { IfOk result (λ table. table ≡ empty_table maximum) }
     {
@@ -55,7 +55,7 @@ impl Table {
     }
 
     // rule: HPACK 2.3.2 (own) A table says its length, size and maximum
-    /// How many entries there are: at most the maximum divided by 32. It takes no memory.
+    /// Returns the number of entries, at most the maximum divided by 32. It takes no memory.
     pub fn len(&self) -> usize
         ensures value { result ≡ length self.now.entries }
         ensures bound { result ≤ self.now.maximum / 32 }
@@ -64,7 +64,7 @@ impl Table {
     }
 
     // rule: HPACK 2.3.2 (own) A table says its length, size and maximum
-    /// Whether there is no entry. It takes no memory.
+    /// Returns whether there is no entry. It takes no memory.
     pub fn is_empty(&self) -> bool
         ensures { result ≡ (length self.now.entries == 0) }
     {
@@ -75,7 +75,8 @@ impl Table {
     // rule: 10.5 (own) What an end holds of a stream is bounded
     // contract: HPACK 4.4 The oldest entries leave until the size is at most the maximum
     // rule: HPACK 2.3.2 (own) A table says its length, size and maximum
-    /// The size of the entries: at most the maximum (RFC 7541, section 4.1). It takes no memory.
+    /// Returns the size of the entries in octets, at most the maximum (RFC 7541, section 4.1).
+    /// It takes no memory.
     pub fn size(&self) -> usize
         ensures value { result ≡ table_size self.now.entries }
         ensures bound { result ≤ self.now.maximum }
@@ -84,7 +85,7 @@ impl Table {
     }
 
     // rule: HPACK 2.3.2 (own) A table says its length, size and maximum
-    /// The maximum (section 4.2). It takes no memory.
+    /// Returns the maximum size in octets (section 4.2). It takes no memory.
     pub fn maximum(&self) -> u32
         ensures { result ≡ self.now.maximum }
     {
@@ -92,7 +93,8 @@ impl Table {
     }
 
     // rule: HPACK 2.3.2 The dynamic table has its newest entry first
-    /// The name and the value of an entry, by its place: 1 is the newest. It takes no memory.
+    /// Returns the name and the value of an entry by its place: 1 is the newest. It takes no
+    /// memory.
     pub fn get(&self, place: usize) -> Option<(&[u8], &[u8])>
         ensures { MatchOption result ((place ≡ 0) ⊎ (length self.now.entries < place))
             (λ found. (0 < place) × (slice_get self.now.entries (place - 1)
@@ -106,8 +108,8 @@ impl Table {
     }
 
     // rule: HPACK 2.3.2 The dynamic table has its newest entry first
-    /// The name and then the value of an entry, by its place as [`Table::get`] has it, and how long
-    /// the name is.
+    /// The name followed by the value of an entry, by its place as in [`Table::get`], and the
+    /// length of the name.
     #[inline(always)]
     pub(crate) fn joined(&self, place: usize) -> Option<(&[u8], usize)>
         ensures { MatchOption result ((place ≡ 0) ⊎ (length self.now.entries < place))
@@ -125,8 +127,8 @@ impl Table {
     }
 
     // rule: HPACK 2.3.2 The dynamic table has its newest entry first
-    /// The ring of the entries, the newest at the front. Its capacity is the maximum divided by 32,
-    /// but at least 1. It takes no memory.
+    /// Returns the ring of the entries, the newest at the front. Its capacity is the maximum
+    /// divided by 32, but at least 1. It takes no memory.
     pub fn ring(&self) -> &HeapCircularBuffer<Entry>
         ensures items { result.now.items ≡ self.now.entries }
         ensures capacity { result.now.capacity ≡ max (self.now.maximum / 32) 1 }
@@ -136,12 +138,12 @@ impl Table {
 
     // contract: HPACK 6.3 A size update sets the maximum
     // rule: HPACK 6.3 A size update sets the maximum
-    /// Sets the maximum; the oldest entries leave until the size is at most that (section 4.3). It
-    /// takes memory only where the ring's capacity changes.
+    /// Sets the maximum, and evicts the oldest entries until the size is within it (section
+    /// 4.3). It takes memory only where the ring's capacity changes.
     ///
     /// # Errors
     ///
-    /// [`AllocError`] where the allocation of a ring for the maximum was refused, and nothing has
+    /// [`AllocError`] where the allocation of a ring for the maximum was refused; nothing has
     /// changed.
     pub(crate) fn resize(&mut self, maximum: u32) -> Result<(), AllocError>
         ensures ok { OnOk result (self.new ≡ resized self.old maximum) }
@@ -152,12 +154,12 @@ impl Table {
     }
 
     // rule: HPACK 6.3 A size update sets the maximum
-    /// Sets the maximum to one and then to another; the oldest entries leave until the size is at
-    /// most either. It takes memory only where the ring's capacity changes.
+    /// Sets the maximum to `first` and then to `last`, and evicts the oldest entries until the
+    /// size is within both. It takes memory only where the ring's capacity changes.
     ///
     /// # Errors
     ///
-    /// [`AllocError`] where the allocation of a ring for the last maximum was refused, and nothing
+    /// [`AllocError`] where the allocation of a ring for the last maximum was refused; nothing
     /// has changed.
     pub(crate) fn resize_twice(&mut self, first: u32, last: u32) -> Result<(), AllocError>
         ensures ok { OnOk result (self.new ≡ resized (resized self.old first) last) }
@@ -175,7 +177,7 @@ impl Table {
         Ok(())
     }
 
-    /// An empty ring with the capacity for a maximum, where the ring now has another.
+    /// An empty ring with the capacity for a maximum, if the ring now has another capacity.
     fn ring_for(&self, maximum: u32) -> Result<Option<HeapCircularBuffer<Entry>>, AllocError>
         ensures ring { IfOk result (λ found. MatchOption found
             (max (maximum / 32) 1 ≡ max (self.now.maximum / 32) 1)
@@ -190,7 +192,7 @@ impl Table {
         Ok(Some(ring))
     }
 
-    /// Lets all entries leave. It takes no memory.
+    /// Evicts all entries. It takes no memory.
     pub(crate) fn clear(&mut self)
         ensures { self.new ≡ record { entries = []; maximum = self.old.maximum } }
     {
@@ -201,8 +203,9 @@ impl Table {
     // rule: HPACK 2.3.2 The dynamic table has its newest entry first
     // contract: HPACK 4.4 An entry larger than the maximum empties the table
     // rule: HPACK 4.4 An entry larger than the maximum empties the table
-    /// Adds the entry as the newest; the oldest leave until the size is at most the maximum, and
-    /// the table is empty where the entry alone is larger (section 4.4). It takes no memory.
+    /// Adds the entry as the newest, and evicts the oldest until the size is within the
+    /// maximum; an entry that alone is larger empties the table (section 4.4). It takes no
+    /// memory.
     #[inline(always)]
     pub(crate) fn add(&mut self, entry: Entry)
         ensures { self.new ≡ record {

@@ -8,11 +8,11 @@ ghost use Rattle.hpack.specs.Sizes.{entry_size, table_size, fit};
 use crate::types::entry::Entry;
 use circular_buffer::HeapCircularBuffer;
 
-/// What an entry takes beside its name and value.
+/// The octets that an entry's size has beside name and value.
 pub(crate) const OVERHEAD: usize = 32;
 
 // rule: HPACK 4.1 The size of an entry is that of name and value, and 32
-/// The size of an entry, or the greatest number where that is less.
+/// The size of an entry, up to `usize::MAX`.
 #[inline(always)]
 pub(crate) fn size_of(entry: &Entry) -> usize
     ensures { result ≡ min (entry_size entry.now) (2 ^ 64 - 1) }
@@ -21,8 +21,7 @@ pub(crate) fn size_of(entry: &Entry) -> usize
 }
 
 // rule: HPACK 4.1 The size of an entry is that of name and value, and 32
-/// The size of an entry or a field of this name and value, or the greatest number where that is
-/// less.
+/// The size of an entry or a field with this name and value, up to `usize::MAX`.
 pub(crate) fn size_of_octets(name: &[u8], value: &[u8]) -> usize
     ensures size { result ≡ min (length name.now + length value.now + 32) (2 ^ 64 - 1) }
 
@@ -35,8 +34,8 @@ pub(crate) fn size_of_octets(name: &[u8], value: &[u8]) -> usize
 
 // contract: HPACK 4.4 The oldest entries leave until the size is at most the maximum
 // rule: HPACK 4.4 The oldest entries leave until the size is at most the maximum
-/// Removes the oldest entries until the size of the others is at most the bound, and answers that
-/// size.
+/// Removes the oldest entries until the size of the others is at most the bound, and returns
+/// that size.
 #[inline(always)]
 pub(crate) fn evict(ring: &mut HeapCircularBuffer<Entry>, size: usize, bound: usize) -> usize
     requires { size ≡ table_size ring.old.items }

@@ -6,14 +6,14 @@ ghost use Rattle.hpack.specs.Static.{entry};
 use crate::table::dynamic_table::Table;
 use crate::table::static_table::{static_entry, static_joined};
 
-/// How many entries the static table has.
+/// The number of entries of the static table.
 const STATIC_COUNT: u64 = 61;
 
 // contract: HPACK A The static table has 61 entries
 // contract: HPACK 2.3.3 Indices 1 to 61 name the static table, those from 62 the dynamic
 // rule: HPACK 2.3.3 Indices 1 to 61 name the static table, those from 62 the dynamic
-/// The name and the value of the entry that an index names: of the static table from 1 on, and then
-/// of the dynamic one.
+/// The name and the value of the entry with this index: of the static table from 1 on, then of
+/// the dynamic one.
 #[inline(always)]
 pub(crate) fn entry_at(table: &Table, index: u64) -> Option<(&[u8], &[u8])>
     ensures { MatchOption result (entry table.now.entries index ≡ None)
@@ -30,7 +30,7 @@ pub(crate) fn entry_at(table: &Table, index: u64) -> Option<(&[u8], &[u8])>
 }
 
 // rule: HPACK 2.3.3 Indices 1 to 61 name the static table, those from 62 the dynamic
-/// The name and then the value of the entry that an index names, and how long the name is.
+/// The name followed by the value of the entry with this index, and the length of the name.
 #[inline(always)]
 pub(crate) fn joined_at(table: &Table, index: u64) -> Option<(&[u8], usize)>
     ensures { MatchOption result (entry table.now.entries index ≡ None)

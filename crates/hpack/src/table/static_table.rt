@@ -17,8 +17,8 @@ pub(crate) fn static_entry(index: u64) -> Option<(&'static [u8], &'static [u8])>
 
 // contract: HPACK A The static table has 61 entries
 // rule: HPACK A The static table has 61 entries
-/// The name and then the value of an entry of the static table, by its index, which begins with 1,
-/// and how long the name is.
+/// The name followed by the value of an entry of the static table, by its index, which begins
+/// with 1, and the length of the name.
 #[inline(always)]
 #[tactic(auto, unfolding(crate::specs::Static::static_entries))]
 pub(crate) fn static_joined(index: u64) -> Option<(&'static [u8], usize)>

@@ -4,15 +4,16 @@ ghost use Rattle.std.specs.Prelude.{◌≡◌, ℕ, ◌^◌, ◌<◌, ◌≤◌,
 
 use circular_buffer::HeapCircularBuffer;
 
-/// For each bucket, the entries in it, from the newest on. An entry is named by its place, which
-/// is 0 for the newest, or by how many were pushed up to it.
+/// For each bucket, the entries in it, newest first. An entry is named by its place, 0 for the
+/// newest, or by its number: how many were pushed up to it.
 #[derive(Drop)]
 pub(crate) struct Chains {
     /// For each bucket, the newest entry that was pushed to it, or 0.
     pub(crate) newest: Vec<u32>,
-    /// For each entry, newest first, how many lie between it and the next one in its bucket.
+    /// For each entry, newest first, the number of entries between it and the next one in its
+    /// bucket.
     pub(crate) skips: HeapCircularBuffer<u32>,
-    /// How many entries were pushed.
+    /// The number of entries pushed.
     pub(crate) pushed: u32,
     ghost some_bucket: { 0 < length newest.items },
     ghost few_buckets: { length newest.items ≤ 2 ^ 28 },

@@ -32,7 +32,7 @@ impl Model for Entry {
 }
 
 impl Entry {
-    /// An entry with copies of the name and the value.
+    /// Makes an entry with copies of the name and the value.
     ///
     /// # Errors
     ///
@@ -50,7 +50,8 @@ impl Entry {
         })
     }
 
-    /// An entry with a copy of the octets: the first are the name, and the others the value.
+    /// Makes an entry with a copy of the octets: the first are the name, and the others the
+    /// value.
     ///
     /// # Errors
     ///
@@ -73,7 +74,7 @@ impl Entry {
         })
     }
 
-    /// The name and then the value, and how long the name is.
+    /// The name followed by the value, and the length of the name.
     #[inline(always)]
     pub(crate) fn joined(&self) -> (&[u8], usize)
         ensures within { result.1 ≤ length result.0.now }
@@ -85,14 +86,14 @@ impl Entry {
         (&self.octets, self.name_len)
     }
 
-    /// The name.
+    /// Returns the name.
     pub fn name(&self) -> &[u8]
         ensures { result.now ≡ self.now.name }
     {
         &self.octets[..self.name_len]
     }
 
-    /// The value.
+    /// Returns the value.
     pub fn value(&self) -> &[u8]
         ensures { result.now ≡ self.now.value }
     {

@@ -2,16 +2,16 @@
 
 use thiserror::Error;
 
-/// Why a block isn't decoded, or a list isn't encoded.
+/// Why a block cannot be decoded, or a list cannot be encoded.
 #[derive(Clone, Copy, Debug, PartialEq, Eq, Hash, Error)]
 pub enum Fault {
-    /// The octets are no field block at this table: COMPRESSION_ERROR.
+    /// P1: the octets are no field block for this table: COMPRESSION_ERROR.
     #[error("P1 Compression: the field block cannot be decoded")]
     Compression,
-    /// An allocation was refused.
+    /// P2: an allocation was refused.
     #[error("P2 Memory: out of memory")]
     Memory,
-    /// An earlier block failed, and the decoder's table with it.
+    /// P3: an earlier block failed, so that the decoder has lost its table.
     #[error("P3 Failed: an earlier block failed")]
     Failed,
 }

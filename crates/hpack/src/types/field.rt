@@ -7,21 +7,21 @@ use crate::types::shown::Shown;
 use std::alloc::{AllocError, Global};
 use std::fmt;
 
-/// A field: a name, a value, and whether it may never be put into a table (RFC 7541, section
-/// 7.1.3). `{:?}` shows `[sensitive]` in place of a sensitive field's value.
+/// A field: a name, a value, and whether it must never be indexed (RFC 7541, section 7.1.3).
+/// `{:?}` shows `[sensitive]` in place of a sensitive field's value.
 #[derive(Drop)]
 pub struct Field {
     /// The name.
     pub name: Octets,
     /// The value.
     pub value: Octets,
-    /// Whether it is to be written, or was read, as a literal that is never indexed.
+    /// Whether it is written, or was read, as a literal that is never indexed.
     pub sensitive: bool,
 }
 
 impl Field {
     // rule (contract): HPACK 2.1 (own) The octets of a name and a value are those that were given
-    /// A field of copies of a name and a value.
+    /// Makes a field with copies of a name and a value.
     ///
     /// # Errors
     ///
@@ -66,7 +66,7 @@ pub struct FieldRef<'a> {
     pub name: &'a [u8],
     /// The value.
     pub value: &'a [u8],
-    /// Whether it is to be written, or was read, as a literal that is never indexed.
+    /// Whether it is written, or was read, as a literal that is never indexed.
     pub sensitive: bool,
 }
 
@@ -86,20 +86,21 @@ impl fmt::Debug for FieldRef<'_> {
     }
 }
 
-/// The fields of a block.
+/// The fields of a block, or that they are too large.
 #[derive(Debug, Drop)]
 pub enum List {
     /// All of them, in order.
     Whole(Vec<Field>),
-    /// Their size is above the limit; the table is as after the complete block.
+    /// Nothing: their size is above the limit. The complete block has changed the table.
     TooLarge,
 }
 
-/// What a list holds after a block.
+/// What a list that the caller keeps holds after a block.
 #[derive(Clone, Copy, Debug, PartialEq, Eq)]
 pub enum Decoded {
     /// All fields of the block, in order.
     Whole,
-    /// Nothing, as their size is above the limit; the table is as after the complete block.
+    /// Nothing: the size of the fields is above the limit. The complete block has changed the
+    /// table.
     TooLarge,
 }

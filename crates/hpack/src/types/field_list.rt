@@ -38,7 +38,7 @@ impl FieldList {
     ghost use Rattle.hpack.specs.FieldLists.{AreWithin, fields_of, field_lent, value_of};
 
     // contract: HPACK 3.2 (own) A kept list says its fields and their number
-    /// An empty list, without room. It takes no memory.
+    /// Makes an empty list, without room. It takes no memory.
     pub fn new(alloc: Global) -> FieldList
         ensures { result ≡ [] }
     {
@@ -50,7 +50,7 @@ impl FieldList {
 
     // contract: HPACK 3.2 (own) A kept list says its fields and their number
     // rule: HPACK 3.2 (own) A kept list says its fields and their number
-    /// How many fields there are. It takes no memory.
+    /// Returns the number of fields. It takes no memory.
     pub fn len(&self) -> usize
         ensures { result ≡ length self.now }
     {
@@ -58,7 +58,7 @@ impl FieldList {
     }
 
     // rule: HPACK 3.2 (own) A kept list says its fields and their number
-    /// Whether there is no field. It takes no memory.
+    /// Returns whether there is no field. It takes no memory.
     pub fn is_empty(&self) -> bool
         ensures { result ≡ (length self.now == 0) }
     {
@@ -67,7 +67,7 @@ impl FieldList {
 
     // contract: HPACK 3.2 (own) A kept list says its fields and their number
     // rule: HPACK 3.2 (own) A kept list says its fields and their number
-    /// A field, by its place: 0 is the first. It takes no memory.
+    /// Returns a field by its place: 0 is the first. It takes no memory.
     pub fn get(&self, place: usize) -> Option<FieldRef<'_>>
         ensures { MatchOption result (length self.now ≤ place)
             (λ field. slice_get self.now place ≡ Some (field_lent field)) }
@@ -77,7 +77,7 @@ impl FieldList {
     }
 
     // contract: HPACK 3.2 (own) A kept list says its fields and their number
-    /// The fields, in order. It takes no memory.
+    /// Returns an iterator over the fields, in order. It takes no memory.
     pub fn iter(&self) -> FieldRefs<'_>
         ensures { result ≡ self.now }
     {
@@ -89,8 +89,8 @@ impl FieldList {
 
     // contract: HPACK 3.2 (own) A kept list says its fields and their number
     // rule: HPACK 3.2 (own) A kept list says its fields and their number
-    /// The value of the first field with this name, octet for octet; `None` where there is no such
-    /// field. It goes over the fields, and takes no memory.
+    /// Returns the value of the first field with this name, compared octet for octet; `None` if
+    /// there is none. It goes over the fields, and takes no memory.
     pub fn value(&self, name: &[u8]) -> Option<&[u8]>
         ensures { MatchOption result (value_of name.now self.now ≡ None)
             (λ value. value_of name.now self.now ≡ Some value.now) }
@@ -104,7 +104,7 @@ impl FieldList {
     }
 
     // contract: HPACK 3.2 (own) A kept list says its fields and their number
-    /// Copies of the fields, in order.
+    /// Returns copies of the fields, in order.
     ///
     /// # Errors
     ///

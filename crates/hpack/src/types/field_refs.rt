@@ -1,4 +1,4 @@
-//! The fields of a kept list, one after another.
+//! An iterator over the fields of a kept list.
 
 ghost use Rattle.hpack.specs.FieldLists.{field_lent};
 
@@ -7,13 +7,13 @@ use crate::types::field_place::FieldPlace;
 use std::iter::FusedIterator;
 use std::marker::Model;
 
-/// The fields of a [`FieldList`](crate::FieldList) that are left, in order: what
-/// [`FieldList::iter`](crate::FieldList::iter) gives. It takes no memory.
+/// Iterates over the fields of a [`FieldList`](crate::FieldList), in order: what
+/// [`FieldList::iter`](crate::FieldList::iter) returns. It takes no memory.
 #[derive(Drop)]
 pub struct FieldRefs<'a> {
     /// The names and values of the list.
     pub(crate) octets: &'a [u8],
-    /// Where the fields are that are left.
+    /// The places of the fields that are left.
     pub(crate) places: &'a [FieldPlace],
 }
 

@@ -8,8 +8,8 @@ use crate::table::eviction::size_of_octets;
 use crate::types::field::Field;
 
 // rule: 6.5.2 The size of a list is the sum of name, value and 32
-/// The size of a list: the sum of name, value and 32 octets for each field (RFC 9113, section
-/// 6.5.2), or the greatest number where that is less. It takes no memory.
+/// Returns the size of a list: name, value and 32 octets for each field (RFC 9113, section
+/// 6.5.2), up to `usize::MAX`. It takes no memory.
 pub fn list_size(fields: &[Field]) -> usize
     ensures size { result ≡ min (size_of_list fields.now) (2 ^ 64 - 1) }
 

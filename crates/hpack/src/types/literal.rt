@@ -1,4 +1,4 @@
-//! How a field is represented as a literal.
+//! How a field is written as a literal.
 
 /// The three literals of RFC 7541, section 6.2.
 #[derive(Clone, Copy, Debug, PartialEq, Eq)]

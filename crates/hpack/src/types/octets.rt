@@ -7,7 +7,7 @@ use std::alloc::{AllocError, Global};
 use std::fmt;
 use std::marker::Model;
 
-/// The most octets that are kept in place: as many as lie where a vector would.
+/// The most octets that are kept in place: as many as fit where a vector would be.
 const MOST_IN_PLACE: usize = 30;
 
 /// Where the octets are.
@@ -64,9 +64,9 @@ impl ShortOctets {
     }
 }
 
-/// The octets of a name or a value. It is made of a `Vec<u8>`, or of a text of the program, without
-/// taking memory, and a copy of at most 30 octets takes none either: they are kept in place.
-/// `{:?}` shows it as a byte string, as `b":path"`.
+/// The octets of a name or a value. Making them from a `Vec<u8>` or from static octets takes no
+/// memory, nor does a copy of at most 30 octets, which are kept in place. `{:?}` shows them as
+/// a byte string, such as `b":path"`.
 #[derive(Drop)]
 pub struct Octets {
     kept: Kept,
@@ -84,7 +84,7 @@ impl Model for Octets {
 impl Octets {
     // contract: HPACK 2.1 (own) The octets of a name and a value are those that were given
     // rule (contract): HPACK 2.1 (own) The octets of a name and a value are those that were given
-    /// The octets of a vector.
+    /// Keeps the octets of a vector, without a copy.
     pub fn new(octets: Vec<u8>) -> Octets
         ensures { result ≡ octets.items }
     {
@@ -94,7 +94,7 @@ impl Octets {
     }
 
     // rule (contract): HPACK 2.1 (own) The octets of a name and a value are those that were given
-    /// Octets of the program, as `b":status"`. It takes no memory.
+    /// Keeps static octets, such as `b":status"`. It takes no memory.
     pub fn from_static(octets: &'static [u8]) -> Octets
         ensures { result ≡ octets.now }
     {
@@ -105,7 +105,7 @@ impl Octets {
 
     // contract: HPACK 2.1 (own) The octets of a name and a value are those that were given
     // rule (contract): HPACK 2.1 (own) The octets of a name and a value are those that were given
-    /// A copy of the octets of a slice. It takes no memory where they are at most 30.
+    /// Copies the octets of a slice. It takes no memory where they are at most 30.
     ///
     /// # Errors
     ///
@@ -123,7 +123,7 @@ impl Octets {
 
     // contract: HPACK 2.1 (own) The octets of a name and a value are those that were given
     // rule (contract): HPACK 2.1 (own) The octets of a name and a value are those that were given
-    /// The octets.
+    /// Returns the octets.
     #[inline(always)]
     pub fn as_slice(&self) -> &[u8]
         ensures { result.now ≡ self.now }

@@ -3,10 +3,10 @@
 /// A field that was read: its name and then its value were appended.
 #[derive(Clone, Copy, Debug)]
 pub(crate) struct ReadField {
-    /// How many octets its name has.
+    /// The number of octets of its name.
     pub(crate) name_len: usize,
     /// Whether it was read as a literal that is never indexed.
     pub(crate) sensitive: bool,
-    /// How many octets encode it.
+    /// The number of octets that encode it.
     pub(crate) count: usize,
 }

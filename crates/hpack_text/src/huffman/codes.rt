@@ -4,7 +4,7 @@ ghost use Rattle.std.specs.Prelude.{◌≡◌, ◌^◌, ◌<◌, ◌≤◌};
 ghost use Rattle.hpack_text.specs.Bits.{bits_of};
 ghost use Rattle.hpack_text.specs.Huffman.{code};
 
-/// A code: how many bits, and the number that they are.
+/// A code: its number of bits, and the number that they encode.
 #[derive(Clone, Copy)]
 pub struct Code {
     pub count: u32,
@@ -25,7 +25,7 @@ pub fn code_of(octet: u8) -> Code
     }
 }
 
-/// How many bits the code of each octet has.
+/// The number of bits of each octet's code.
 static COUNTS: [u8; 256] = [
     13, 23, 28, 28, 28, 28, 28, 28, 28, 24, 30, 28, 28, 30, 28, 28, 28, 28, 28, 28, 28, 28, 30, 28,
     28, 28, 28, 28, 28, 28, 28, 28, 6, 10, 10, 12, 13, 6, 8, 11, 10, 10, 8, 11, 8, 6, 6, 6, 5, 5,
@@ -39,7 +39,7 @@ static COUNTS: [u8; 256] = [
     22, 25, 25, 24, 24, 26, 23, 26, 27, 26, 26, 27, 27, 27, 27, 27, 28, 27, 27, 27, 27, 27, 26,
 ];
 
-/// The number that the code of each octet is.
+/// The number that the bits of each octet's code encode.
 static VALUES: [u32; 256] = [
     0x1ff8, 0x7fffd8, 0xfffffe2, 0xfffffe3, 0xfffffe4, 0xfffffe5, 0xfffffe6, 0xfffffe7, 0xfffffe8,
     0xffffea, 0x3ffffffc, 0xfffffe9, 0xfffffea, 0x3ffffffd, 0xfffffeb, 0xfffffec, 0xfffffed,

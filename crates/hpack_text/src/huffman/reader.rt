@@ -13,7 +13,7 @@ use crate::fault::TextFault;
 use crate::huffman::huff_step;
 use std::mem::replace;
 
-/// The most ones that may pad the last octet. The state of so many ones has their number.
+/// The most ones that may pad the last octet. The state after N of them is numbered N.
 const MAX_PADDING: u8 = 7;
 
 // rule: HPACK 5.2 (own) A text is appended to what stands there, or nothing is
@@ -71,7 +71,7 @@ fn read_text(octets: &[u8], out: &mut Vec<u8>) -> Result<(), TextFault>
 }
 
 // rule: HPACK 5.2 With H the octets are the codes of appendix B
-/// Reads the bits of an octet from a state, and appends the octets whose codes they end. None comes
+/// Reads the bits of an octet from a state, and appends the octets whose codes they end. `None`
 /// where they end the code of EOS.
 #[inline]
 fn read_octet(state: u8, octet: u8, out: &mut Vec<u8>) -> Option<u8>
@@ -88,7 +88,7 @@ fn read_octet(state: u8, octet: u8, out: &mut Vec<u8>) -> Option<u8>
 
 // rule: HPACK 5.2 With H the octets are the codes of appendix B
 // rule: HPACK 5.2 The code of EOS inside a string is a fault
-/// Reads four bits from a state, and appends the octet whose code they end. None comes where they
+/// Reads four bits from a state, and appends the octet whose code they end. `None` where they
 /// end the code of EOS.
 #[inline]
 fn read_half(state: u8, half: u8, out: &mut Vec<u8>) -> Option<u8>

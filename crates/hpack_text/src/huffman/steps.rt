@@ -3,7 +3,7 @@
 ghost use Rattle.std.specs.Prelude.{◌≡◌, ◌/◌, ◌%◌, ◌<◌};
 ghost use Rattle.hpack_text.specs.States.{IsHalfStep};
 
-/// Where the code of a symbol ends, this is part of the step.
+/// Set in a step where the code of a symbol ends.
 pub const HAS_SYMBOL: u32 = 0x1_0000;
 
 /// The step where the bits begin with the code of EOS.

@@ -1,4 +1,4 @@
-//! Writing a text in the code, four octets whenever their bits are there.
+//! Writes Huffman-encoded text, four octets at a time.
 
 ghost use Rattle.std.specs.Prelude.{◌≡◌, ◌+◌, ◌*◌, ◌^◌, ◌<◌, ◌≤◌, [], ◌++◌, length, IfOk, OnOk};
 ghost use Rattle.std.specs.Prelude.{OnErr, vec_len};
@@ -10,7 +10,7 @@ ghost use Rattle.hpack_text.specs.Appended.{IsExtended, Appends, AppendsPadded};
 use crate::huffman::codes::{Code, code_of};
 use std::alloc::AllocError;
 
-/// The bits that wait for four octets to be full: how many, and the number that they are.
+/// The bits that do not fill four octets yet: how many, and the number that they encode.
 #[derive(Clone, Copy)]
 struct Pending {
     count: u32,
@@ -19,7 +19,7 @@ struct Pending {
     ghost within: { value < 2 ^ count },
 }
 
-/// The bits of the last octet, if it isn't full: how many, and the number that they are.
+/// The bits of the last octet, if it is not full: how many, and the number that they encode.
 #[derive(Clone, Copy)]
 struct LastBits {
     count: u32,
@@ -28,7 +28,7 @@ struct LastBits {
     ghost within: { value < 2 ^ count },
 }
 
-/// Appends the text in the code. On `Err` the first octets of it, or none, were appended.
+/// Appends the Huffman encoding of the text. On `Err` a prefix of it was appended.
 pub fn append_huffman(text: &[u8], out: &mut Vec<u8>) -> Result<(), AllocError>
     ensures ok { OnOk result (out.new.items ≡ out.old.items ++ huffman_bits text.now) }
     ensures extended { IsExtended out.old.items out.new.items }
@@ -44,7 +44,7 @@ pub fn append_huffman(text: &[u8], out: &mut Vec<u8>) -> Result<(), AllocError>
     append_padded(last, out)
 }
 
-/// Appends four octets if the code completes them, and answers the bits that are left.
+/// Appends four octets if the code completes them, and returns the bits that are left.
 #[inline]
 fn append_code(pending: Pending, code: Code, out: &mut Vec<u8>) -> Result<Pending, AllocError>
     requires count { code.count ≤ 30 }
@@ -72,7 +72,7 @@ fn append_code(pending: Pending, code: Code, out: &mut Vec<u8>) -> Result<Pendin
 }
 
 // rule: HPACK 5.2 A Huffman-encoded string is written with the codes
-/// Appends the octets that are full, and answers the bits that are left.
+/// Appends the octets that are full, and returns the bits that are left.
 fn append_octets(pending: Pending, out: &mut Vec<u8>) -> Result<LastBits, AllocError>
     ensures ok { IfOk result (λ last. Appends out.old.items out.new.items
         (bits_of pending.count pending.value) (bits_of last.count last.value)) }
