@@ -32,10 +32,10 @@ place_texts =
 -- errors of a configuration: K1 to K4
 abbrev pub config_texts : List (ℕ × List ℕ)
 config_texts =
-    (11, codes "K1 TableLimit: the header table's limit is above 65,536") ∷
-    (12, codes "K2 InitialWindow: the initial window isn't from 1 to 2,147,483,647") ∷
-    (13, codes "K3 MaxStreams: the number of streams isn't from 100 to 1,000") ∷
-    (14, codes "K4 MaxFrame: the greatest frame isn't from 16,384 to 1,048,576") ∷
+    (11, codes "K1 TableLimit: the header table's limit is above 65536") ∷
+    (12, codes "K2 InitialWindow: the initial window isn't from 1 to 2147483647") ∷
+    (13, codes "K3 MaxStreams: the number of streams isn't from 100 to 1000") ∷
+    (14, codes "K4 MaxFrame: the greatest frame isn't from 16384 to 1048576") ∷
     []
 
 -- refusals of the connection: C1 to C13

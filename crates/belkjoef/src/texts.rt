@@ -88,10 +88,10 @@ fn text_of_config(number: u32) -> &'static [u8]
     ensures { result.now ≡ text_in config_texts no_error_text number }
 {
     match number {
-        11 => b"K1 TableLimit: the header table's limit is above 65,536\0",
-        12 => b"K2 InitialWindow: the initial window isn't from 1 to 2,147,483,647\0",
-        13 => b"K3 MaxStreams: the number of streams isn't from 100 to 1,000\0",
-        14 => b"K4 MaxFrame: the greatest frame isn't from 16,384 to 1,048,576\0",
+        11 => b"K1 TableLimit: the header table's limit is above 65536\0",
+        12 => b"K2 InitialWindow: the initial window isn't from 1 to 2147483647\0",
+        13 => b"K3 MaxStreams: the number of streams isn't from 100 to 1000\0",
+        14 => b"K4 MaxFrame: the greatest frame isn't from 16384 to 1048576\0",
         _ => b"unknown error\0",
     }
 }

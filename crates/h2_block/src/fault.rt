@@ -19,7 +19,7 @@ pub enum BlockFault {
     Stray,
     /// B3: the fragments of a field block have more than 65,552 octets in all (own: a limit
     /// of this library; section 10.5.1).
-    #[error("B3 TooLong: a field block is longer than 65,552 octets")]
+    #[error("B3 TooLong: a field block is longer than 65552 octets")]
     TooLong,
     /// B4: an allocation was refused.
     #[error("B4 Memory: out of memory")]

@@ -29,16 +29,16 @@ pub struct Config {
 #[derive(Clone, Copy, Debug, PartialEq, Eq, Hash, Error)]
 pub enum BadConfig {
     /// K1: the table limit is above 65,536 octets.
-    #[error("K1 TableLimit: the header table's limit is above 65,536")]
+    #[error("K1 TableLimit: the header table's limit is above 65536")]
     TableLimit,
     /// K2: the initial window is 0, or above 2,147,483,647 octets.
-    #[error("K2 InitialWindow: the initial window isn't from 1 to 2,147,483,647")]
+    #[error("K2 InitialWindow: the initial window isn't from 1 to 2147483647")]
     InitialWindow,
     /// K3: the number of streams is below 100, or above 1,000.
-    #[error("K3 MaxStreams: the number of streams isn't from 100 to 1,000")]
+    #[error("K3 MaxStreams: the number of streams isn't from 100 to 1000")]
     MaxStreams,
     /// K4: the maximum frame size is below 16,384, or above 1,048,576 octets.
-    #[error("K4 MaxFrame: the greatest frame isn't from 16,384 to 1,048,576")]
+    #[error("K4 MaxFrame: the greatest frame isn't from 16384 to 1048576")]
     MaxFrame,
 }
 

@@ -103,7 +103,7 @@ pub enum Frame {
 pub enum Unwritable {
     /// F1: the payload has more than 16,777,215 octets, which no head can encode (RFC 9113,
     /// section 4.1).
-    #[error("F1 TooLong: the payload is longer than 16,777,215 octets")]
+    #[error("F1 TooLong: the payload is longer than 16777215 octets")]
     TooLong,
     /// F2: a frame of this type may not be on the stream, or the stream's number is above
     /// 2<sup>31</sup> - 1.

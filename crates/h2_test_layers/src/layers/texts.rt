@@ -48,7 +48,7 @@ fn refused_allocations_have_their_code(rt: HostRuntime) {
 fn faults_of_payloads_have_their_texts(rt: HostRuntime) {
     let error = PayloadError::Code(Code::ProtocolError);
     assert!(rt; is_printed(rt.alloc(), &error, "invalid payload: PROTOCOL_ERROR"));
-    let text = "F1 TooLong: the payload is longer than 16,777,215 octets";
+    let text = "F1 TooLong: the payload is longer than 16777215 octets";
     assert!(rt; is_printed(rt.alloc(), &Unwritable::TooLong, text));
 }
 
