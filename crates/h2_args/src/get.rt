@@ -180,7 +180,7 @@ const FETCHED_AND_STATUSES: &str =
 responses (1xx) are not printed, nor are trailers without --include. Redirects
 are not followed. A server that stays idle is waited for without limit, unless
 --timeout is given: the command then gives up that many seconds after it began
-to connect (name resolution is not interrupted).
+to connect (name resolution, and a write to a pipe, are not interrupted).
 
 Several URLs are requested at once, each with the same fields and the same body.
 The responses are printed in the order of the URLs, with a newline between them.
@@ -230,7 +230,8 @@ Exit status (lines in backquotes go to standard error):
   3  `N1 Device`: the connection cannot be made, a read or a write failed (also
      of the files of --data and --output, which a hint names), or the time is
      over (`hint: timed out`)
-     `N5 NoProgress`: a write accepted no octets
+     `N5 NoProgress`: a write accepted no octets, or the requests of several
+     URLs exceed 65536 octets
   4  `N3 Memory`: out of memory
 
 A hint may follow that line. It is meant for people; the exit status does not

@@ -97,8 +97,8 @@ const OCTETS_HELP: &str = "Number of octets to post, 0 to 1048576";
 
 const EACH_WAY: &str = "each-way";
 
-const EACH_WAY_HELP: &str = r"Print the megabytes sent each way and the seconds taken on
-standard error";
+const EACH_WAY_HELP: &str = r"Print on standard error the megabytes sent each way and
+the seconds taken";
 
 /// How `serve` responds, how it ends, and an example.
 const SERVED_AND_STATUSES: &str =

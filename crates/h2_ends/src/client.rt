@@ -211,7 +211,7 @@ impl Client {
     /// Returns why [`Client::take`] refused a part of a response last: the stream, and the
     /// first rule of [`Malformed`] (M1 to M12) that the part breaks after the parts that came
     /// before. `None` until a part is refused; kept after the connection has failed. A field
-    /// list above the limit and a fault of a frame refuse no part.
+    /// list above the limit, or a fault of a frame, is no refused part, and leaves the result.
     pub fn last_malformed(&self) -> Option<(u32, Malformed)>
         ensures { (values : Values) (end : EndLog) → EndRepresents values self.now.end end
             → result ≡ end.malformed }

@@ -17,9 +17,9 @@ ghost use Rattle.h2_ends.specs.Turns.{ComesBefore, HasRoomFor, IsNotStopped, Get
 ghost use Rattle.h2_ends.specs.Turns.{Meanwhile, Pass, turn_after};
 
 // contract: 8.1 (own) What has come of a message that breaks no rule can be read
-/// The parts received of a message can be read if the message breaks no rule as it is sent (if
-/// it is sent in parts: none so far). Its body may come in any number of DATA frames, as long
-/// as none is empty without END_STREAM (RFC 9113, section 8.1).
+/// If a message breaks no rule as it is sent (of a message that is sent in parts: has broken
+/// none so far), every beginning of it that was received can be read. Its body may come in any
+/// number of DATA frames, as long as none is empty without END_STREAM (RFC 9113, section 8.1).
 pub fn sent_parts_are_readable()
     ensures { (reads : Reads) (said : Said) (parts : List (Part × Bool)) → IsSoundSaid reads said
         → AllByRecursion IsNoEmptyPart parts
@@ -37,11 +37,12 @@ pub fn parts_are_sent_at_once()
 {}
 
 // contract: 8.1 (own) Between two shares of a stream each other that waits gets one
-/// Between two shares of one stream, in two passes, another stream on which something waits as
-/// each of the two passes begins gets a share: after the first of the two in the same pass, in
-/// a pass between them, or before the second in its pass, even where that pass ends with a part
-/// of the second (RFC 9113, section 5.2.1). This holds whatever happens between passes. A share
-/// that is not refused sends at least one octet where octets wait and the windows have room.
+/// Suppose that one stream gets a share in each of two passes, and that something waits on
+/// another stream as each of these passes begins. Then the other stream gets a share between
+/// the two: later in the first pass, in a pass between, or earlier in the second, even if the
+/// second share is cut short (RFC 9113, section 5.2.1). This holds whatever happens between
+/// passes. A share that is not refused sends at least one octet where octets wait and the
+/// windows have room.
 pub fn shares_are_given_in_turn()
     ensures turns { (i j : ℕ) → j < numbers → (first last : Pass) → GetsShare first i
         → Waits first.end j → (GetsShare first j → ComesBefore first.end.turn.id j i)

@@ -160,7 +160,7 @@ impl Server {
     /// Sends waiting bodies and trailers, streams in rising order, each as far as its windows
     /// allow, until nothing more can go or 65,536 octets or more of output wait. Returns how
     /// many octets of bodies were sent. A long body on a low stream goes before those on higher
-    /// ones; [`Client::pump_some`] takes turns.
+    /// ones; [`Server::pump_some`] takes turns.
     ///
     /// # Errors
     ///
@@ -218,7 +218,7 @@ impl Server {
     /// Returns why [`Server::take`] refused a part of a request last: the stream, and the first
     /// rule of [`Malformed`] (M1 to M12) that the part breaks after the parts that came before.
     /// `None` until a part is refused; kept after the connection has failed. A field list above
-    /// the limit and a fault of a frame refuse no part.
+    /// the limit, or a fault of a frame, is no refused part, and leaves the result.
     pub fn last_malformed(&self) -> Option<(u32, Malformed)>
         ensures { (values : Values) (end : EndLog) → EndRepresents values self.now.end end
             → result ≡ end.malformed }

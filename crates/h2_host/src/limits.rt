@@ -3,11 +3,13 @@
 /// The maximum number of connections of a host, and of octets that they hold.
 #[derive(Clone, Copy, Debug, PartialEq, Eq)]
 pub struct Limits {
-    /// The maximum number of connections, never above [`MOST_PLACES`](crate::MOST_PLACES).
+    /// The maximum number of connections, never above 1,048,576.
     pub connections: usize,
-    /// The maximum number of octets that one connection holds.
+    /// How many octets a connection may hold: one that holds more is closed. What is not counted
+    /// ([`Party::held`](crate::Party::held)) comes on top.
     pub held: usize,
-    /// The maximum number of octets that all connections hold.
+    /// How many octets all connections may hold: if they hold more, the one that holds most is
+    /// closed.
     pub held_in_all: usize,
 }
 

@@ -32,9 +32,10 @@ pub struct HostSettings {
 ///
 /// # Errors
 ///
-/// The address is not available, standard input is not a pipe though `until_closed` is set, the
-/// clock or the wait for sockets failed, or memory for the host itself was refused. An error of
-/// one connection, refused memory included, ends only that connection.
+/// The address is not available, standard input cannot be polled (it is a file, for example)
+/// though `until_closed` is set, the clock or the wait for sockets failed, or memory for the host
+/// itself was refused. An error of one connection, refused memory included, ends only that
+/// connection.
 pub fn host_handlers<R, V, H, M>(
     rt: &R,
     alloc: Global,

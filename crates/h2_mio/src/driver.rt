@@ -65,8 +65,8 @@ impl<P: Party> Driver<P> {
     ///
     /// # Errors
     ///
-    /// The address is not available, standard input is not a pipe though `until_closed` is set,
-    /// or an allocation was refused.
+    /// The address is not available, standard input cannot be polled (it is a file, for example)
+    /// though `until_closed` is set, or an allocation was refused.
     pub fn open<N: Net>(net: &N, alloc: Global, place: Place) -> io::Result<Driver<P>> {
         let mut listener = TcpListener::bind(net, place.address)?;
         let poll = Poll::new(net)?;

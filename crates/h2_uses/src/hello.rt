@@ -1,4 +1,4 @@
-//! The handler of README's server.
+//! A handler that says hello.
 
 use crate::server::Handler;
 use anyhow::Result;

@@ -1,5 +1,5 @@
-//! README's programs, a server and a client over any reader and writer and a POST over any
-//! link; and the callers that the `CALLING.md` of each crate quotes.
+//! A server and a client over any reader and writer, a POST over any link, and the callers that
+//! the `CALLING.md` of each crate quotes.
 #![tactic(auto)]
 
 mod calling_calls;
