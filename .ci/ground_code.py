@@ -16,7 +16,6 @@ KIND = re.compile(
 )
 DECLARED = re.compile(r"\b(?:fn|struct|enum|union|trait|const|static|type|macro_rules!) +(\w+)")
 ATTRIBUTE = re.compile(r"\s*#!?\[")
-CONTRACT = re.compile(r"^ *(?:requires|ensures|ghost)\b", re.M)
 
 
 def bare(text):

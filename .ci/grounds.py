@@ -108,7 +108,7 @@ class Grounds:
     # What a node is made of: a text, what its names stand for, the nodes that it names, and whether all are known.
 
     def node_of(self, known):
-        """Returns the nodes that a name stands for, and a text that says which."""
+        """Returns the nodes that a name stands for."""
         if known[0] in (ITEM, MODULE):
             return [known[:3] if known[0] == ITEM else known[:2]]
         if known[0] == CODE:

@@ -16,8 +16,12 @@ FOLDERS = ("wrong-bodies", "must-fail")
 GOOD = (edits.REFUSED, edits.LIMIT, edits.PROOF)
 # An edit, by its path below crates/.
 Edit = namedtuple("Edit", "path text")
-# The sentence of docs/DECISIONS.md that says how many lines .ci/held.txt has.
-COUNT = re.compile(r"The gate holds (\d+) wrong bodies by their verdicts \(`\.ci/held\.txt`\)")
+# The sentence of docs/DECISIONS.md that says how many edits .ci/held.txt has, how many stand in must-fail/, and the sum
+# of their paths.
+COUNT = re.compile(
+    r"The gate holds (\d+) wrong bodies by their verdicts \(`\.ci/held\.txt`\) and tries (\d+) "
+    r"\(`must-fail/`; the sum of all paths is `(\w+)`\)"
+)
 
 
 def sum_parts(text):
@@ -154,22 +158,58 @@ def held():
     return found, faults
 
 
-def count_fault(count):
-    """Yields what is wrong with the number of held edits in docs/DECISIONS.md."""
+def rows():
+    """Returns the crates of crates.txt."""
+    with open(f"{ROOT}/crates.txt", encoding="utf-8") as it:
+        return [found[0] for line in it if (found := re.match(r"\w+", line))]
+
+
+def count_fault(paths):
+    """Yields what is wrong with what docs/DECISIONS.md says of the edits that the gate holds or tries."""
+    tried = [it.path for crate in rows() for it in edits_of(crate, FOLDERS[1:])]
+    there = (str(len(paths)), str(len(tried)), sum_of(sorted([*paths, *tried]))[:8])
     with open(f"{ROOT}/docs/DECISIONS.md", encoding="utf-8") as it:
-        numbers = COUNT.findall(it.read())
-    if numbers != [str(count)]:
-        said = " and ".join(numbers) or "no number"
-        yield f"docs/DECISIONS.md: it says {said}, and .ci/held.txt has {count} lines"
+        said = COUNT.findall(it.read())
+    if said != [there]:
+        says = " and ".join(f"{held} held, {tries} tried, sum {one}" for held, tries, one in said) or "no numbers"
+        yield (
+            f"docs/DECISIONS.md says {says}; there are {there[0]} in .ci/held.txt and {there[1]} in must-fail/, sum "
+            f"{there[2]}: put back what was taken away, or say there why it was, with these numbers"
+        )
+
+
+def twins(found):
+    """Yields which held edits change the same as another."""
+    first = {}
+    for edit in found:
+        crate, parts = edit.path.partition("/")[0], sum_of(sum_parts(edit.text or edit.path))
+        other = first.setdefault((crate, parts), edit.path)
+        if other != edit.path:
+            yield f"{edit.path}: it changes the same as {other}, so one of the two lines holds nothing"
+
+
+def why_not_held(edit, verdicts):
+    """Returns what keeps an edit of the list from being held, and what to do, or nothing."""
+    crate = edit.path.partition("/")[0]
+    if edit.text is None:
+        return "it is not there"
+    if crate not in rows():
+        return "its crate is not in crates.txt"
+    if why := fault_of(edit):
+        return why
+    verdict = verdicts.of(edit)
+    if verdict == edits.REFUSED:
+        return ""
+    if verdict:
+        return f"its verdict is: {verdict}"
+    what = "the edit, or what its verdict rests on, has changed" if verdicts.mark(edit) == "stale" else "it was never tried"
+    return f"its verdict is: {verdicts.mark(edit)} ({what}): try it by .ci/wrong-bodies --held {crate}"
 
 
 def held_faults(kit):
     """Returns the edits of the list, and what keeps each of them, or the list, from being held."""
     (found, faults), verdicts = held(), Verdicts(kit)
     for edit in found:
-        why = "it is not there" if edit.text is None else fault_of(edit)
-        if not why:
-            verdict = verdicts.of(edit)
-            why = "" if verdict == edits.REFUSED else f"its verdict is: {verdict or verdicts.mark(edit)}"
+        why = why_not_held(edit, verdicts)
         faults += [f"{edit.path}: {why}"] * bool(why)
-    return found, faults + list(count_fault(len(found)))
+    return found, [*faults, *twins(found), *count_fault([it.path for it in found])]

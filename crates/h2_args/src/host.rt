@@ -120,35 +120,39 @@ checked before and after it is opened. Someone who can write below the folder
 could still swap a link in and out again between the two checks. If a file
 shrinks while it is sent, the stream is reset with code 2.
 
-After --idle seconds without a request, a connection is closed gracefully. It is
-closed with code 4 if the preface and the first frame take more than 10 seconds,
-and with code 11
+A connection that has no open request for --idle seconds is closed gracefully.
+It is closed with code 4 if the preface and the first frame take more than 10
+seconds, and with code 11
 - if a later frame, a field block of several frames, or the next 1024 octets of
-  a request body take more than 30 seconds, or the next octet of output or of a
-  response more than 60;
-- if, within 10 seconds, the client sends more than 500 RST_STREAM frames or 500
-  empty frames, the host resets more than 50 streams for stream errors, such as
-  malformed requests, or for its limits of streams and fields, or the replies to
-  PING and SETTINGS exceed 32768 octets;
+  request bodies (of all streams together) take more than 30 seconds;
+- if no octet of queued output goes for 60 seconds, or no octet of any response
+  while a request whose response has begun is still open;
+- if, in a period of 10 seconds (periods follow one another), the client sends
+  more than 500 RST_STREAM frames or 500 empty frames, the host resets more than
+  50 streams for stream errors, such as malformed requests, or for its limits of
+  streams and fields, or the replies to PING and SETTINGS exceed 32768 octets;
 - if it holds more than 16 MiB, or holds most while all hold more than 256 MiB.
   Header tables and incomplete field blocks are not counted.
 
 With --until-closed, GOAWAY is sent on all connections once standard input is
 closed, and pending requests are answered. A connection that takes longer than 5
 seconds is cut off unless 65536 octets of bodies, both ways together, move in
-each 5 seconds. The exit status is then 0.
+each 5 seconds; one with 65536 octets of output waiting is cut off after these.
+The exit status is then 0.
 
 A --log line has the address of the client, `- -`, the time, the request line in
 double quotes, the status, and the number of octets of the body. In the request
 line, quotes, backslashes and octets outside printable ASCII are escaped, a
-quote as `\x22`.
+quote as `\x22`. Malformed requests, and those whose authority names a user,
+have no line.
 
 Exit status (lines in backquotes go to standard error):
   0  with --until-closed, standard input was closed, and all connections have
      ended
   2  invalid arguments, or `error: not an IP address: ADDR`
   3  `N1 Device`: the port or the folder is not available, standard input
-     cannot be polled (a file, for example), or waiting or writing the log failed
+     cannot be polled (a file, for example), or waiting or writing the log
+     failed
   4  `N3 Memory`: out of memory
 
 A hint may follow that line. It is meant for people; the exit status does not

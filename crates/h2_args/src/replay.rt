@@ -100,9 +100,9 @@ Then, once the input has ended or the connection has failed:
 
 The rules of messages (RFC 9113, section 8) are checked only with --messages:
 they are M1 to M12 of docs/PROTOCOL.md. CONNECT is not supported, and breaks M6
-or M7. Not checked are :scheme, a user in host or :authority, and whether
-those two agree. A part of a message that breaks a rule is not reported; the
-endpoint resets its stream, and this line precedes that of the reset:
+or M7. Not checked are the value of :scheme, a user in host or :authority, and
+whether those two agree. A part of a message that breaks a rule is not reported;
+the endpoint resets its stream, and this line precedes that of the reset:
   malformed ID RULE  the number and name of the first rule that the part breaks,
                      such as `M10 ConnectionField` (docs/PROTOCOL.md)
 A malformed message is not a fault, so the exit status stays 0. The 1001st

@@ -169,7 +169,7 @@ const NAMES_HELP: &str = r"Print settings by name, and the names of error codes
 const OFFSETS: &str = "offsets";
 
 const OFFSETS_HELP: &str = r"Prefix the preface and each frame with the position of
-its first octet, counted from 1, in ten digits";
+its first octet, counted from 1, in ten digits or more";
 
 const COLOR: &str = "color";
 

@@ -199,8 +199,8 @@ impl Conn {
     /// Ends the connection with an error code of the caller's choice (section 5.4.1). GOAWAY
     /// with that code, and with the number of the last stream that this end has processed,
     /// becomes the last frame of the queued output. From then on [`Conn::failed`] returns the
-    /// code, [`Conn::take`] fails with it, and every call but those for output is refused with
-    /// C1. It takes no memory.
+    /// code, [`Conn::take`] fails with it, and every call but readers and those for output is
+    /// refused with C1. It takes no memory.
     ///
     /// # Errors
     ///

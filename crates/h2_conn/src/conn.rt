@@ -122,7 +122,9 @@ impl Conn {
     }
 
     // contract: calls (own) An event has the octets, the fields and the numbers of its frame
-    /// Lends the fields of the field block that was reported last. It takes no memory.
+    /// Lends the fields of the field block that was read last: after
+    /// [`Event::Fields`](crate::Event::Fields) those of the event, until the next call of `advance`
+    /// or `take`. It takes no memory.
     pub fn list(&self) -> &FieldList
         ensures { result.now ≡ self.now.inner.end.list }
     {
@@ -131,9 +133,9 @@ impl Conn {
 
     // rule: calls (own) An event has the octets, the fields and the numbers of its frame
     /// Lends the octets of the body that [`Conn::advance`] has reported for this piece. `None`
-    /// if the piece, or what the connection keeps, is too short to hold them. It isn't checked
-    /// that the piece is the one given to `advance`, and that neither `advance` nor `take` was
-    /// called since: otherwise these are whatever octets lie at that place. It takes no memory.
+    /// if the piece, or what the connection keeps, is too short to hold them. Pass the piece that
+    /// `advance` was given, before any other call of `advance` or `take`. This isn't checked:
+    /// otherwise whatever octets lie at that place are lent. It takes no memory.
     pub fn octets<'a>(&'a self, piece: &'a [u8], body: Complete) -> Option<&'a [u8]>
         ensures { MatchOption result (body_at self.now.inner.cutter piece.now body ≡ None)
             (λ octets. body_at self.now.inner.cutter piece.now body ≡ Some octets.now) }

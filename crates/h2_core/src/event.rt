@@ -34,7 +34,7 @@ pub enum Event<F, B> {
         id: u32,
         /// The error code (section 7).
         code: u32,
-        /// Whether this end has reset it, for a fault of the peer.
+        /// Whether this end has reset it: for a fault of the peer, or for a limit of its own.
         ours: bool,
     },
     /// The peer takes no streams above this one (section 6.8).

@@ -97,7 +97,7 @@ impl Endpoint {
         self.resets
     }
 
-    /// Lends the fields of the field block that was reported last. It takes no memory.
+    /// Lends the fields of the field block that was read last. It takes no memory.
     pub fn fields(&self) -> &FieldList
         ensures { result.now ≡ self.now.list }
     {

@@ -2,8 +2,8 @@
 
 use thiserror::Error;
 
-/// Why a call was refused: the first of these conditions that holds. The call has changed
-/// nothing.
+/// Why a call was refused: the first condition that holds, in the order that each call states.
+/// The call has changed nothing.
 #[derive(Clone, Copy, Debug, PartialEq, Eq, Hash, Error)]
 pub enum Refusal {
     /// C1: the connection has failed, so only calls for output and readers work.
