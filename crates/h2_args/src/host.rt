@@ -125,8 +125,8 @@ It is closed with code 4 if the preface and the first frame take more than 10
 seconds, and with code 11
 - if a later frame, a field block of several frames, or the next 1024 octets of
   request bodies (of all streams together) take more than 30 seconds;
-- if no octet of queued output goes for 60 seconds, or no octet of any response
-  while a request whose response has begun is still open;
+- if for 60 seconds no octet of queued output goes, or no octet of any response
+  body, while some open request has a response;
 - if, in a period of 10 seconds (periods follow one another), the client sends
   more than 500 RST_STREAM frames or 500 empty frames, the host resets more than
   50 streams for stream errors, such as malformed requests, or for its limits of
@@ -137,8 +137,8 @@ seconds, and with code 11
 With --until-closed, GOAWAY is sent on all connections once standard input is
 closed, and pending requests are answered. A connection that takes longer than 5
 seconds is cut off unless 65536 octets of bodies, both ways together, move in
-each 5 seconds; one with 65536 octets of output waiting is cut off after these.
-The exit status is then 0.
+each 5 seconds. One that has 65536 octets or more of output waiting when the
+shutdown begins is cut off once they are sent. The exit status is then 0.
 
 A --log line has the address of the client, `- -`, the time, the request line in
 double quotes, the status, and the number of octets of the body. In the request

@@ -265,8 +265,8 @@ With --follow, frame sizes and header tables are checked against the SETTINGS of
 the other side: a higher value applies from the SETTINGS on, a lower one from
 the ACK on. Frames of up to --max-frame octets are always accepted.
 `> not checked` or `< not checked` is printed once if those SETTINGS allow that
-side a table above 65536 octets or frames above 1048576; a fault reported after
-it may not be one.
+side a table above 65536 octets or frames above 1048576, which is more than is
+followed: a fault reported after it may be wrong.
 
 Example:
   $ echo 000004 08 00 00000000 0000000f | h2 show --hex --from server

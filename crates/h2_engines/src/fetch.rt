@@ -24,8 +24,9 @@ use std::alloc::Global;
 /// come, even if a part of the request is still unsent. Octets read after the response are not
 /// taken.
 ///
-/// Where the input ends too early (N4), the connection's credit was returned; and if the server
-/// has sent any octets, no credit is owed and nothing that waits could be sent.
+/// Where the input ends too early (N4), no credit of discarded DATA or of closed streams is left
+/// to return. If the server has sent any octets, nothing is owed on any stream either, and what
+/// still waits is held back by the windows.
 ///
 /// # Errors
 ///
@@ -33,7 +34,8 @@ use std::alloc::Global;
 /// - [`LinkError::Stream`] (N2) where the connection failed, once its GOAWAY was written.
 /// - [`LinkError::Memory`] (N3) where an allocation was refused.
 /// - [`LinkError::CutOff`] (N4) where the input ended before the response was complete.
-/// - [`LinkError::NoProgress`] (N5) where a write took nothing, and after 2^64 - 1 rounds.
+/// - [`LinkError::NoProgress`] (N5) where a write took nothing; also, which is not expected,
+///   after 2^64 - 1 rounds, or where the end refuses the request for another reason.
 /// - [`LinkError::Reset`] (N6) where either end reset the stream, or the server did not process
 ///   the request.
 /// - [`LinkError::Refused`] (N7) where the message breaks a rule, or its head or its trailers

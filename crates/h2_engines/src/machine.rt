@@ -146,7 +146,7 @@ fn write_out<M: Machine, L: Link>(machine: &mut M, link: &mut L) -> Result<(), L
 ///
 /// # Errors
 ///
-/// Octets from the first on may have been written.
+/// Some of the octets, from the first on, may have been written.
 ///
 /// - [`LinkError::Device`] (N1) where a call of the link failed.
 /// - [`LinkError::NoProgress`] (N5) where a call took no octet.

@@ -88,8 +88,9 @@ pub enum Cause {
 /// Answers the requests of one connection. `Work` is what it keeps of one exchange, a request
 /// and its response. Its calls do not wait: each returns what there is.
 ///
-/// An implementor may state its behaviour by the `ghost` relations between the state before a
-/// call, the arguments, the result, and the state after it. The defaults always hold.
+/// An implementor may state its behaviour by five `ghost` relations, `heads`, `bodies`, `trails`,
+/// `gives` and `ends`, between the state before a call, the arguments, the result, and the state
+/// after it. The defaults always hold.
 pub trait Handler: Drop {
     /// What the handler keeps of one exchange.
     type Work: Drop;
@@ -127,7 +128,8 @@ pub trait Handler: Drop {
         ensures { heads self.old list.now end result self.new };
 
     /// Called with octets of a request's body, possibly none. `end` says that the request is
-    /// complete. If a response was given already, [`Reply::Later`] keeps it.
+    /// complete. If you have given a response already, return [`Reply::Later`]: a second one
+    /// resets the stream with INTERNAL_ERROR, or is ignored if the first was given in full.
     ///
     /// # Errors
     ///
@@ -155,7 +157,7 @@ pub trait Handler: Drop {
         ensures { trails self.old work.old list.now result work.new self.new };
 
     /// Writes the next octets of the body to the start of `room`, which has space for at least
-    /// one: as many as the windows and the output allow. Called only after [`Reply::Parts`].
+    /// one, and for no more than the windows allow. Called only after [`Reply::Parts`].
     ///
     /// # Errors
     ///

@@ -243,7 +243,8 @@ impl<W: Drop, H: Handler<Work = W>> Handled<H, W> {
         }
     }
 
-    /// Whether a response waits: for a window, for the output, or for its handler.
+    /// Whether some open exchange has a response, also one that was sent in full while its
+    /// request is incomplete.
     pub fn is_answering(&self) -> bool {
         let mut above = 0u32;
         while let Some(id) = self.exchanges.kept.next_above(above) {

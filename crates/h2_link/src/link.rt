@@ -53,7 +53,8 @@ pub trait Link {
     ///
     /// # Errors
     ///
-    /// [`LinkFault`] where the write failed: octets from the first on may have been written.
+    /// [`LinkFault`] where the write failed: some of the octets, from the first
+    /// on, may have been written.
     fn write(&mut self, octets: &[u8]) -> Result<usize, LinkFault>
         requires { faults self.old < 2 ^ 64 - 1 }
         ensures takes { Takes (taken self.old) (taken self.new) result octets.now }
@@ -68,7 +69,8 @@ pub trait Link {
     ///
     /// # Errors
     ///
-    /// [`LinkFault`] where the write failed: octets from the first on may have been written.
+    /// [`LinkFault`] where the write failed: some of the octets, from the first
+    /// on, may have been written.
     fn write_parts(&mut self, parts: &[IoSlice<'_>]) -> Result<usize, LinkFault>
         requires { faults self.old < 2 ^ 64 - 1 }
         ensures takes { Takes (taken self.old) (taken self.new) result

@@ -12,7 +12,7 @@ use crate::link::Link;
 ///
 /// # Errors
 ///
-/// Octets from the first on may have been written.
+/// Some of the octets, from the first on, may have been written.
 ///
 /// - [`LinkError::Device`] (N1) where a write failed.
 /// - [`LinkError::NoProgress`] (N5) where a write took nothing.

@@ -14,7 +14,8 @@ pub struct TimeLimits {
     pub least_body: u64,
     /// For the next octet of output to be written, while some is queued.
     pub writing: u64,
-    /// For the next octet of a response's body to be sent, while a response waits.
+    /// For the next octet of any response's body to be sent, while some open request has a
+    /// response.
     pub answering: u64,
     /// For the next request, while no exchange is open.
     pub idle: u64,
