@@ -230,8 +230,8 @@ Exit status (lines in backquotes go to standard error):
   3  `N1 Device`: the connection cannot be made, a read or a write failed (also
      of the files of --data and --output, which a hint names), or the time is
      over (`hint: timed out`)
-     `N5 NoProgress`: a write accepted no octets, or the heads of several
-     requests exceed 65536 octets
+     `N5 NoProgress`: a write accepted no octets, or 65536 octets of SETTINGS
+     and heads wait before the head of the last URL
   4  `N3 Memory`: out of memory
 
 A hint may follow that line. It is meant for people; the exit status does not

@@ -105,8 +105,8 @@ its own body.
 With --root, GET and HEAD are answered with a file below that folder, of any
 size, with its type, length, `etag`, `last-modified` and `date`. Conditional
 requests and single ranges are supported (RFC 9110, sections 13 and 14). A path
-that ends with a slash is the `index.html` of that folder. The body of an error
-is its status and phrase:
+that ends with a slash is the `index.html` of that folder. The body of an error,
+except to HEAD, is its status and phrase:
   400, 414  the path cannot be decoded, or has more than 4096 octets
   403       a symbolic link or anything below one, a file that is not regular,
             or one that may not be read
@@ -121,30 +121,33 @@ could still swap a link in and out again between the two checks. If a file
 shrinks while it is sent, the stream is reset with code 2.
 
 A connection that has no open request for --idle seconds is closed gracefully.
-It is closed with code 4 if the preface and the first frame take more than 10
-seconds, and with code 11
+A connection is closed with code 4 if the preface and the first frame take more
+than 10 seconds, and with code 11
 - if a later frame, a field block of several frames, or the next 1024 octets of
   request bodies (of all streams together) take more than 30 seconds;
-- if for 60 seconds no octet of queued output goes, or no octet of any response
-  body, while some open request has a response;
+- if output is queued and none of it is written for 60 seconds, or some open
+  request has a response and no octet of any response body is sent for 60;
 - if, in a period of 10 seconds (periods follow one another), the client sends
   more than 500 RST_STREAM frames or 500 empty frames, the host resets more than
   50 streams for stream errors, such as malformed requests, or for its limits of
   streams and fields, or the replies to PING and SETTINGS exceed 32768 octets;
 - if it holds more than 16 MiB, or holds most while all hold more than 256 MiB.
-  Header tables and incomplete field blocks are not counted.
+  Header tables, field blocks, entries of streams and buffers that have grown
+  are not counted.
 
 With --until-closed, GOAWAY is sent on all connections once standard input is
 closed, and pending requests are answered. A connection that takes longer than 5
 seconds is cut off unless 65536 octets of bodies, both ways together, move in
 each 5 seconds. One that has 65536 octets or more of output waiting when the
-shutdown begins is cut off once they are sent. The exit status is then 0.
+shutdown begins is cut off once they are sent. After a shutdown the exit status
+is 0.
 
 A --log line has the address of the client, `- -`, the time, the request line in
 double quotes, the status, and the number of octets of the body. In the request
 line, quotes, backslashes and octets outside printable ASCII are escaped, a
-quote as `\x22`. Malformed requests, and those whose authority names a user,
-have no line.
+quote as `\x22`. Requests that are reset before they are handled (with a head
+that is malformed or too large, or above the limit of streams), and those whose
+authority names a user, have no line.
 
 Exit status (lines in backquotes go to standard error):
   0  with --until-closed, standard input was closed, and all connections have

@@ -24,7 +24,7 @@ use std::alloc::Global;
 
 impl Conn {
     /// Opens a stream by sending a field section on it, and returns the stream's number: 1, 3,
-    /// 5 and so on. `end` sets END_STREAM: this end sends nothing more on the stream.
+    /// 5 and so on. `end` sets END_STREAM: this end sends no more fields or DATA on it.
     ///
     /// # Errors
     ///
@@ -41,7 +41,7 @@ impl Conn {
     }
 
     /// Sends a field section on an active stream: a response's head, or trailers. `end` sets
-    /// END_STREAM: this end sends nothing more on the stream.
+    /// END_STREAM: this end sends no more fields or DATA on it.
     ///
     /// # Errors
     ///

@@ -78,15 +78,16 @@ impl Conn {
     // contract: calls (own) take uses octets up to one frame's end, and answers one event at most
     // rule: calls (own) take uses octets up to one frame's end, and answers one event at most
     /// Does what [`Conn::take`] does, but lends nothing: the event comes without its fields and
-    /// octets, which [`Conn::list`] and [`Conn::octets`] lend until the next call of `advance`,
-    /// `take` or a method that changes the connection. So a layer above can read them, and then
-    /// call again.
+    /// octets, which [`Conn::list`] and [`Conn::octets`] lend, as often as they are called, until
+    /// the next call of `advance` or `take`. A loan ends at any call that changes the connection;
+    /// ask for it again after that call.
     ///
     /// # Errors
     ///
     /// [`ConnFault`] where the connection fails, and at every call from then on. INTERNAL_ERROR
     /// (2) is not the peer's fault: unless the caller gave that code, an allocation was
-    /// refused, to keep a frame that is cut in two, to process a frame, or to return credit.
+    /// refused: to keep a frame that is cut in two, to process a frame, to return credit, or to
+    /// reset a stream by [`Conn::refuse`].
     pub fn advance(&mut self, piece: &[u8]) -> Result<Progress, ConnFault>
         ensures used { IfOk result (λ progress. progress.used ≤ length piece.now) }
         ensures lies { LiesThere self.new.inner.cutter piece.now (code_result result) }
@@ -158,7 +159,8 @@ impl Conn {
     ///
     /// [`ConnFault`] where the connection fails, and at every call from then on. INTERNAL_ERROR
     /// (2) is not the peer's fault: unless the caller gave that code, an allocation was
-    /// refused, to keep a frame that is cut in two, to process a frame, or to return credit.
+    /// refused: to keep a frame that is cut in two, to process a frame, to return credit, or to
+    /// reset a stream by [`Conn::refuse`].
     pub fn take<'a>(&'a mut self, piece: &'a [u8]) -> Result<Taken<'a>, ConnFault>
         ensures used { IfOk result (λ taken. taken.used ≤ length piece.now) }
 

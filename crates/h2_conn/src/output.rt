@@ -58,8 +58,8 @@ impl Conn {
     ///
     /// # Errors
     ///
-    /// [`Refusal::Memory`] (C12); nothing has changed. If `out` has the capacity, it comes only if
-    /// a WINDOW_UPDATE is to be queued first, and then even for a `count` of 0.
+    /// [`Refusal::Memory`] (C12); nothing has changed. If `out` has the capacity, C12 is returned
+    /// only where a WINDOW_UPDATE has to be queued first; then it may come even for a `count` of 0.
     pub fn put_out(&mut self, count: usize, out: &mut Vec<u8>) -> Result<usize, Refusal>
         ensures answers { ConnAnswers self.old (PutOut count)
             (answer_by (λ given. Count given) result) self.new }

@@ -143,7 +143,8 @@ impl Conn {
     }
 
     /// Returns the number of the stream that a client opens next: 1, 3, 5 and so on (section
-    /// 5.1.1). `None` at a server, and once the connection has failed.
+    /// 5.1.1); a number above 2^31 - 1 is none that can be opened (C5). `None` at a server, and
+    /// once the connection has failed.
     pub fn next_number(&self) -> Option<u32>
         ensures { (values : Values) (log : Log) → ConnRepresents values self.now log
             → result ≡ reader_next_number log }
@@ -169,7 +170,8 @@ impl Conn {
 
     // contract: 6.1 The complete payload of DATA, padding included, counts for windows
     /// Returns the number of octets of the last DATA frame's payload, padding included (section
-    /// 6.1), whether the frame was reported, ignored or at fault; 0 before any. After
+    /// 6.1), whether the frame was reported or ignored; not of one whose head or payload is at
+    /// fault, or for which memory was refused. 0 before any. After
     /// [`Event::Data`](crate::Event::Data) it is the event's `flow`: if it is not 0 and the
     /// stream is still active, release it ([`Conn::release`]) once the octets are used. It
     /// works after a failure too.
@@ -182,7 +184,8 @@ impl Conn {
 
     // contract: 10.5 (own) Frames that cost a peer little are counted
     /// Returns the number of RST_STREAM frames received (section 6.4), up to
-    /// 2<sup>32</sup> - 1, without those whose head or payload is at fault. This end sets no
+    /// 2<sup>32</sup> - 1, without those whose head or payload is at fault, or for which
+    /// memory was refused. This end sets no
     /// limit on them: a layer above may end the connection ([`Conn::fail`]) where the peer
     /// opens streams and resets them at once (section 10.5). It works after a failure too.
     pub fn resets_received(&self) -> u32
@@ -196,7 +199,8 @@ impl Conn {
     /// Returns the number of empty frames received (section 10.5), up to 2<sup>32</sup> - 1:
     /// DATA without data and without END_STREAM, padded or not, and HEADERS and CONTINUATION
     /// with an empty fragment and without END_HEADERS. PRIORITY, and frames of unknown types,
-    /// are not among them. It works after a failure too.
+    /// are not among them; nor are frames whose head or payload is at fault, or for which memory
+    /// was refused. It works after a failure too.
     pub fn empty_frames_received(&self) -> u32
         ensures { (values : Values) (log : Log) → ConnRepresents values self.now log
             → result ≡ counted (empty_among log.frames) }
@@ -208,7 +212,8 @@ impl Conn {
     /// Returns the number of PING frames received without ACK (section 6.7), up to
     /// 2<sup>32</sup> - 1. Each costs this end an answer. The queued answers are limited, to
     /// 262,144 octets with all other output, but the PINGs of a peer that reads its answers are
-    /// not (section 10.5). It works after a failure too.
+    /// not (section 10.5). A PING whose head or payload is at fault, or for which memory was
+    /// refused, is not counted. It works after a failure too.
     pub fn pings_received(&self) -> u32
         ensures { (values : Values) (log : Log) → ConnRepresents values self.now log
             → result ≡ counted (pings_among log.frames) }
@@ -218,7 +223,8 @@ impl Conn {
 
     // contract: 10.5 (own) Frames that cost a peer little are counted
     /// Returns the number of SETTINGS frames received without ACK (section 6.5), up to
-    /// 2<sup>32</sup> - 1; the first is among them. It works after a failure too.
+    /// 2<sup>32</sup> - 1; the first is among them, and none whose head or payload is at
+    /// fault, or for which memory was refused. It works after a failure too.
     pub fn settings_received(&self) -> u32
         ensures { (values : Values) (log : Log) → ConnRepresents values self.now log
             → result ≡ counted (settings_among log.frames) }

@@ -11,7 +11,8 @@ use thiserror::Error;
 /// The result of [`Conn::take`](crate::Conn::take).
 #[derive(Clone, Copy, Debug)]
 pub struct Taken<'a> {
-    /// The number of octets of the piece that were used: up to the end of one frame, or else all
+    /// The number of octets of the piece that were used: none if a stream is reported as
+    /// unprocessed, otherwise up to the end of one frame, or else all
     /// of them.
     pub used: usize,
     /// The event, if there is one. Its fields are lent from the connection until the next call;
@@ -23,7 +24,8 @@ pub struct Taken<'a> {
 /// The result of [`Conn::advance`](crate::Conn::advance).
 #[derive(Clone, Copy, Debug)]
 pub struct Progress {
-    /// The number of octets of the piece that were used: up to the end of one frame, or else all
+    /// The number of octets of the piece that were used: none if a stream is reported as
+    /// unprocessed, otherwise up to the end of one frame, or else all
     /// of them.
     pub used: usize,
     /// The event, if there is one. It has no fields, which [`Conn::list`](crate::Conn::list)

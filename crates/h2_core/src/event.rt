@@ -13,7 +13,7 @@ pub enum Event<F, B> {
         id: u32,
         /// The fields, in order.
         list: F,
-        /// Whether END_STREAM is set: nothing follows on the stream.
+        /// Whether END_STREAM is set: no fields or DATA follow; a reset may.
         end: bool,
     },
     /// Octets of a body were received (section 6.1).
@@ -25,7 +25,7 @@ pub enum Event<F, B> {
         /// The octets that it took of the windows, padding included; they are now owed on the
         /// stream.
         flow: u32,
-        /// Whether END_STREAM is set: nothing follows on the stream.
+        /// Whether END_STREAM is set: no fields or DATA follow; a reset may.
         end: bool,
     },
     /// A stream was reset (section 6.4).

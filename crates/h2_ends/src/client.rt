@@ -110,8 +110,9 @@ impl Client {
     /// Sends octets of the body of a message that was begun, and returns how many: as many as
     /// both windows allow, at most 65,536 a call (see [`Conn::data`]), perhaps none. With
     /// `end`, END_STREAM goes with the last of them once all are sent. None of them is kept:
-    /// give the unsent octets again, once output was written and, where [`Conn::room`] of the
-    /// stream or of the connection (0) is 0 or less, once [`Client::take`] has received credit.
+    /// give the unsent octets again: if the output is full, after writing it; and if
+    /// [`Conn::room`] of the stream or of the connection (0) is 0 or less, after
+    /// [`Client::take`] has received credit.
     ///
     /// # Errors
     ///
@@ -172,14 +173,15 @@ impl Client {
     /// A call makes one pass over the streams on which something waits: in rising order from
     /// the stream with which the pass begins, then from the lowest. A share is at most `most`
     /// octets of the body (0 counts as 1, and more than 65,536 as 65,536), and no more than the
-    /// windows of the stream and of the connection allow. Trailers and END_STREAM go with the
-    /// last octet, unless the output is full then.
+    /// windows of the stream and of the connection allow. Without trailers END_STREAM is on the
+    /// last DATA; trailers follow in the same share, unless the output is full then.
     ///
     /// The pass ends early where a share is cut short, because 65,536 octets of output wait or
     /// the connection's window is used up. The next pass then begins with that stream and the
     /// rest of its share; otherwise it begins with the same stream as this one. So no long body
-    /// keeps the others waiting: between two shares of one stream each other stream on which
-    /// something waits gets one, where a share that was cut short and its rest count as one.
+    /// keeps the others waiting: between two shares of one stream every other stream on which
+    /// something waits gets a share. A share that was cut short and its rest in the next pass
+    /// count as one.
     ///
     /// [`Client::pump`] sends lower streams first instead. It also goes on where the
     /// connection's window is used up, and sends trailers of later streams, which this call
@@ -333,8 +335,8 @@ impl Client {
 
     // contract: calls (own) An end answers of its state, and of little once it has failed
     /// Returns whether 65,536 octets or more of output wait. Then each call that writes a
-    /// frame, except `fail`, is refused with [`Refusal::OutputFull`] (C7), and `pump` and
-    /// `pump_some` send nothing.
+    /// frame, except `take` and `fail`, is refused with [`Refusal::OutputFull`] (C7), and `pump`
+    /// and `pump_some` send nothing.
     pub fn is_full(&self) -> bool
         ensures { (values : Values) (log : Log) → ConnRepresents values self.now.end.conn log
             → (result ≡ true) ↔ (full_output ≤ waiting log) }
@@ -358,7 +360,8 @@ impl Client {
     /// Returns whether the connection is up and has nothing to do: no output waits, no credit
     /// is owed or still to be returned, and nothing that waits of messages could be sent. An
     /// incomplete frame may be held, and `take` may still return an event that needs no octets.
-    /// It visits the streams where something waits or is owed.
+    /// It may visit every active stream between the first and the last where something waits,
+    /// and likewise where something may be owed.
     pub fn is_quiet(&self) -> bool
         ensures { (values : Values) (end : EndLog) → EndRepresents values self.now.end end
             → (result ≡ true) ↔ IsQuietEnd end }

@@ -106,7 +106,8 @@ impl<F, B> EndEvent<F, B> {
 /// The result of a call of `take`.
 #[derive(Clone, Copy, Debug)]
 pub struct EndTaken<'a> {
-    /// How many octets of the piece were used: up to the end of one frame, or else all.
+    /// How many octets of the piece were used: up to the end of one frame, or else all; none, if
+    /// a stream is reported as unprocessed.
     pub used: usize,
     /// The event, if any. Its fields and octets are lent until the next call: octets of a body
     /// from the piece, or from the connection where the piece began or ended inside their

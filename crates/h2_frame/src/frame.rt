@@ -18,7 +18,7 @@ pub enum FrameRef<'a> {
     Data {
         /// The stream, not 0.
         stream: u32,
-        /// Whether END_STREAM is set: the sender sends nothing more on the stream.
+        /// Whether END_STREAM is set: the sender sends no more fields or DATA on it.
         end: bool,
         /// The octets, without padding.
         octets: &'a [u8],

@@ -10,7 +10,7 @@ pub enum Frame {
     Data {
         /// The stream, not 0.
         stream: u32,
-        /// Whether END_STREAM is set: the sender sends nothing more on the stream.
+        /// Whether END_STREAM is set: the sender sends no more fields or DATA on it.
         end: bool,
         /// The octets.
         octets: Vec<u8>,

@@ -60,7 +60,7 @@ pub fn no_fault_is_reported()
 {}
 
 /// Once both ends are quiet, all that an end has accepted for a stream was handed out at the
-/// other, unless that stream was reset.
+/// other, unless that stream was reset or reported as unprocessed.
 pub fn quiet_ends_have_all()
     ensures at_server { (client_values server_values : Values) (made : List Made)
         (client server : JointEnd) (i : ℕ)

@@ -19,7 +19,7 @@ use std::alloc::{AllocError, Global};
 /// refused to a connection and no [`JointAct::Fail`] was made, neither end reports a fault. No
 /// DATA of either end has passed its windows, as `h2_laws_end::no_data_passes_windows` says of
 /// one end. Once both ends are quiet, all that was accepted was handed out, on every stream
-/// that was not reset.
+/// that was neither reset nor reported as unprocessed.
 ///
 /// For any other peer, the contracts of [`Conn::take`](h2_ends::Conn::take),
 /// [`Client::take`](h2_ends::Client::take) and [`Server::take`](h2_ends::Server::take) say what
@@ -35,8 +35,8 @@ pub fn headline()
 // rule: joined (own) What one end has handed out is a prefix of what the other accepted
 /// Makes the acts, in order, on a new client and a new server, of which [`headline`] then
 /// holds. An act that is refused for another reason than [`Refusal::Memory`] (C12) is no error,
-/// and the next one is made. Nor is a connection that has failed with INTERNAL_ERROR because
-/// memory was refused as it took octets: see [`Conn::failed`](h2_ends::Conn::failed).
+/// and the next one is made. Nor is it an error if a connection fails with INTERNAL_ERROR because
+/// memory was refused while it took octets: see [`Conn::failed`](h2_ends::Conn::failed).
 ///
 /// # Errors
 ///

@@ -39,8 +39,8 @@ pub enum Malformed {
     #[error("M10 ConnectionField: a connection-specific field")]
     ConnectionField,
     /// M11: a `content-length` is not a number of 1 to 19 digits, or two differ, or the body
-    /// has another length (section 8.1.1); or a response without content, to HEAD, 204 or 304,
-    /// has a body (RFC 9110, section 6.4.1).
+    /// has another length (section 8.1.1); or a response that is to be sent to HEAD, or with 204
+    /// or 304, has a body (RFC 9110, section 6.4.1).
     #[error("M11 BadLength: content-length is invalid, or not the length of the body")]
     BadLength,
     /// M12: a part of a message comes out of order (section 8.1). [`Reading`](crate::Reading)

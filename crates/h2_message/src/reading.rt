@@ -206,9 +206,9 @@ impl Reading {
 
     // contract: 8.1.1 (own) A part that is refused breaks a rule, the least of which is named
     // rule: 8.1.1 (own) A part that is refused breaks a rule, the least of which is named
-    /// Returns the first rule that a field block breaks after the parts read, for which
-    /// [`Reading::fields`] refuses it; `None` if it is not refused. After END_STREAM that is
-    /// M12, whatever the fields are.
+    /// Returns the rule for which [`Reading::fields`] would refuse this field block after the parts
+    /// that were read, the first that it breaks; `None` if it would not be refused. After
+    /// END_STREAM that is M12, whatever the fields are.
     pub fn broken_by_fields(&self, list: &FieldList, end: bool) -> Option<Malformed>
         ensures { (reads : Reads) (parts : List (Part × Bool)) → Follows reads parts self.now
             → result ≡ broken_after reads parts (FieldsPart list.now, end) }

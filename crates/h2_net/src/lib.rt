@@ -4,8 +4,8 @@
 //! [`StreamLink`] is a link over a TCP stream that collects writes and sends them before it
 //! reads. [`target`] reads a URL of the scheme `http` (RFC 9110, section 4.2.1).
 //!
-//! The calls that serve and fetch take the network as a [`std::net::Net`], and the writers that
-//! they print to.
+//! Calls that open sockets take the network as a [`std::net::Net`], and calls that print take the
+//! writer.
 #![tactic(auto)]
 
 mod ending;

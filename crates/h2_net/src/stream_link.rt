@@ -30,12 +30,15 @@ const DROPPED_PIECE: usize = 4_096;
 const MOST_DROPPED: usize = 16_777_216;
 
 /// A link over a TCP stream. It holds up to 65,536 octets of writes, and sends them at the next
-/// read, once there are 65,536, or when [`StreamLink::flush`] is called. A write of 8,192 octets
-/// or more is sent at once, without a copy, if nothing is held.
+/// read, before a write of several parts with 8,192 octets or more, once there are 65,536, or when
+/// [`StreamLink::flush`] is called. A write of 8,192 octets or more is sent at once, without a
+/// copy, if nothing is held.
 ///
-/// If sending fails, the call fails, and the octets held that were not sent stay held: the next
-/// call that sends continues with them, so octets are sent in order and none twice. After a failed
-/// write of 8,192 octets or more it is unknown how many of these were sent: write nothing more.
+/// If sending fails, the call fails (a failed write of several parts may instead hold its first
+/// part and succeed, and leave [`StreamLink::last_error`] as it was), and the octets held that were
+/// not sent stay held: the next call that sends continues with them, so octets are sent in order
+/// and none twice. After a failed write of 8,192 octets or more it is unknown how many of these
+/// were sent: write nothing more.
 ///
 /// Octets still held when the link is dropped are not sent.
 #[derive(Drop)]

@@ -14,7 +14,7 @@ pub enum Act {
     Open {
         /// The fields.
         fields: Vec<Field>,
-        /// Whether END_STREAM is set: nothing follows on the stream.
+        /// Whether END_STREAM is set: no fields or DATA follow on the stream.
         end: bool,
     },
     /// [`Conn::fields`](h2_conn::Conn::fields).
@@ -23,7 +23,7 @@ pub enum Act {
         id: u32,
         /// The fields.
         fields: Vec<Field>,
-        /// Whether END_STREAM is set: nothing follows on the stream.
+        /// Whether END_STREAM is set: no fields or DATA follow on the stream.
         end: bool,
     },
     /// [`Conn::data`](h2_conn::Conn::data).
@@ -32,7 +32,7 @@ pub enum Act {
         id: u32,
         /// The octets of the body.
         octets: Vec<u8>,
-        /// Whether END_STREAM is set: nothing follows on the stream.
+        /// Whether END_STREAM is set: no fields or DATA follow on the stream.
         end: bool,
     },
     /// [`Conn::release`](h2_conn::Conn::release).

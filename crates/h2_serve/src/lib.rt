@@ -1,8 +1,8 @@
 //! Serves a connection over any link (RFC 9113); a handler answers its requests.
 //!
 //! [`serve_handler`] reads, passes requests to the handler, and writes its responses, complete
-//! or in parts, until the input ends. It blocks only in the calls of the link. For many
-//! connections use a thread for each, or `h2_hosting`.
+//! or in parts, until the input ends. Apart from the handler's calls, it blocks only
+//! in those of the link. For many connections use `h2_hosting`.
 #![tactic(auto)]
 
 mod errors;

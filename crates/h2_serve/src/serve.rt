@@ -30,8 +30,8 @@ const PART: usize = 16_384;
 /// [`Handled`] says what the handler is called with and how its replies are sent. At the end the
 /// handler has been told of each exchange that it is over.
 ///
-/// Before each read, everything that the client's windows allow is written; so a client's reset
-/// or request is seen only once they are used up. A handler that returned
+/// Before each read, all that can be sent is written; so a client's reset or next request is read
+/// only once nothing is left to send or a window keeps the rest back. A handler that returned
 /// [`h2_handlers::Part::Later`] is asked again after each read, and at no other time; to wait
 /// for anything else it must block in `part`.
 ///

@@ -3,7 +3,7 @@
 use thiserror::Error;
 
 /// Why a call was refused: the first condition that holds, in the order that each call states.
-/// The call has changed nothing.
+/// A call of a connection (`Conn`) has then changed nothing.
 #[derive(Clone, Copy, Debug, PartialEq, Eq, Hash, Error)]
 pub enum Refusal {
     /// C1: the connection has failed, so only calls for output and readers work.

@@ -3,10 +3,11 @@
 /// Time limits in milliseconds; 0 is no limit.
 #[derive(Clone, Copy, Debug, PartialEq, Eq)]
 pub struct TimeLimits {
-    /// For the preface and the first frame: ten bad round trips.
+    /// For the preface and the first frame. The default, 10 seconds, is ten round trips of one
+    /// second.
     pub opening: u64,
-    /// For a frame that has begun, or a field block of several frames. 16,393 octets in 30
-    /// seconds are 546 octets a second.
+    /// For a frame that has begun, or a field block of several frames. The default, 30 seconds,
+    /// is 546 octets a second for a frame of 16,393 octets.
     pub frame: u64,
     /// For the next [`TimeLimits::least_body`] octets of bodies, while a request is incomplete.
     pub body: u64,

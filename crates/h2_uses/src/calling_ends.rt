@@ -99,8 +99,8 @@ pub fn give_up(client: &mut Client, id: u32) -> Result<bool, Refusal>
 }
 
 /// Ends a server gracefully: call it after each round of reading and writing, until it returns
-/// true, and then close the transport. GOAWAY is sent once, as soon as the output has room for
-/// it.
+/// true, then shut down the writing side, and read and drop what comes until the peer closes.
+/// GOAWAY is sent once, as soon as the output has room for it.
 pub fn wind_down(server: &mut Server) -> Result<bool, Refusal>
     ensures { (result ≢ Err Refusal.GoingAway) × (result ≢ Err Refusal.OutputFull)
         × (result ≢ Err Refusal.Closed) }
