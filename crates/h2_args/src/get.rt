@@ -169,8 +169,9 @@ const TIMEOUT_HELP: &str = "Give up after this many seconds, 1 to 65535";
 const VERBOSE: &str = "verbose";
 
 const VERBOSE_HELP: &str = r"Print the frames of both sides on standard error,
-as show --follow does; the body is printed as with
---stream";
+in the format of show --follow, but check neither
+against the other's SETTINGS; the body is printed as
+with --stream";
 
 /// What `get` prints, how it ends, and an example.
 const FETCHED_AND_STATUSES: &str =
@@ -230,8 +231,8 @@ Exit status (lines in backquotes go to standard error):
   3  `N1 Device`: the connection cannot be made, a read or a write failed (also
      of the files of --data and --output, which a hint names), or the time is
      over (`hint: timed out`)
-     `N5 NoProgress`: a write accepted no octets, or 65536 octets of SETTINGS
-     and heads wait before the head of the last URL
+     `N5 NoProgress`: a write accepted no octets, or the heads before that of
+     the last URL are 65536 octets or more
   4  `N3 Memory`: out of memory
 
 A hint may follow that line. It is meant for people; the exit status does not

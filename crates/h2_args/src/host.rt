@@ -131,7 +131,8 @@ than 10 seconds, and with code 11
   more than 500 RST_STREAM frames or 500 empty frames, the host resets more than
   50 streams for stream errors, such as malformed requests, or for its limits of
   streams and fields, or the replies to PING and SETTINGS exceed 32768 octets;
-- if it holds more than 16 MiB, or holds most while all hold more than 256 MiB.
+- if it holds more than 16 MiB, or if all together hold more than 256 MiB and it
+  holds most.
   Header tables, field blocks, entries of streams and buffers that have grown
   are not counted.
 

@@ -105,10 +105,10 @@ whether those two agree. A part of a message that breaks a rule is not reported;
 the endpoint resets its stream, and this line precedes that of the reset:
   malformed ID RULE  the number and name of the first rule that the part breaks,
                      such as `M10 ConnectionField` (docs/PROTOCOL.md)
-A malformed message is not a fault, so the exit status stays 0. For the
-1001st stream that this endpoint would reset, a fault is printed in place of the
-line of its reset, after its line `malformed`, if it has one. With --messages a
-hint gives the reason for a fault, unless there is another hint.
+A malformed message is not a fault, so the exit status stays 0. At most 1000
+streams are reset: for the next one a fault is printed in place of its reset (a
+line `malformed`, if it has one, comes first). With --messages a hint gives the
+reason for a fault, unless there is another hint.
 
 Exit status (lines in backquotes go to standard error):
   0  the connection has not failed, wherever the input ends

@@ -30,8 +30,8 @@ impl Client {
     ///
     /// A part of a response is handed out only as long as the parts so far can begin a response
     /// that breaks no rule (sections 8.1 to 8.3). Otherwise this end resets the stream with
-    /// PROTOCOL_ERROR (no RST_STREAM is sent where the part has closed it) and returns that
-    /// event; or the connection fails, as [`Conn::refuse`](crate::Conn::refuse) says.
+    /// PROTOCOL_ERROR (no RST_STREAM is sent where the part has closed it) and returns
+    /// `EndEvent::Reset`; or the connection fails, as [`Conn::refuse`](crate::Conn::refuse) says.
     ///
     /// # Errors
     ///
@@ -65,8 +65,8 @@ impl Server {
     ///
     /// A part of a request is handed out only as long as the parts so far can begin a request
     /// that breaks no rule (sections 8.1 to 8.3). Otherwise this end resets the stream with
-    /// PROTOCOL_ERROR (no RST_STREAM is sent where the part has closed it) and returns that
-    /// event; or the connection fails, as [`Conn::refuse`](crate::Conn::refuse) says.
+    /// PROTOCOL_ERROR (no RST_STREAM is sent where the part has closed it) and returns
+    /// `EndEvent::Reset`; or the connection fails, as [`Conn::refuse`](crate::Conn::refuse) says.
     ///
     /// # Errors
     ///

@@ -115,10 +115,10 @@ impl Server {
     // contract: 8.1 (own) A part of a message is sent where one was begun, and is checked
     /// Sends octets of the body of a message that was begun, and returns how many: as many as
     /// both windows allow, at most 65,536 a call (see [`Conn::data`]), perhaps none. With
-    /// `end`, END_STREAM goes with the last of them once all are sent. None of them is kept:
-    /// give the unsent octets again: if the output is full, after writing it; and if
-    /// [`Conn::room`] of the stream or of the connection (0) is 0 or less, after
-    /// [`Server::take`] has received credit.
+    /// `end`, END_STREAM goes with the last of them once all are sent. The unsent octets are
+    /// not kept, so give them again: once the output is written, if it was full; and once
+    /// [`Server::take`] has received credit, if [`Conn::room`] of the stream or of the
+    /// connection (0) is 0 or less.
     ///
     /// # Errors
     ///
@@ -208,7 +208,7 @@ impl Server {
     // contract: 8.1 What was sent on a stream is a prefix of its message
     /// Returns how many octets of the body that was given for a stream wait for
     /// [`Server::pump`] or [`Server::pump_some`]. It is 0 where the stream isn't active, where
-    /// trailers alone wait, and for a message that was begun, of which nothing waits.
+    /// trailers alone wait, and for a message sent in parts, since nothing waits of such a one.
     pub fn unsent(&self, id: u32) -> usize
         ensures { (values : Values) (end : EndLog) → EndRepresents values self.now.end end
             → result ≡ unsent_on end id }
@@ -217,10 +217,11 @@ impl Server {
     }
 
     // contract: 8.1.1 (own) A part that is refused breaks a rule, the least of which is named
-    /// Returns why [`Server::take`] refused a part of a request last: the stream, and the first
-    /// rule of [`Malformed`] (M1 to M12) that the part breaks after the parts that came before.
-    /// `None` until a part is refused; kept after the connection has failed. A field list above
-    /// the limit, or a fault of a frame, is no refused part, and leaves the result.
+    /// Returns the stream of the last part of a request that [`Server::take`] refused, and the
+    /// first rule of [`Malformed`] (M1 to M12) that the part breaks after the parts that came
+    /// before. `None` until a part is refused; kept after the connection has failed. A field
+    /// list above the limit, and a fault of a frame, do not count as refused parts, and leave
+    /// the result.
     pub fn last_malformed(&self) -> Option<(u32, Malformed)>
         ensures { (values : Values) (end : EndLog) → EndRepresents values self.now.end end
             → result ≡ end.malformed }
@@ -347,8 +348,8 @@ impl Server {
     /// Returns whether the connection is up and has nothing to do: no output waits, no credit
     /// is owed or still to be returned, and nothing that waits of messages could be sent. An
     /// incomplete frame may be held, and `take` may still return an event that needs no octets.
-    /// It may visit every active stream between the first and the last where something waits,
-    /// and likewise where something may be owed.
+    /// Its cost grows with the number of active streams from the first to the last on which a
+    /// message waits, and from the first to the last on which octets may be owed.
     pub fn is_quiet(&self) -> bool
         ensures { (values : Values) (end : EndLog) → EndRepresents values self.now.end end
             → (result ≡ true) ↔ IsQuietEnd end }

@@ -110,8 +110,8 @@ impl<W: Drop, H: Handler<Work = W>> Handled<H, W> {
     }
 
     /// Lends the queued output from position `at` on, as much as lies there contiguously; see
-    /// [`Server::waiting_from`]. After [`Handled::ready`] that is everything that can be written
-    /// now.
+    /// [`Server::waiting_from`]. After [`Handled::ready`] the queue holds everything that can be
+    /// written now: call this again from the end of each slice.
     ///
     /// [`Server::waiting_from`]: h2_ends::Server::waiting_from
     pub fn waiting_from(&self, at: usize) -> &[u8]

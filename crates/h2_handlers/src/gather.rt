@@ -36,7 +36,7 @@ impl Request {
     }
 }
 
-/// An incomplete request.
+/// What has come of a request, kept until its exchange is over.
 #[derive(Debug, Drop)]
 pub struct Gathered {
     request: Request,

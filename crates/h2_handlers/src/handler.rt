@@ -14,8 +14,8 @@ use std::alloc::{AllocError, Global};
 use std::io;
 use thiserror::Error;
 
-/// Why a handler cannot go on with an exchange. The client gets status 500, or a reset with
-/// INTERNAL_ERROR if the head of a response was sent.
+/// Why a handler cannot go on with an exchange. The client gets status 500 if no response was given
+/// yet, nothing else if one was given in full, and otherwise a reset with INTERNAL_ERROR.
 #[derive(Clone, Copy, Debug, PartialEq, Eq, Hash, Error)]
 pub enum HandlerFault {
     /// An allocation was refused.
@@ -86,7 +86,8 @@ pub enum Cause {
 }
 
 /// Answers the requests of one connection. `Work` is what it keeps of one exchange, a request
-/// and its response. Its calls do not wait: each returns what there is.
+/// and its response. Its calls should not wait, since in a host a call that blocks stops all
+/// connections; where one connection is served, `part` may block.
 ///
 /// An implementor may state its behaviour by five `ghost` relations, `heads`, `bodies`, `trails`,
 /// `gives` and `ends`, between the state before a call, the arguments, the result, and the state
@@ -133,7 +134,8 @@ pub trait Handler: Drop {
     ///
     /// # Errors
     ///
-    /// On an error the response is status 500, or a reset if the head of a response was sent.
+    /// On an error the response is status 500 if none was given yet, nothing changes if one was
+    /// given in full, and otherwise the stream is reset with INTERNAL_ERROR.
     fn body(
         &mut self,
         alloc: Global,

@@ -5,8 +5,9 @@
 pub struct Limits {
     /// The maximum number of connections, never above 1,048,576.
     pub connections: usize,
-    /// How many octets a connection may hold: one that holds more is closed. What is not counted
-    /// ([`Party::held`](crate::Party::held)) comes on top.
+    /// How many octets a connection may hold: one that holds more is closed. What
+    /// [`Party::held`](crate::Party::held) does not count comes on top: header tables, field blocks
+    /// and lists, entries of streams, and buffers that have grown.
     pub held: usize,
     /// How many octets all connections may hold: if they hold more, the one that holds most is
     /// closed.

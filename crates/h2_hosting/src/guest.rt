@@ -14,7 +14,9 @@ pub trait Leaves {
     /// Relates the states before and after [`Leaves::leave`].
     ghost leaves: { Self → Self → Type 0 } = { λ _ _. ⊤ };
 
-    /// Begins a graceful shutdown: pending requests are still answered.
+    /// Begins a graceful shutdown: pending requests are still answered. If 65,536 octets of output
+    /// wait, or memory is refused, the connection instead fails at once with NO_ERROR, and they are
+    /// not answered.
     fn leave(&mut self)
         ensures { leaves self.old self.new };
 }

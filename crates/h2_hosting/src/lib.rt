@@ -1,8 +1,8 @@
 //! Serves a folder, or echoes requests, on many connections, as `h2 host` does.
 //!
-//! [`host_port`] runs a [`Driver`](h2_mio::Driver) whose connections are [`Guest`]s. Each has a
-//! [`Seat`](h2_seat::Seat), one connection with its time limits, whose handler is a [`Logged`]
-//! one over a [`Site`] or over an echo. [`host_handlers`] serves with any other handler.
+//! [`host_port`] runs a [`Driver`](h2_mio::Driver) whose connections are [`Guest`]s. Each holds a
+//! [`Seat`](h2_seat::Seat): one connection with its time limits. Its handler is a [`Logged`], which
+//! wraps a [`Site`] or an echo. [`host_handlers`] serves with any other handler.
 #![tactic(auto)]
 
 mod guest;

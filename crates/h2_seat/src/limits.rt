@@ -17,7 +17,8 @@ pub struct SeatLimits {
 }
 
 impl Default for SeatLimits {
-    /// The defaults of both, and 5 seconds to close or for each 65,536 octets of bodies.
+    /// The defaults of `times` and `floods`; a closing connection has 5 seconds, and 5 more after
+    /// each 65,536 octets of bodies.
     fn default() -> SeatLimits {
         SeatLimits {
             times: TimeLimits::default(),
