@@ -24,9 +24,9 @@ use std::alloc::Global;
 /// come, even if a part of the request is still unsent. Octets read after the response are not
 /// taken.
 ///
-/// Where the input ends too early (N4), no credit of discarded DATA or of closed streams is left
-/// to return. If the server has sent any octets, nothing is owed on any stream either, and what
-/// still waits is held back by the windows.
+/// With N4 the client has returned all credit for DATA that it discarded and for streams that are
+/// over. If it has read any octets from the server, nothing is owed on any stream either, and only
+/// the windows hold back what still waits of the request.
 ///
 /// # Errors
 ///

@@ -23,9 +23,9 @@ use std::alloc::Global;
 /// response to HEAD has neither body nor `content-length`. Resets a stream with
 /// ENHANCE_YOUR_CALM whose request has a body of more than 1,048,576 octets.
 ///
-/// Where the input ends, the connection's credit was returned, and each response was sent
-/// completely unless its stream was reset. Where it ends too early (N4), all credit that was owed
-/// was returned, and what still waits is held back by the windows.
+/// If a number is returned, the connection's credit was returned, and each response was sent
+/// completely unless its stream was reset. With N4 all credit that was owed was returned, and only
+/// the windows hold back what still waits.
 ///
 /// # Errors
 ///

@@ -142,11 +142,11 @@ pub enum Acted {
     Refused(EndRefusal),
     /// The end failed with this code as a Deliver gave it octets, or had failed before.
     Failed(Code),
-    /// Memory was refused. For a Request, Respond, Begin, BeginResponse, SendBody or
-    /// SendTrailers: to keep what it is given; nothing has changed. For a Deliver: to make room
-    /// for the next event; it stopped before that call of `take`. Then the octets that were used
-    /// are off the pipe, their events are kept, and the same Deliver, made again, continues from
-    /// there. A Deliver would also stop after 2^64 - 1 calls of
-    /// `take`, which is not expected.
+    /// Memory was refused. If the act is a Request, Respond, Begin, BeginResponse, SendBody or
+    /// SendTrailers, there was no memory to keep what it is given, and nothing has changed. If it
+    /// is a Deliver, there was no memory for the event that the next call of `take` might return,
+    /// and it stopped before that call: the octets that were used are off the pipe, their events
+    /// are kept, and the same Deliver, made again, continues from there. A Deliver would also stop
+    /// after 2^64 - 1 calls of `take`, which is not expected.
     Memory,
 }
