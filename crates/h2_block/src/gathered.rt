@@ -13,7 +13,8 @@ pub enum Gathered<'a> {
     Block {
         /// The block's stream.
         stream: u32,
-        /// Whether END_STREAM is set: nothing follows the block on the stream.
+        /// Whether END_STREAM is set: after the block the sender sends no more fields or DATA on
+        /// the stream.
         end: bool,
         /// Its octets: the fragments, joined.
         octets: Vec<u8>,

@@ -20,7 +20,7 @@ use h2_frame::{FrameRef, HEAD_LEN, write_ref};
 /// Appends a field block as HEADERS and CONTINUATIONs, each but the last full with `most`
 /// octets (RFC 9113, sections 4.3, 6.2 and 6.10). The stream is from 1 to 2<sup>31</sup> - 1,
 /// and the block has at most 65,552 octets; an empty one is one empty HEADERS. `end` sets
-/// END_STREAM: nothing follows the block on the stream. A peer reads payloads of 16,384 octets,
+/// END_STREAM: no more fields or DATA follow on the stream. A peer reads payloads of 16,384 octets,
 /// and longer ones only if its SETTINGS have said so.
 ///
 /// # Errors

@@ -37,7 +37,7 @@ pub enum Event<F, B> {
         /// Whether this end has reset it: for a fault of the peer, or for a limit of its own.
         ours: bool,
     },
-    /// The peer takes no streams above this one (section 6.8).
+    /// GOAWAY was received: the peer takes no streams above `last` (section 6.8).
     GoAway {
         /// The least last stream that the peer's GOAWAY frames have named.
         last: u32,

@@ -6,8 +6,8 @@ ghost use Rattle.h2_ends.specs.EndEvents.{end_event_with_parts};
 use hpack::FieldList;
 
 /// An event of an end: a part of a message (RFC 9113, section 8.1), or an event of its
-/// connection. `F` is how the fields of a part are held, `B` how the octets of a body are:
-/// lent, kept, or by their place.
+/// connection. `F` holds the fields of a part and `B` the octets of a body: as a loan, a copy
+/// or a place, or as `()` where the end keeps them.
 #[derive(Clone, Copy, Debug, PartialEq, Eq)]
 pub enum EndEvent<F, B> {
     /// The head of an interim response has come (1xx; RFC 9113, section 8.1).
@@ -79,8 +79,8 @@ pub enum EndEvent<F, B> {
 
 impl<F, B> EndEvent<F, B> {
     // rule: 8.1 (own) What is handed out of a stream is what was reported, in order
-    /// Returns the same event with `list` in place of its fields and `bytes` in place of its
-    /// octets. What the event doesn't have is dropped.
+    /// Returns the same event with `list` in place of its fields or `bytes` in place of its
+    /// octets. Of `list` and `bytes`, what the event has no place for is dropped.
     pub fn with_parts<G, C>(self, list: G, bytes: C) -> EndEvent<G, C>
     where
         F: Drop,
@@ -110,7 +110,6 @@ pub struct EndTaken<'a> {
     /// a stream is reported as unprocessed.
     pub used: usize,
     /// The event, if any. Its fields and octets are lent until the next call: octets of a body
-    /// from the piece, or from the connection where the piece began or ended inside their
-    /// frame.
+    /// from the piece, or from the connection where their frame was cut in two.
     pub event: Option<EndEvent<&'a FieldList, &'a [u8]>>,
 }

@@ -28,8 +28,8 @@ pub fn sent_parts_are_readable()
 {}
 
 // contract: 8.1 (own) A part of a message is sent where one was begun, and is checked
-/// Nothing waits of an open message that was begun: what was given of it was sent, or waits in
-/// the output (RFC 9113, section 8.1).
+/// Of an open message that was begun, all that was accepted was written to the output: nothing
+/// of it waits for `pump` (RFC 9113, section 8.1).
 pub fn parts_are_sent_at_once()
     ensures { (values : Values) (end : End) (happened : EndLog) (id : ℕ) (said : Said)
         (number : Option ℕ) → EndRepresents values end happened

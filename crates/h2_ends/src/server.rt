@@ -220,7 +220,7 @@ impl Server {
     /// Returns the stream of the last part of a request that [`Server::take`] refused, and the
     /// first rule of [`Malformed`] (M1 to M12) that the part breaks after the parts that came
     /// before. `None` until a part is refused; kept after the connection has failed. A field
-    /// list above the limit, and a fault of a frame, do not count as refused parts, and leave
+    /// list above the limit, and a fault of a frame, are not refused parts, and do not change
     /// the result.
     pub fn last_malformed(&self) -> Option<(u32, Malformed)>
         ensures { (values : Values) (end : EndLog) → EndRepresents values self.now.end end

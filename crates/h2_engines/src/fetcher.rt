@@ -191,9 +191,10 @@ impl Fetcher {
 
     // rule: engines (own) Without a link a server answers whole requests, a client reads one
     /// Queues WINDOW_UPDATE for all credit that is owed, and as much of what waits of the request
-    /// as the windows allow. Then appends at most `count` octets of the output to `out`, fewer only
-    /// where no more wait. Returns their number. Once the connection has failed, it still puts out
-    /// what waits, GOAWAY last.
+    /// as the windows allow, but no more once 65,536 octets of output wait: the rest is left to the
+    /// next call. Then appends at most `count` octets of the output to `out`, fewer only where no
+    /// more wait. Returns their number; call it until that is 0. Once the connection has failed, it
+    /// still puts out what waits, GOAWAY last.
     ///
     /// # Errors
     ///

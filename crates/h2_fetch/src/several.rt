@@ -34,8 +34,8 @@ pub enum Came {
 /// end it are dropped, since no window bounds them.
 ///
 /// The connection's window is 65,535 octets, and bodies that are kept use it up. So with `n`
-/// requests set [`Config::initial_window`] to 65,535 / `n` or less: otherwise what is kept may
-/// take all of it, and nothing more comes.
+/// requests give [`Config::new`] an initial window of 65,535 / `n` or less: otherwise what is kept
+/// may take all of it, and nothing more comes.
 #[derive(Drop)]
 pub struct SeveralFetch {
     pub(crate) alloc: Global,
@@ -116,12 +116,12 @@ impl SeveralFetch {
     /// Returns what came next on a stream of [`SeveralFetch::streams`]. If nothing is kept of
     /// it, sends WINDOW_UPDATE for the credit that is owed on that stream, writes what waits,
     /// and then reads the link. Don't call it after the part that ends the response, after
-    /// [`Came::Dropped`], nor with a link that has failed.
+    /// [`Came::Dropped`], after N3 or N5, nor with a link that has failed.
     ///
     /// # Errors
     ///
     /// Those of [`crate::PartFetch::next`] except N6, since a reset is [`Came::Dropped`]. What
-    /// is kept can still be asked for after an error.
+    /// is kept can still be asked for after N2 and N4.
     pub fn next_on<L: Link>(&mut self, id: u32, link: &mut L) -> Result<Came, LinkError>
         requires { L.faults link.old < 2 ^ 64 - 1 }
         ensures next { AnswersNextOn

@@ -21,7 +21,8 @@ pub const MOST_MAX_FRAME: u32 = 1_048_576;
 /// section 4.2): `max_frame_size_sent`.
 pub const MAX_FRAME_SENT: u32 = 65_536;
 
-/// The most octets of a field block, over all its frames (own; RFC 9113, sections 4.3 and 10.5.1).
+/// The most octets of a field block, over all its frames (own; RFC 9113, sections 4.3 and
+/// 10.5.1): `max_block_octets`.
 pub const MAX_BLOCK: usize = 65_552;
 
 /// The greatest size of a field list that is reported or sent, in octets: name, value and 32
@@ -87,6 +88,6 @@ pub const SMALL_FRAME: usize = 13;
 /// a head, and eight more.
 pub const LARGE_FRAME: usize = 17;
 
-/// The most octets of a request's body that a server echoes, and that a client posts (own):
+/// The most octets of a request's body that a server echoes, and that `h2 loop` posts (own):
 /// `greatest_body`.
 pub const GREATEST_BODY: usize = 1_048_576;

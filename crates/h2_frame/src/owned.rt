@@ -21,7 +21,8 @@ pub enum Frame {
     Headers {
         /// The stream, not 0.
         stream: u32,
-        /// Whether END_STREAM is set: nothing follows the block on the stream.
+        /// Whether END_STREAM is set: after the block the sender sends no more fields or DATA on
+        /// the stream.
         end: bool,
         /// Whether END_HEADERS is set: the block ends with this frame.
         whole: bool,

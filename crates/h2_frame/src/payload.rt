@@ -21,8 +21,8 @@ use byteorder::{BigEndian, ByteOrder};
 // contract: 6.2 Padding of HEADERS above what the priority leaves is PROTOCOL_ERROR
 // rule: 6.2 Padding of HEADERS above what the priority leaves is PROTOCOL_ERROR
 /// Checks the payload after a head without fault, and returns its pad length; `None` if it has
-/// none (RFC 9113, sections 6.1 and 6.2). The slice has the head's length. It allocates
-/// nothing.
+/// none (RFC 9113, sections 6.1 and 6.2). The slice has as many octets as the head's `length`
+/// says. It allocates nothing.
 ///
 /// # Errors
 ///
@@ -63,7 +63,8 @@ pub fn pad_length(head: &Head, payload: &[u8]) -> Result<Option<u8>, Code>
 // contract: 6.7 PING is read with its octets
 // contract: 7 A received code is any number of 32 bits, and an unknown one does nothing
 /// Checks the payload after a head without fault, and returns the frame, whose payload is lent
-/// (RFC 9113, section 6). The slice has the head's length. It allocates nothing.
+/// (RFC 9113, section 6). The slice has as many octets as the head's `length` says. It allocates
+/// nothing.
 ///
 /// # Errors
 ///
@@ -93,8 +94,8 @@ pub fn read_payload<'a>(head: &Head, payload: &'a [u8]) -> Result<FrameRef<'a>, 
 // rule: 6.10 CONTINUATION is a fragment, and END_HEADERS ends the block
 // rule: 7 A received code is any number of 32 bits, and an unknown one does nothing
 /// Returns the frame of a payload without fault, after a head without fault (RFC 9113, section
-/// 6); the payload is lent. The slice has the head's length, and `pad` is what [`pad_length`]
-/// returned for it. It allocates nothing.
+/// 6); the payload is lent. The slice has as many octets as the head's `length` says, and `pad` is
+/// what [`pad_length`] returned for it. It allocates nothing.
 #[tactic(auto, unfolding(crate::proofs::Rules::payload_rules))]
 #[inline(always)]
 pub fn payload_frame<'a>(head: &Head, pad: Option<u8>, payload: &'a [u8]) -> FrameRef<'a>

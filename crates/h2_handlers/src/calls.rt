@@ -35,8 +35,8 @@ impl<W: Drop, H: Handler<Work = W>> Handled<H, W> {
         self.server.go_away()
     }
 
-    /// Ends the connection with this error code, unless it has failed before, and all exchanges
-    /// with [`Cause::Closed`](crate::Cause::Closed).
+    /// Ends the connection with this error code, unless it has failed before. In both cases ends
+    /// all exchanges with [`Cause::Closed`](crate::Cause::Closed).
     pub fn fail(&mut self, code: Code)
         ensures handles { Handles (relations H.heads H.bodies H.trails H.gives H.ends) []
             self.old.server.end (handling_of self.old.exchanges) self.new.server.end
@@ -129,7 +129,7 @@ impl<W: Drop, H: Handler<Work = W>> Handled<H, W> {
         self.server.is_full()
     }
 
-    /// Whether no output is queued, and no stream is active or the connection has failed.
+    /// Whether no output is queued and either no stream is active or the connection has failed.
     pub fn is_drained(&self) -> bool
         ensures { (values : Values) (log : Log) → ConnRepresents values self.now.server.end.conn log
             → (result ≡ true) ↔ ((waiting log ≡ 0) × (reader_next_live log 0 ≡ None)) }
@@ -138,7 +138,7 @@ impl<W: Drop, H: Handler<Work = W>> Handled<H, W> {
     }
 
     /// Whether [`Handled::send_some`] could send more: octets of a complete body, or a part for
-    /// which a handler can be asked.
+    /// which the handler can be asked.
     pub fn may_send(&self) -> bool {
         self.more || self.next_asked().is_some()
     }

@@ -17,9 +17,10 @@ const SHARE: usize = 16_384;
 impl<W: Drop, H: Handler<Work = W>> Handled<H, W> {
     // rule (tested): handlers (own) Whole bodies have their share before a part is asked for
     /// Sends what can go: returns credit for what the handler has used, sends the responses that
-    /// waited for the output, up to 16,384 octets of each complete body, and then one part asked
-    /// of one handler. Complete bodies go first, since parts could fill the output and the
-    /// connection's window in each call. `room` is scratch space for the part.
+    /// waited because the output was full, up to 16,384 octets of each complete body, and then one
+    /// part of one response, for which it asks the handler. Complete bodies go first, since parts
+    /// could fill the output and use up the connection's window in each call. `room` is scratch
+    /// space for the part.
     ///
     /// # Errors
     ///
@@ -218,8 +219,8 @@ impl<W: Drop, H: Handler<Work = W>> Handled<H, W> {
         }
     }
 
-    /// Asks again the handlers that returned [`Part::Later`](crate::Part::Later), at the next
-    /// [`Handled::send_some`].
+    /// Lets [`Handled::send_some`] ask the handler again for the parts for which it returned
+    /// [`Part::Later`](crate::Part::Later).
     pub fn ask_again(&mut self)
         ensures { Handles (relations H.heads H.bodies H.trails H.gives H.ends) []
             self.old.server.end (handling_of self.old.exchanges) self.new.server.end

@@ -29,7 +29,7 @@ impl TakesLines for Vec<u8> {
     }
 }
 
-/// Log lines of all connections that wait to be written.
+/// The log lines of all connections, until they are written.
 #[derive(Drop)]
 pub struct Journal {
     lines: RefCell<Vec<u8>>,

@@ -130,7 +130,7 @@ pub enum JointAct {
 /// The result of an act.
 #[derive(Clone, Copy, Debug, PartialEq, Eq)]
 pub enum Acted {
-    /// The stream on which a Request was sent, or its head by a Begin.
+    /// The stream of the request that a Request has sent, or that a Begin has begun.
     Id(u32),
     /// How many octets of bodies a Pump, a PumpSome or a SendBody has sent, or how many octets
     /// a Move has moved or a Deliver has delivered.

@@ -19,7 +19,8 @@ ghost use Rattle.h2_joined.specs.Headline.{AreQuiet, WasResetIn, ReportsNoFault,
 // contract: joined (own) What one end has handed out is a prefix of what the other accepted
 /// Two joined ends with their pipes are a pair, so all laws of pairs hold of their octets,
 /// header tables and windows. Where memory was not refused and no Fail was made, the pair is
-/// undisturbed.
+/// undisturbed (no connection failed for want of memory, and no call ended one), so the laws of
+/// undisturbed pairs hold too.
 pub fn joined_ends_are_a_pair()
     ensures { (client_values server_values : Values) (made : List Made)
         (client server : JointEnd) → IsJoint client_values server_values made client server
@@ -59,8 +60,9 @@ pub fn no_fault_is_reported()
         → ReportsNoFault made server.happened Client }
 {}
 
-/// Once both ends are quiet, all that an end has accepted for a stream was handed out at the
-/// other, unless that stream was reset or reported as unprocessed.
+/// Once the pair is quiet ([`Joined::quiet`](crate::Joined::quiet)), all that an end has accepted
+/// for a stream was handed out at the other, unless that stream was reset or reported as
+/// unprocessed.
 pub fn quiet_ends_have_all()
     ensures at_server { (client_values server_values : Values) (made : List Made)
         (client server : JointEnd) (i : ℕ)
@@ -77,7 +79,8 @@ pub fn quiet_ends_have_all()
 {}
 
 // contract: joined (own) Two joined ends are quiet where both are, and both pipes are empty
-/// Two quiet ends hold no octets of an incomplete frame.
+/// The ends of a quiet pair ([`Joined::quiet`](crate::Joined::quiet)) hold no octets of an
+/// incomplete frame.
 pub fn quiet_ends_hold_nothing()
     ensures { (client_values server_values : Values) (made : List Made)
         (client server : JointEnd) → IsJoint client_values server_values made client server

@@ -18,8 +18,8 @@ use std::alloc::{AllocError, Global};
 /// accepted for it, whatever acts were made: the main law of this library. Where memory was not
 /// refused to a connection and no [`JointAct::Fail`] was made, neither end reports a fault. No
 /// DATA of either end has passed its windows, as `h2_laws_end::no_data_passes_windows` says of
-/// one end. Once both ends are quiet, all that was accepted was handed out, on every stream
-/// that was neither reset nor reported as unprocessed.
+/// one end. Once the pair is quiet ([`Joined::quiet`]), all that was accepted was handed out, on
+/// every stream that was neither reset nor reported as unprocessed.
 ///
 /// For any other peer, the contracts of [`Conn::take`](h2_ends::Conn::take),
 /// [`Client::take`](h2_ends::Client::take) and [`Server::take`](h2_ends::Server::take) say what

@@ -54,9 +54,9 @@ struct Carried {
 ///
 /// [`LinkError::Device`] (N1) if the connection failed or cannot be made, [`LinkError::Memory`]
 /// (N3) if an allocation was refused, [`LinkError::CutOff`] (N4) if the response is incomplete
-/// at the end, [`LinkError::NoProgress`] (N5) after 2^64 - 1 rounds. [`LinkError::Stream`] (N2),
-/// [`LinkError::Reset`] (N6), [`LinkError::Refused`] (N7), and N5 for any other reason, would be
-/// faults of the ends.
+/// at the end, [`LinkError::NoProgress`] (N5) after 2^64 - 1 rounds, [`LinkError::Reset`] (N6) with
+/// ENHANCE_YOUR_CALM if `count` is above 1,048,576. [`LinkError::Stream`] (N2), N6 with another
+/// code, [`LinkError::Refused`] (N7), and N5 for any other reason, would be faults of the ends.
 pub fn exchange<N: Net>(net: &N, alloc: Global, count: u32) -> Result<Fetched, LinkError>
 where
     N::Stream: WriteParts,

@@ -13,7 +13,7 @@ pub enum FetchError {
     /// The connection or the request ended early.
     #[error("{0}")]
     Link(LinkError),
-    /// The handler returned this fault for the last part.
+    /// The handler returned this fault for a part, the last one that it got.
     #[error("{0}")]
     Handler(HandlerFault),
 }

@@ -30,8 +30,8 @@ use std::alloc::Global;
 /// [`LinkError::CutOff`] (N4) if the input ended, [`LinkError::NoProgress`] (N5) if a write
 /// accepted nothing, and after 2^64 - 1 rounds, [`LinkError::Reset`] (N6) if the stream was
 /// reset by either end or was not processed, [`LinkError::Refused`] (N7) if the request breaks a
-/// rule or has too many fields. The handler was called with all parts received before; after N3
-/// the last ones may be lost.
+/// rule, or its head or its trailers are larger than 65,536 octets. The handler was called with
+/// all parts received before; after N3 one part may be lost.
 pub fn fetch_handler<H: ResponseHandler, L: Link>(
     alloc: Global,
     link: &mut L,

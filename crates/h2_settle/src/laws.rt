@@ -9,8 +9,8 @@ ghost use Rattle.h2_settle.specs.Settling.{HasSettled};
 
 // contract: joined (own) settle makes rounds until the ends are quiet or one has failed
 /// Once [`settle`](crate::settle) has ended with quiet ends, all that either end had accepted
-/// has arrived at the other, on each stream on which no Reset was made before and which the
-/// client has not reported as unprocessed.
+/// has arrived at the other, on each stream on which no `JointAct::Reset` was made before and
+/// which the client has not reported as unprocessed.
 pub fn settled_messages_arrive()
     ensures at_client { (client_values server_values : Values) (before acts : List Made)
         (rounds : ℕ) (client server new_client new_server : JointEnd) (i : ℕ)

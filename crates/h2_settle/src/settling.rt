@@ -45,8 +45,9 @@ pub struct Settled {
 ///   of 65,535 octets, or of the initial window that the reader has sent last, if that is less.
 ///   A piece is a body, a list of trailers or an end.
 /// - One more than the work left at the start (`work_left`): 3 for each octet, list of trailers
-///   and end that waits, 2 for each octet of credit that is not returned, and what is under
-///   way.
+///   and end that waits, 2 for each octet of credit that is not returned, and for each frame or
+///   field block in the outputs and pipes 1, with 1 more if it has to be answered (SETTINGS,
+///   PING) and 2 more for each octet that it takes of the windows.
 ///
 /// If it ends with quiet ends, all that was accepted has been sent and handed out at the other
 /// end, whatever windows there were, on each stream that was neither reset before nor reported

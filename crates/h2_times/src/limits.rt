@@ -39,7 +39,7 @@ pub struct FloodLimits {
 }
 
 impl Default for TimeLimits {
-    /// 10 seconds to open, 30 for a frame and for 1,024 octets of a body, 60 for the next octet
+    /// 10 seconds to open, 30 for a frame and for 1,024 octets of bodies, 60 for the next octet
     /// sent, and 75 without a request.
     fn default() -> TimeLimits {
         TimeLimits {

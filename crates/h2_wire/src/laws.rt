@@ -18,8 +18,8 @@ pub fn one_reading()
 {}
 
 // contract: 4.2 A payload as long as the limit is received
-/// The frames and unparsed octets of a stream are the same with limits of payloads that are
-/// nowhere lower.
+/// A stream has the same frames and the same unparsed octets if the limit of payloads is raised
+/// at any of its octets, as long as it is lowered at none.
 pub fn frames_are_read_with_wider_limits()
     ensures { (expects : Bool) (limits others : Limits) (stream : List ℕ) (frames : List Frame)
         (unparsed : List ℕ) → ((place : ℕ) → limits place ≤ others place)
@@ -38,7 +38,7 @@ pub fn one_fault()
 {}
 
 // contract: 5.4.1 A stream of octets has one fault at most, at one place
-/// A stream that is at fault has no reading, whatever follows it.
+/// A stream that is at fault can't be read as frames and unparsed octets, whatever follows it.
 pub fn no_reading_past_a_fault()
     ensures { (expects : Bool) (limits : Limits) (stream more : List ℕ) (frames others : List Frame)
         (place : ℕ) (fault : Fault) (unparsed : List ℕ)

@@ -86,8 +86,8 @@ impl Decoder {
     // contract: HPACK 4.2 Size updates stand at the beginning of a block
     /// Decodes a complete block, and returns its fields in order, or [`List::TooLarge`] where
     /// their size ([`list_size`](crate::list_size)) is above `list_limit` octets (RFC 9113,
-    /// section 6.5.2). Either way the complete block has changed the table; past the limit no
-    /// further field is stored.
+    /// section 6.5.2). Either way the complete block has changed the table. Once the size is above
+    /// the limit, the rest of the block is read for the table alone, and no list is kept.
     ///
     /// # Errors
     ///

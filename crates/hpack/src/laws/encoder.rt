@@ -9,8 +9,9 @@ ghost use Rattle.hpack.specs.Written.{IsValidEncoder, AreOctets};
 ghost use Rattle.hpack.specs.Limits.{after_limit, chosen, IsSettled};
 
 // contract: HPACK 3.1 What is encoded is a block of the list
-/// What an encoder writes for a list is a block of that list for every decoder with the
-/// encoder's table and no lower limit, and leaves the decoder with the encoder's table.
+/// What an encoder writes for a list is a block of that list for every decoder that has the
+/// encoder's table and a limit not below the encoder's. It leaves the decoder with the table that
+/// the encoder then has.
 pub fn written_block()
     ensures block { (state : EncoderState) (limit : ℕ) (fields : List Field) → IsValidEncoder state
         → AreOctets fields → list_size fields < 2 ^ 35
@@ -33,8 +34,9 @@ pub fn written_block()
 {}
 
 // contract: HPACK 4.2 After the limit fell a block begins with one update or two
-/// Of the limits set between two blocks, in order, only the least and the last decide what is
-/// written: an encoder, which records no others, writes what the list of all of them asks for.
+/// Of the limits set between two blocks only the least and the last decide which size updates the
+/// next block begins with. So an encoder, which keeps these two alone, writes the same as one that
+/// kept all of them, in order.
 pub fn least_and_last()
     ensures block { (state : EncoderState) (limits : List ℕ) (fields : List Field) → IsSettled state
         → block_of (fold after_limit state limits) fields ≡ chosen state.table limits fields }
@@ -51,8 +53,8 @@ pub fn least_and_last()
 {}
 
 // contract: HPACK 3.1 What is encoded is a block of the list
-/// A block has at most as many octets as its fields' names and values, 18 for each field, and
-/// 12.
+/// A block that an encoder writes has at most as many octets as its fields' names and values, 18
+/// for each field, and 12.
 pub fn most_octets_of_a_block()
     ensures { (state : EncoderState) (fields : List Field)
         → length (block_of state fields) ≤ most_octets fields }
