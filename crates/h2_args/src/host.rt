@@ -113,7 +113,8 @@ except to HEAD, is its status and phrase:
   404       the file does not exist, a name begins with a dot, or the path is a
             folder without a trailing slash
   405       another method than GET or HEAD
-  304, 412  a condition is false (304 for if-none-match and if-modified-since)
+  412       `if-match` or `if-unmodified-since` is false (`if-none-match` and
+            `if-modified-since` give 304, without a body)
   416       the range is beyond the file
   500, 503  the file system failed, or memory or file descriptors ran out
 Symbolic links are not followed: the file and the folders on its path are
