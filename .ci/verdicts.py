@@ -6,7 +6,7 @@ import re
 from collections import Counter, namedtuple
 
 import edits
-from grounds import Grounds, sum_of
+from grounds import Grounds, rows_of, sum_of
 
 ROOT = os.path.dirname(os.path.dirname(os.path.realpath(__file__)))
 TABLE = f"{ROOT}/.ci/verdicts.tsv"
@@ -158,15 +158,9 @@ def held():
     return found, faults
 
 
-def rows():
-    """Returns the crates of crates.txt."""
-    with open(f"{ROOT}/crates.txt", encoding="utf-8") as it:
-        return [found[0] for line in it if (found := re.match(r"\w+", line))]
-
-
 def count_fault(paths):
     """Yields what is wrong with what docs/DECISIONS.md says of the edits that the gate holds or tries."""
-    tried = [it.path for crate in rows() for it in edits_of(crate, FOLDERS[1:])]
+    tried = [it.path for crate in rows_of(ROOT) for it in edits_of(crate, FOLDERS[1:])]
     there = (str(len(paths)), str(len(tried)), sum_of(sorted([*paths, *tried]))[:8])
     with open(f"{ROOT}/docs/DECISIONS.md", encoding="utf-8") as it:
         said = COUNT.findall(it.read())
@@ -193,7 +187,7 @@ def why_not_held(edit, verdicts):
     crate = edit.path.partition("/")[0]
     if edit.text is None:
         return "it is not there"
-    if crate not in rows():
+    if crate not in rows_of(ROOT):
         return "its crate is not in crates.txt"
     if why := fault_of(edit):
         return why
