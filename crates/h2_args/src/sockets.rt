@@ -117,8 +117,7 @@ one is served. The exit status is that of the first such connection.
 Exit status (lines in backquotes go to standard error):
   0  every connection was served until its client ended it
   1  `N2 Stream CODE`: the connection failed with this code (RFC 9113,
-     section 7), or with 11, since 1000 streams were reset and one more had to
-     be
+     section 7); or CODE is 11, and a stream had to be reset after 1000 others
      `N4 CutOff`: it ended inside the preface or a frame, or while a stream was
      active
   2  invalid arguments

@@ -27,7 +27,7 @@ pub struct HostSettings {
 /// Serves many connections at once, in this thread, each with a handler made by `makes`. If
 /// `until_closed` of `place` is set, closing standard input, a pipe, begins a graceful shutdown:
 /// pending responses are sent, within [`SeatLimits::closing`](h2_seat::SeatLimits), and then the
-/// call returns. Otherwise it returns only with an error.
+/// call returns. Otherwise it returns only with an error, or after 2^64 - 1 rounds.
 ///
 /// All handlers are called in this thread, so a handler that blocks stops all connections.
 ///

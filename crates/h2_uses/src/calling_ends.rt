@@ -44,7 +44,8 @@ pub fn ask(client: &mut Client, message: Message) -> Result<Asked, EndRefusal>
 // calling: h2_ends late
 /// Sends a response that took long to make. Hands it back if the output is full, which must be
 /// written first, or if memory was refused. Drops it if its stream is closed, since nobody
-/// waits for it. Resets the stream if the response breaks a rule or is too large.
+/// waits for it. Returns any other refusal, and drops the message: if it breaks a rule or is too
+/// large, reset the stream.
 pub fn answer_late(
     server: &mut Server,
     id: u32,
