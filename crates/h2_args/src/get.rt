@@ -231,8 +231,8 @@ Exit status (lines in backquotes go to standard error):
   3  `N1 Device`: the connection cannot be made, a read or a write failed (also
      of the files of --data and --output, which a hint names), or the time is
      over (`hint: timed out`)
-     `N5 NoProgress`: a write accepted no octets, or the heads before that of
-     the last URL are 65536 octets or more
+     `N5 NoProgress`: a write accepted no octets, or the preface, SETTINGS and
+     the heads of all URLs but the last are 65536 octets or more
   4  `N3 Memory`: out of memory
 
 A hint may follow that line. It is meant for people; the exit status does not

@@ -107,11 +107,13 @@ size, with its type, length, `etag`, `last-modified` and `date`. Conditional
 requests and single ranges are supported (RFC 9110, sections 13 and 14). A path
 that ends with a slash is the `index.html` of that folder. The body of an error,
 except to HEAD, is its status and phrase:
-  400, 414  the path cannot be decoded, or has more than 4096 octets
+  400, 414  the path cannot be decoded or has a control character, or it has
+            more than 4096 octets
   403       a symbolic link or anything below one, a file that is not regular,
             or one that may not be read
-  404       the file does not exist, a name begins with a dot, or the path is a
-            folder without a trailing slash
+  404       the file does not exist, the path is a folder without a trailing
+            slash, or a name is empty, begins with a dot, has a slash or a
+            backslash, or is longer than 255 octets
   405       another method than GET or HEAD
   412       `if-match` or `if-unmodified-since` is false (`if-none-match` and
             `if-modified-since` give 304, without a body)
@@ -129,14 +131,16 @@ than 10 seconds, and with code 11
   request bodies (of all streams together) take more than 30 seconds;
 - if output is queued and none of it is written for 60 seconds, or some open
   request has a response and no octet of any response body is sent for 60;
-- if, in a period of 10 seconds (periods follow one another), the client sends
-  more than 500 RST_STREAM frames or 500 empty frames, the host resets more than
-  50 streams for stream errors, such as malformed requests, or for its limits of
-  streams and fields, or the replies to PING and SETTINGS exceed 32768 octets;
+- if, in one of the periods of 10 seconds that follow one another,
+  - the client sends more than 500 RST_STREAM frames or more than 500 empty
+    frames;
+  - the host resets more than 50 streams for stream errors (malformed requests,
+    for example) or because of its limits of streams and fields; or
+  - the replies to PING and SETTINGS are more than 32768 octets;
 - if it holds more than 16 MiB, or if all together hold more than 256 MiB and it
   holds most.
-  Header tables, field blocks, entries of streams and buffers that have grown
-  are not counted.
+  Header tables, field blocks, entries of streams and the spare capacity of
+  buffers are not counted.
 
 With --until-closed, GOAWAY is sent on all connections once standard input is
 closed, and pending requests are answered. A connection that takes longer than 5
@@ -149,8 +153,9 @@ A --log line has the address of the client, `- -`, the time, the request line in
 double quotes, the status, and the number of octets of the body. In the request
 line, quotes, backslashes and octets outside printable ASCII are escaped, a
 quote as `\x22`. Requests that are reset before they are handled (with a head
-that is malformed or too large, or above the limit of streams), and those whose
-authority names a user, have no line.
+that is malformed or too large, or above the limit of streams), those whose
+authority names a user, and those for whose head or line memory was refused have
+no line.
 
 Exit status (lines in backquotes go to standard error):
   0  with --until-closed, standard input was closed, and all connections have

@@ -115,7 +115,8 @@ pub trait Handler: Drop {
     /// Relates the end of an exchange to the state after [`Handler::over`].
     ghost ends: { Self → Self.Work → Cause → Self → Type 0 } = { λ _ _ _ _. ⊤ };
 
-    /// Called with the head of a request. `end` says that the request is complete.
+    /// Called with the head of a request, unless its `:authority` names a user: then the response
+    /// is status 400. `end` says that the request is complete.
     ///
     /// # Errors
     ///

@@ -18,9 +18,9 @@ impl<W: Drop, H: Handler<Work = W>> Handled<H, W> {
     // rule (tested): handlers (own) Whole bodies have their share before a part is asked for
     /// Sends what can go: returns credit for what the handler has used, sends the responses that
     /// waited because the output was full, up to 16,384 octets of each complete body, and then one
-    /// part of one response, for which it asks the handler. Complete bodies go first, since parts
-    /// could fill the output and use up the connection's window in each call. `room` is scratch
-    /// space for the part.
+    /// part of one response, for which it asks the handler. Complete bodies go first:
+    /// otherwise parts could fill the output and use up the connection's window in each call, and
+    /// complete bodies would never be sent. `room` is scratch space for the part.
     ///
     /// # Errors
     ///

@@ -7,7 +7,7 @@ pub struct Limits {
     pub connections: usize,
     /// How many octets a connection may hold: one that holds more is closed. What
     /// [`Party::held`](crate::Party::held) does not count comes on top: header tables, field blocks
-    /// and lists, entries of streams, and buffers that have grown.
+    /// and lists, entries of streams, and the spare capacity of buffers.
     pub held: usize,
     /// How many octets all connections may hold: if they hold more, the one that holds most is
     /// closed.

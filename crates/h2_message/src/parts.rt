@@ -14,8 +14,8 @@ use crate::malformed::Malformed;
 use crate::scan::{Scan, scan_fields};
 use hpack::Field;
 
-/// The length that the rest of a body sent in parts must have: what its head's `content-length`
-/// leaves, 0 where a response has no content, or any (RFC 9113, section 8.1.1).
+/// The length that the rest of a body sent in parts must have (RFC 9113, section 8.1.1): what is
+/// left of its head's `content-length`, 0 where a response has no content, and otherwise any.
 #[derive(Clone, Copy, Debug, PartialEq, Eq)]
 pub struct BodyLength {
     /// The number of octets; `None` for any number.

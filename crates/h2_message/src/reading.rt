@@ -63,8 +63,8 @@ pub(crate) enum Phase {
     AtEnd,
 }
 
-/// A message that is read part by part. It takes a part if a message that is not malformed can
-/// begin with the parts read so far and this one, and refuses it otherwise. It takes no memory.
+/// A message that is read part by part. It takes a part if the parts read so far can, with this
+/// one, still become a message that is not malformed, and refuses it otherwise. It takes no memory.
 #[derive(Clone, Copy, Debug)]
 pub struct Reading {
     pub(crate) reads: Reads,
