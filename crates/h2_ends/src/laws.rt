@@ -17,9 +17,9 @@ ghost use Rattle.h2_ends.specs.Turns.{ComesBefore, HasRoomFor, IsNotStopped, Get
 ghost use Rattle.h2_ends.specs.Turns.{Meanwhile, Pass, turn_after};
 
 // contract: 8.1 (own) What has come of a message that breaks no rule can be read
-/// If a message breaks no rule as it is sent (of a message that is sent in parts: has broken
-/// none so far), every beginning of it that was received can be read. Its body may come in any
-/// number of DATA frames, as long as none is empty without END_STREAM (RFC 9113, section 8.1).
+/// If a message breaks no rule as it is sent (or, where it is sent in parts, has broken none so
+/// far), every beginning of it that was received can be read. Its body may come in any number of
+/// DATA frames, as long as none is empty without END_STREAM (RFC 9113, section 8.1).
 pub fn sent_parts_are_readable()
     ensures { (reads : Reads) (said : Said) (parts : List (Part × Bool)) → IsSoundSaid reads said
         → AllByRecursion IsNoEmptyPart parts

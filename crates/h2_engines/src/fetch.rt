@@ -24,9 +24,9 @@ use std::alloc::Global;
 /// come, even if a part of the request is still unsent. Octets read after the response are not
 /// taken.
 ///
-/// With N4 the client has returned all credit for DATA that it discarded and for streams that are
-/// over. If it has read any octets from the server, nothing is owed on any stream either, and only
-/// the windows hold back what still waits of the request.
+/// If the call returns [`LinkError::CutOff`] (N4), the client has returned all credit for DATA that
+/// it discarded and for streams that are over. If it has also read octets from the server, nothing
+/// is owed on any stream, and only the windows hold back what still waits of the request.
 ///
 /// # Errors
 ///
@@ -34,8 +34,8 @@ use std::alloc::Global;
 /// - [`LinkError::Stream`] (N2) where the connection failed, once its GOAWAY was written.
 /// - [`LinkError::Memory`] (N3) where an allocation was refused.
 /// - [`LinkError::CutOff`] (N4) where the input ended before the response was complete.
-/// - [`LinkError::NoProgress`] (N5) where a write took nothing; also, which is not expected,
-///   after 2^64 - 1 rounds, or where the end refuses the request for another reason.
+/// - [`LinkError::NoProgress`] (N5) where a write took nothing; also, though neither is expected,
+///   after 2^64 - 1 rounds, or where the end refuses the request otherwise than with N3 or N7.
 /// - [`LinkError::Reset`] (N6) where either end reset the stream, or the server did not process
 ///   the request.
 /// - [`LinkError::Refused`] (N7) where the message breaks a rule, or its head or its trailers

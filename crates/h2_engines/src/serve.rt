@@ -24,8 +24,8 @@ use std::alloc::Global;
 /// ENHANCE_YOUR_CALM whose request has a body of more than 1,048,576 octets.
 ///
 /// If a number is returned, the connection's credit was returned, and each response was sent
-/// completely unless its stream was reset. With N4 all credit that was owed was returned, and only
-/// the windows hold back what still waits.
+/// completely unless its stream was reset. If it returns [`LinkError::CutOff`] (N4), all credit
+/// that was owed was returned, and only the windows hold back what still waits.
 ///
 /// # Errors
 ///
