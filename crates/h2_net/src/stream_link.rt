@@ -38,8 +38,8 @@ const MOST_DROPPED: usize = 16_777_216;
 /// call that sends continues with them, so octets are sent in order and none twice. A write of
 /// several parts is the exception: if its attempt to send the held octets and these parts fails,
 /// it goes on as a write of its first part alone, and fails only if that fails. If that succeeds
-/// (the part may just be held), [`StreamLink::last_error`] stays as it was. After a failed write of 8,192 octets or more it is
-/// unknown how many of these were sent: write nothing more.
+/// (the part may just be held), [`StreamLink::last_error`] stays as it was. After a failed write of
+/// 8,192 octets or more it is unknown how many of these were sent: write nothing more.
 ///
 /// Octets still held when the link is dropped are not sent.
 #[derive(Drop)]
