@@ -170,8 +170,8 @@ const VERBOSE: &str = "verbose";
 
 const VERBOSE_HELP: &str = r"Print the frames of both sides on standard error,
 in the format of show --follow, but check neither
-against the other's SETTINGS; the body is printed as
-with --stream";
+against the other's SETTINGS; the body is printed
+as with --stream";
 
 /// What `get` prints, how it ends, and an example.
 const FETCHED_AND_STATUSES: &str =
