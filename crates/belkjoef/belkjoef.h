@@ -101,6 +101,7 @@ enum {
   BJ_NOT_OWED = -31,          /* nothing was released, or more than is owed on the stream */
   BJ_MEMORY = -32,            /* out of memory */
   BJ_SETTINGS_WAIT = -33,     /* the last SETTINGS are not acknowledged yet */
+  BJ_WINDOW_TOO_LARGE = -34,  /* a window is widened by nothing, or to more than 2^31 - 1 octets */
 
   /* Rules that a message breaks, the first of several. */
   BJ_BAD_NAME = -41,         /* a field name is empty or has a forbidden octet */
@@ -131,7 +132,8 @@ BJ_CALL void bj_error_text(int error, const char **text);
 /* Settings of this endpoint (RFC 9113, section 6.5.2). */
 typedef struct bj_config {
   uint32_t table_limit;    /* HEADER_TABLE_SIZE: 0 to 65,536 */
-  uint32_t initial_window; /* INITIAL_WINDOW_SIZE: 1 to 2^31 - 1 */
+  uint32_t initial_window; /* INITIAL_WINDOW_SIZE: 1 to 2^31 - 1; above 65,535 of no use without
+                            * bj_widen */
   uint32_t max_streams;    /* MAX_CONCURRENT_STREAMS, of a server: 100 to 1,000 */
   uint32_t max_frame;      /* MAX_FRAME_SIZE: 16,384 to 1,048,576 */
 } bj_config;
@@ -308,6 +310,12 @@ BJ_CALL int bj_release(bj_end *end, uint32_t stream, uint32_t count);
  * released stays released. A peer stalls unless one of these two functions is called. */
 BJ_CALL int bj_release_all(bj_end *end);
 
+/* Lets the peer send `count` octets more on the connection, for good (WINDOW_UPDATE on stream 0). A
+ * connection begins with 65,535 octets, whatever bj_config says of streams, so a peer can send that
+ * much per round trip. BJ_CLOSED. BJ_OUTPUT_FULL. BJ_WINDOW_TOO_LARGE: `count` is 0, or above
+ * 2^31 - 1 less what bj_granted stores. BJ_MEMORY. */
+BJ_CALL int bj_widen(bj_end *end, uint32_t count);
+
 /* Resets a stream with an error code, and discards what is kept for it.
  * BJ_CLOSED. BJ_NO_SUCH_STREAM. BJ_OUTPUT_FULL. BJ_TOO_MANY_RESETS. BJ_MEMORY. */
 BJ_CALL int bj_reset(bj_end *end, uint32_t stream, uint32_t code);
@@ -445,6 +453,10 @@ BJ_CALL int bj_room(bj_end *end, uint32_t stream, int64_t *room);
 /* Stores how many octets of a stream were handed out and are not released yet; 0 once the
  * connection has failed. */
 BJ_CALL int bj_owed(bj_end *end, uint32_t stream, uint32_t *owed);
+
+/* Stores how many octets the peer may send on the connection before any of them is returned: 65,535,
+ * and what bj_widen has added; 0 once the connection has failed. */
+BJ_CALL int bj_granted(bj_end *end, uint32_t *granted);
 
 /* Stores how many octets of the body given for a stream are kept for bj_pump, also once the
  * connection has failed. */
@@ -617,6 +629,9 @@ BJ_CALL int bj_conn_send_data(bj_conn *conn, uint32_t stream, const uint8_t *oct
  * BJ_CLOSED. BJ_NO_SUCH_STREAM. BJ_OUTPUT_FULL. BJ_NOT_OWED. BJ_MEMORY. */
 BJ_CALL int bj_conn_release(bj_conn *conn, uint32_t stream, uint32_t count);
 
+/* As bj_widen, with the same errors. */
+BJ_CALL int bj_conn_widen(bj_conn *conn, uint32_t count);
+
 /* Resets a stream with an error code.
  * BJ_CLOSED. BJ_NO_SUCH_STREAM. BJ_OUTPUT_FULL. BJ_TOO_MANY_RESETS. BJ_MEMORY. */
 BJ_CALL int bj_conn_reset(bj_conn *conn, uint32_t stream, uint32_t code);
@@ -665,6 +680,9 @@ BJ_CALL int bj_conn_next_live(bj_conn *conn, uint32_t above, uint32_t *stream);
 /* Stores how many octets of the connection's window are still to be returned: those of discarded
  * DATA and of closed streams. 0 once the connection has failed. */
 BJ_CALL int bj_conn_due(bj_conn *conn, uint32_t *due);
+
+/* As bj_granted. */
+BJ_CALL int bj_conn_granted(bj_conn *conn, uint32_t *granted);
 
 /* Stores how many octets of an incomplete preface or frame are held: at most 1,048,585; 0 once the
  * connection has failed. */

@@ -232,6 +232,19 @@ impl<Role> End<Role> {
         check(unsafe { ffi::bj_release_all(self.place()) })
     }
 
+    /// Lets the peer send `count` octets more on the connection, for good (WINDOW_UPDATE on stream
+    /// 0). A connection begins with 65,535 octets, whatever [`Config`](crate::Config) says of
+    /// streams, so a peer can send that much per round trip.
+    ///
+    /// # Errors
+    ///
+    /// `Closed`. `OutputFull`. `WindowTooLarge`: `count` is 0, or above 2^31 - 1 less
+    /// [`granted`](End::granted). `Memory`.
+    pub fn widen(&mut self, count: u32) -> Result<(), Error> {
+        // SAFETY: the place is as the library has left it.
+        check(unsafe { ffi::bj_widen(self.place(), count) })
+    }
+
     /// Resets a stream, and discards what is kept for it.
     ///
     /// # Errors
@@ -485,6 +498,15 @@ impl<Role> End<Role> {
         // SAFETY: the pointers point to the place and a number.
         unsafe { ffi::bj_owed(self.place(), stream, &mut owed) };
         owed
+    }
+
+    /// How many octets the peer may send on the connection before any of them is returned: 65,535,
+    /// and what [`widen`](End::widen) has added; 0 once the connection has failed.
+    pub fn granted(&self) -> u32 {
+        let mut granted = 0;
+        // SAFETY: the pointers point to the place and a number.
+        unsafe { ffi::bj_granted(self.place(), &mut granted) };
+        granted
     }
 
     /// How many octets of the body given for a stream are kept for [`pump`](End::pump).

@@ -175,6 +175,8 @@ pub enum Error {
     Memory,
     /// The last SETTINGS are not acknowledged yet.
     SettingsWait,
+    /// A window is widened by nothing, or to more than 2^31 - 1 octets.
+    WindowTooLarge,
     /// The message breaks a rule.
     BadMessage(Rule),
     /// The stream has no request to answer, or no open message.
@@ -190,7 +192,7 @@ pub enum Error {
 }
 
 /// The errors that have one number, with that number; `Failed` has that of `bj_take`.
-const NUMBERS: [(c_int, Error); 34] = [
+const NUMBERS: [(c_int, Error); 35] = [
     (-7, Error::BadCode),
     (-11, Error::BadConfig(BadConfig::TableLimit)),
     (-12, Error::BadConfig(BadConfig::InitialWindow)),
@@ -209,6 +211,7 @@ const NUMBERS: [(c_int, Error); 34] = [
     (-31, Error::NotOwed),
     (-32, Error::Memory),
     (-33, Error::SettingsWait),
+    (-34, Error::WindowTooLarge),
     (-41, Error::BadMessage(Rule::BadName)),
     (-42, Error::BadMessage(Rule::BadValue)),
     (-43, Error::BadMessage(Rule::PseudoPlace)),

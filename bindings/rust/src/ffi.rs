@@ -147,6 +147,7 @@ extern "C" {
     ) -> c_int;
     pub(crate) fn bj_release(end: *mut End, stream: u32, count: u32) -> c_int;
     pub(crate) fn bj_release_all(end: *mut End) -> c_int;
+    pub(crate) fn bj_widen(end: *mut End, count: u32) -> c_int;
     pub(crate) fn bj_reset(end: *mut End, stream: u32, code: u32) -> c_int;
     pub(crate) fn bj_ping(end: *mut End, octets: *const u8) -> c_int;
     pub(crate) fn bj_go_away(end: *mut End) -> c_int;
@@ -178,6 +179,7 @@ extern "C" {
     pub(crate) fn bj_peer_settings(end: *mut End, settings: *mut Settings) -> c_int;
     pub(crate) fn bj_room(end: *mut End, stream: u32, room: *mut i64) -> c_int;
     pub(crate) fn bj_owed(end: *mut End, stream: u32, owed: *mut u32) -> c_int;
+    pub(crate) fn bj_granted(end: *mut End, granted: *mut u32) -> c_int;
     pub(crate) fn bj_unsent(end: *mut End, stream: u32, unsent: *mut usize) -> c_int;
     pub(crate) fn bj_next_live(end: *mut End, above: u32, stream: *mut u32) -> c_int;
     pub(crate) fn bj_set_user(end: *mut End, stream: u32, user: usize) -> c_int;

@@ -24,6 +24,7 @@ no_refusal refusals.ListTooLarge is = cc
 no_refusal refusals.NotOwed is = cc
 no_refusal refusals.Memory is = cc
 no_refusal refusals.SettingsWait is = cc
+no_refusal refusals.WindowTooLarge is = cc
 
 -- What was made ready is in the place.
 pub holds_ready : {A : Type 0} (outcome : Result A Refusal) {told : ℤ} {held : Held}

@@ -64,7 +64,7 @@ config_number configs.InitialWindow = negsuc 11
 config_number configs.MaxStreams = negsuc 12
 config_number configs.MaxFrame = negsuc 13
 
--- -21 to -33, of C1 to C13
+-- -21 to -34, of C1 to C14
 -- rule: c (own) Each error has its number
 abbrev pub refusal_number : Refusal → ℤ
 refusal_number refusals.Closed = negsuc 20
@@ -80,6 +80,7 @@ refusal_number refusals.ListTooLarge = negsuc 29
 refusal_number refusals.NotOwed = negsuc 30
 refusal_number refusals.Memory = negsuc 31
 refusal_number refusals.SettingsWait = negsuc 32
+refusal_number refusals.WindowTooLarge = negsuc 33
 
 -- -41 to -52, of M1 to M12
 -- rule: c (own) Each error has its number

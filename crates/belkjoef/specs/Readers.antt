@@ -3,7 +3,7 @@ use Rattle.std.specs.Prelude.{◌≡◌, ◌↔◌, ◌≤◌, ℕ, ℤ, pos, Bo
 use Rattle.std.specs.Prelude.{option_map}
 use Rattle.h2_frame.specs.Codes.{code_number}
 use Rattle.h2_spec_log.specs.Acts.{Values}
-use Rattle.h2_spec_log.specs.CallRules.{reader_room, reader_owed}
+use Rattle.h2_spec_log.specs.CallRules.{reader_room, reader_owed, reader_granted}
 use Rattle.h2_spec_log.specs.Counted.{counted, empty_among, resets_among}
 use Rattle.h2_spec_log.specs.Counted.{pings_among, settings_among}
 use Rattle.h2_spec_log.specs.Limits.{full_output}
@@ -52,6 +52,9 @@ room_on id log = reader_room (log_view log) id
 
 abbrev pub owed_at : ℕ → Log → ℕ
 owed_at id log = reader_owed (log_view log) id
+
+abbrev pub granted_by : Log → ℕ
+granted_by log = reader_granted (log_view log)
 
 abbrev pub next_above : ℕ → Log → Option ℕ
 next_above above log = reader_next_live log above

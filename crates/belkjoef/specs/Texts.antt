@@ -38,7 +38,7 @@ config_texts =
     (14, codes "K4 MaxFrame: the greatest frame isn't from 16384 to 1048576") ∷
     []
 
--- refusals of the connection: C1 to C13
+-- refusals of the connection: C1 to C14
 abbrev pub refusal_texts : List (ℕ × List ℕ)
 refusal_texts =
     (21, codes "C1 Closed: the connection has failed") ∷
@@ -54,6 +54,7 @@ refusal_texts =
     (31, codes "C11 NotOwed: nothing was released, or more than is owed on the stream") ∷
     (32, codes "C12 Memory: out of memory") ∷
     (33, codes "C13 SettingsWait: the last SETTINGS are not acknowledged yet") ∷
+    (34, codes "C14 WindowTooLarge: a window is widened by 1 or more, to 2,147,483,647 at most") ∷
     []
 
 -- errors of messages: M1 to M12, and E3 and E4

@@ -2,7 +2,8 @@
 
 ghost use Rattle.std.specs.Prelude.{◌≡◌, ◌≢◌, None};
 ghost use Rattle.h2_flow.specs.Configs.{first_bad};
-ghost use Rattle.h2_spec_log.specs.Acts.{Release, ResetStream, Refuse, SendPing, SendGoAway};
+ghost use Rattle.h2_spec_log.specs.Acts.{Release, Widen, ResetStream, Refuse, SendPing};
+ghost use Rattle.h2_spec_log.specs.Acts.{SendGoAway};
 ghost use Rattle.h2_spec_log.specs.Acts.{ChangeSettings, Fail, SendFields};
 ghost use Rattle.belkjoef.specs.Calls.{OnPlace};
 ghost use Rattle.belkjoef.specs.Configs.{values_given, WithinBounds};
@@ -32,6 +33,21 @@ pub extern "C" fn bj_conn_release(alloc: Global, conn: &mut BjConn, stream: u32,
         return EMPTY;
     };
     let answer = held.conn.release(stream, count);
+    conn.keep(held);
+    of_answer(answer)
+}
+
+// contract: c (own) A call of C's is that of the end in its place
+/// Lets the peer send `count` octets more on the connection, for good.
+#[unsafe(no_mangle)]
+pub extern "C" fn bj_conn_widen(alloc: Global, conn: &mut BjConn, count: u32) -> i32
+    ensures { OnPlace result (DoesConn answer_number (ActsOnConn (Widen count)) result)
+        conn.old.held conn.new.held }
+{
+    let Some(mut held) = conn.open(alloc) else {
+        return EMPTY;
+    };
+    let answer = held.conn.widen(count);
     conn.keep(held);
     of_answer(answer)
 }

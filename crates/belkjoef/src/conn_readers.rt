@@ -8,7 +8,8 @@ ghost use Rattle.belkjoef.specs.Conns.{SaysOfConn, FindsInConn, AnswersOfConn, S
 ghost use Rattle.belkjoef.specs.Conns.{due_of, conn_place, SaysWhyOfConn, SaysSettingsOfConn};
 ghost use Rattle.belkjoef.specs.Conns.{OfReported};
 ghost use Rattle.belkjoef.specs.Lent.{LendsField, LendsFields};
-ghost use Rattle.belkjoef.specs.Readers.{truth, room_on, owed_at, next_above, failed_with};
+ghost use Rattle.belkjoef.specs.Readers.{truth, room_on, owed_at, granted_by, next_above};
+ghost use Rattle.belkjoef.specs.Readers.{failed_with};
 ghost use Rattle.belkjoef.specs.Readers.{active_on, flow_of_data};
 
 use crate::conn::{BjConn, HeldConn};
@@ -45,6 +46,22 @@ pub extern "C" fn bj_conn_due(alloc: Global, conn: &mut BjConn, due: &mut u32) -
         return EMPTY;
     };
     *due = held.conn.due();
+    conn.keep(held);
+    OK
+}
+
+// contract: c (own) A reader says what the end in its place answers
+/// Stores how many octets the peer may send on the connection before any of them is returned.
+#[unsafe(no_mangle)]
+pub extern "C" fn bj_conn_granted(alloc: Global, conn: &mut BjConn, granted: &mut u32) -> i32
+    ensures call { OnPlace result (SaysOfConn (SaysConnLog granted_by) result granted.new)
+        conn.old.held conn.new.held }
+    ensures unheld { conn.old.held ≡ None → granted.new ≡ granted.old }
+{
+    let Some(held) = conn.open(alloc) else {
+        return EMPTY;
+    };
+    *granted = held.conn.granted();
     conn.keep(held);
     OK
 }

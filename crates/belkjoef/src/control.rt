@@ -2,7 +2,7 @@
 
 ghost use Rattle.std.specs.Prelude.{◌≡◌};
 ghost use Rattle.h2_flow.specs.Configs.{first_bad};
-ghost use Rattle.h2_spec_log.specs.Acts.{Release, ResetStream, SendPing, SendGoAway};
+ghost use Rattle.h2_spec_log.specs.Acts.{Release, Widen, ResetStream, SendPing, SendGoAway};
 ghost use Rattle.h2_spec_log.specs.Acts.{ChangeSettings, Fail};
 ghost use Rattle.h2_ends.specs.Represents.{EndReleases};
 ghost use Rattle.belkjoef.specs.Calls.{OnPlace, Answers, ActsOnEnd};
@@ -45,6 +45,21 @@ pub extern "C" fn bj_release_all(alloc: Global, end: &mut BjEnd) -> i32
     let answer = held.release_all();
     end.keep(held);
     of_end_answer(answer)
+}
+
+// contract: c (own) A call of C's is that of the end in its place
+/// Lets the peer send `count` octets more on the connection, for good.
+#[unsafe(no_mangle)]
+pub extern "C" fn bj_widen(alloc: Global, end: &mut BjEnd, count: u32) -> i32
+    ensures { OnPlace result (Answers answer_number (ActsOnEnd (Widen count)) result)
+        end.old.held end.new.held }
+{
+    let Some(mut held) = end.open(alloc) else {
+        return EMPTY;
+    };
+    let answer = held.widen(count);
+    end.keep(held);
+    of_answer(answer)
 }
 
 // contract: c (own) A call of C's is that of the end in its place

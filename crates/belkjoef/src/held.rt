@@ -2,7 +2,7 @@
 //! streams.
 
 ghost use Rattle.std.specs.Prelude.{◌≡◌, ◌++◌, OnOk};
-ghost use Rattle.h2_spec_log.specs.Acts.{Release, ResetStream, SendPing, SendGoAway};
+ghost use Rattle.h2_spec_log.specs.Acts.{Release, Widen, ResetStream, SendPing, SendGoAway};
 ghost use Rattle.h2_spec_log.specs.Acts.{ChangeSettings, Fail};
 ghost use Rattle.h2_flow.specs.ConfigValues.{values_of};
 ghost use Rattle.h2_ends.specs.Represents.{EndReleases, EndPumps, EndSendsBody};
@@ -76,6 +76,18 @@ impl Held {
         match &mut self.side {
             Side::Client(client) => client.release_all(),
             Side::Server(server) => server.release_all(),
+        }
+    }
+
+    // rule: c (own) A call of C's is that of the end in its place
+    /// Widens the connection's window.
+    pub(crate) fn widen(&mut self, count: u32) -> Result<(), Refusal>
+        ensures does { ActsOnEnd (Widen count) (held_end self.old) result (held_end self.new) }
+        ensures keeps { KeepsAllElse self.old self.new }
+    {
+        match &mut self.side {
+            Side::Client(client) => client.widen(count),
+            Side::Server(server) => server.widen(count),
         }
     }
 

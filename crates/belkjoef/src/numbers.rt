@@ -63,6 +63,7 @@ pub(crate) fn of_refusal(refusal: Refusal) -> i32
         Refusal::NotOwed => -31,
         Refusal::Memory => MEMORY,
         Refusal::SettingsWait => -33,
+        Refusal::WindowTooLarge => -34,
     }
 }
 

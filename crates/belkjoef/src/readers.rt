@@ -3,7 +3,8 @@
 ghost use Rattle.std.specs.Prelude.{◌≡◌, None};
 ghost use Rattle.belkjoef.specs.Calls.{OnPlace, AnswersOfEnd, FindsInEnd, SaysOfEnd};
 ghost use Rattle.belkjoef.specs.Readers.{truth, AnswersLog, IsFull, IsDrained, AnswersQuiet};
-ghost use Rattle.belkjoef.specs.Readers.{SaysLog, room_on, owed_at, next_above, failed_with};
+ghost use Rattle.belkjoef.specs.Readers.{SaysLog, room_on, owed_at, granted_by, next_above};
+ghost use Rattle.belkjoef.specs.Readers.{failed_with};
 ghost use Rattle.belkjoef.specs.Readers.{active_on, SaysUnsent, SaysMalformed, flow_of_data};
 ghost use Rattle.belkjoef.specs.Readers.{SaysPeerSettings};
 ghost use Rattle.belkjoef.specs.WhyNumbers.{SaysWhy};
@@ -142,6 +143,23 @@ pub extern "C" fn bj_owed(alloc: Global, end: &mut BjEnd, stream: u32, owed: &mu
         return EMPTY;
     };
     *owed = held.side.conn().owed(stream);
+    end.keep(held);
+    OK
+}
+
+// contract: c (own) A reader says what the end in its place answers
+// rule: c (own) A reader says what the end in its place answers
+/// Stores how many octets the peer may send on the connection before any of them is returned.
+#[unsafe(no_mangle)]
+pub extern "C" fn bj_granted(alloc: Global, end: &mut BjEnd, granted: &mut u32) -> i32
+    ensures call { OnPlace result (SaysOfEnd (SaysLog granted_by) result granted.new)
+        end.old.held end.new.held }
+    ensures unheld { end.old.held ≡ None → granted.new ≡ granted.old }
+{
+    let Some(held) = end.open(alloc) else {
+        return EMPTY;
+    };
+    *granted = held.side.conn().granted();
     end.keep(held);
     OK
 }

@@ -115,6 +115,7 @@ fn text_of_refusal(number: u32) -> &'static [u8]
         31 => b"C11 NotOwed: nothing was released, or more than is owed on the stream\0",
         32 => b"C12 Memory: out of memory\0",
         33 => b"C13 SettingsWait: the last SETTINGS are not acknowledged yet\0",
+        34 => b"C14 WindowTooLarge: a window is widened by 1 or more, to 2,147,483,647 at most\0",
         _ => b"unknown error\0",
     }
 }

@@ -94,6 +94,7 @@ pub(crate) fn read_act(alloc: Global, name: &str, words: &mut Words<'_>) -> Act 
         "go_away" => Act::GoAway,
         "fail" => Act::Fail(read_code(words)),
         "out" => Act::PutOut(words.number()),
+        "widen" => Act::Widen(words.number()),
         "change" => Act::ChangeSettings(read_config(words)),
         _ => {
             let id = words.number();
@@ -153,6 +154,7 @@ fn make_other(conn: &mut Conn, act: &Act) -> Result<(), Refusal> {
         Act::Release { id, count } => conn.release(*id, *count),
         Act::Reset { id, code } => conn.reset(*id, *code),
         Act::Refuse { id, code } => conn.refuse(*id, *code),
+        Act::Widen(count) => conn.widen(*count),
         Act::Ping(octets) => conn.ping(*octets),
         Act::GoAway => conn.go_away(),
         Act::Fail(code) => conn.fail(*code),
@@ -204,6 +206,7 @@ fn add_small_act(text: &mut Text, act: &Act) {
         Act::Ping(octets) => add_octets_act(text, "ping", octets),
         Act::Fail(code) => add_labeled(text, "fail ", code.number()),
         Act::PutOut(count) => add_labeled(text, "out ", *count),
+        Act::Widen(count) => add_labeled(text, "widen ", *count),
         Act::ChangeSettings(config) => add_change(text, *config),
         _ => text.push_line("go_away"),
     }

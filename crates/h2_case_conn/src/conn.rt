@@ -9,13 +9,13 @@
 //!   last. `take once ..`: once the octets are used, nothing more is asked for; without octets
 //!   that is one call.
 //! - The calls: `open FIELDS`, `fields ID FIELDS`, `data ID OCTETS` (each with `end` before its
-//!   fields or octets where it ends the stream), `release ID N`, `reset ID CODE`,
+//!   fields or octets where it ends the stream), `release ID N`, `widen N`, `reset ID CODE`,
 //!   `refuse ID CODE`, `ping OCTETS`, `go_away`, `fail CODE`, `change VALUES` (as of `new`), and
 //!   `out N`: the frames of at most `N` octets of the output. Each answers its number, `done`, or
 //!   the rule by which it is refused.
 //! - `out`: the frames of all output; `drop out` and `drop out N`: it is taken away, and not shown.
 //! - The readers: `waiting`, `lent` (the frames of the queued output), `held`, `place`, `due`,
-//!   `failed`, `why`, `next_number`, `room ID`, `owed ID`, `next_live ID`, `is_active ID`,
+//!   `granted`, `failed`, `why`, `next_number`, `room ID`, `owed ID`, `next_live ID`, `is_active ID`,
 //!   `refusal_to_open FIELDS`, `last_flow`, `resets_received`, `empty_frames_received`,
 //!   `pings_received`, `settings_received`, `block_stream`, and `peer_settings` (the initial window
 //!   and the greatest frame).
@@ -163,6 +163,7 @@ fn read(alloc: Global, conn: &Conn, name: &str, words: &mut Words<'_>, text: &mu
         "held" => add_value(text, conn.held()),
         "place" => add_value(text, conn.place()),
         "due" => add_value(text, conn.due()),
+        "granted" => add_value(text, conn.granted()),
         "next_number" => add_option(text, conn.next_number()),
         "failed" => add_failed(conn, text),
         "why" => add_why(conn, text),

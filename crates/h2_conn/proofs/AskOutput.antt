@@ -12,7 +12,7 @@ use Rattle.h2_spec_log.specs.LogCalls.{called, before_put_out}
 use Rattle.std.proofs.Common.{zero, IfErr, IsOk, ◌&&◌}
 use Rattle.std.proofs.lemmas.Bool.{lt-ltb}
 use Rattle.std.proofs.lemmas.List.{drop-take}
-use Rattle.h2_spec_log.specs.Log.{released}
+use Rattle.h2_spec_log.specs.Log.{released, widened}
 use Rattle.h2_laws_machine.proofs.AlikeAnswers.{put_out_alike}
 use Rattle.h2_laws_machine.proofs.CallWithoutStream.{ready_given, ready_failed_at, ready_failed}
 use Rattle.h2_laws_machine.proofs.RepresentedSteps.{up_of, called_up, ready_up}
@@ -26,11 +26,11 @@ module _ (values : Values) (e : End) where
       → Represents values e log
       → (before_put_out_at e).output.waiting ≡ drop log.given
       (before_put_out (called log (PutOut count) (Count given))).written
-  unfolding encoder_after_call released
+  unfolding encoder_after_call released widened
   ready_waits_by log count given None up represents =
       let base = called log (PutOut count) (Count given) in
       let made = ready_up e base (called_up e log (PutOut count) (Count given) refl (λ i. refl)
-      (up_of values e log represents up)) in
+      refl (up_of values e log represents up)) in
       made.waits.waiting ∙ ap (λ (k : ℕ). drop k (before_put_out base).written) (ready_given base)
   ready_waits_by log count given (Some code) failed represents =
       let base = called log (PutOut count) (Count given) in

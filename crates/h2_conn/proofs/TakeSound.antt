@@ -48,8 +48,7 @@ unprocessed_sound e other id sound up next some closed =
     let after : IsSoundEnd (close_unprocessed e id) = record {
       bounded = is_bounded (close_unprocessed e id) (ended_up e id 0 (is_up e up sound.bounded));
       window = is_whole (close_unprocessed e id) (ended e id 0
-          (lacks_none e.windows.recv e.windows.unreturned e.streams.highest e.streams.entries
-          (holds e sound.window)));
+          (lacks_none e (holds e sound.window)));
       ranges = are_in_range (close_unprocessed e id)
           (closed_fits e id 0 (fits e sound.ranges));
       counts = unprocessed_counts e id next some

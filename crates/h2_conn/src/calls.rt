@@ -5,7 +5,7 @@ ghost use Rattle.std.specs.List.{AllByRecursion};
 ghost use Rattle.hpack_text.specs.Bits.{IsOctet};
 ghost use Rattle.hpack.specs.Written.{AreOctets};
 ghost use Rattle.h2_spec_log.specs.Acts.{Open, SendFields, SendData, Release, ResetStream, Refuse};
-ghost use Rattle.h2_spec_log.specs.Acts.{SendPing, SendGoAway, ChangeSettings, Values, Number};
+ghost use Rattle.h2_spec_log.specs.Acts.{SendPing, SendGoAway, ChangeSettings, Values, Number, Widen};
 ghost use Rattle.h2_spec_log.specs.Acts.{Count, Done, Fail};
 ghost use Rattle.h2_spec_log.specs.CallRules.{sends_no_data};
 ghost use Rattle.h2_spec_log.specs.Log.{Log};
@@ -126,6 +126,23 @@ impl Conn {
             self.new }
     {
         self.inner.end.release(id, count)
+    }
+
+    // contract: 6.9.2 (own) The window of the connection is widened by a call, for good
+    /// Lets the peer send `count` octets more on the connection, for good (sections 6.9 and
+    /// 6.9.2): WINDOW_UPDATE on stream 0 joins the output. A connection begins with 65,535 octets,
+    /// whatever [`Config`] says of streams, so a peer can send that much per round trip, and with a
+    /// wider window more.
+    ///
+    /// # Errors
+    ///
+    /// [`Refusal::Closed`] (C1), [`Refusal::OutputFull`] (C7), [`Refusal::WindowTooLarge`] (C14)
+    /// where `count` is 0, or above 2^31 - 1 less [`Conn::granted`] (so at most 2,147,418,112 in
+    /// all), and [`Refusal::Memory`] (C12), in this order. Nothing has changed.
+    pub fn widen(&mut self, count: u32) -> Result<(), Refusal>
+        ensures { ConnAnswers self.old (Widen count) (answer_by (λ done. Done) result) self.new }
+    {
+        self.inner.end.widen(count)
     }
 
     /// Resets an active stream: sends RST_STREAM with `code` (section 6.4).

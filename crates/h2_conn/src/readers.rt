@@ -7,11 +7,12 @@ ghost use Rattle.h2_spec_log.specs.Acts.{Values, Open};
 ghost use Rattle.h2_spec_log.specs.Counted.{counted, empty_among, resets_among};
 ghost use Rattle.h2_spec_log.specs.Counted.{pings_among, settings_among};
 ghost use Rattle.h2_spec_log.specs.Log.{Log, active, waiting, reader_held, reader_next_live};
-ghost use Rattle.h2_spec_log.specs.Log.{reader_block_stream};
+ghost use Rattle.h2_spec_log.specs.Log.{acked, reader_block_stream};
 ghost use Rattle.h2_spec_log.specs.LogView.{log_view};
-ghost use Rattle.h2_spec_log.specs.Settings.{value_read};
+ghost use Rattle.h2_spec_log.specs.Settings.{payload_limit, value_read};
 ghost use Rattle.h2_spec_log.specs.Windows.{first_window};
-ghost use Rattle.h2_spec_log.specs.CallRules.{reader_room, reader_owed, reader_due, refusal_of};
+ghost use Rattle.h2_spec_log.specs.CallRules.{reader_room, reader_owed, reader_due};
+ghost use Rattle.h2_spec_log.specs.CallRules.{reader_granted, refusal_of};
 ghost use Rattle.std.specs.Option.{option_map};
 ghost use Rattle.h2_conn.specs.Conn.{ConnRepresents, reader_next_number, octets_queued};
 ghost use Rattle.h2_conn.specs.Counts.{last_flow};
@@ -80,6 +81,25 @@ impl Conn {
             → result ≡ reader_due (log_view log) }
     {
         self.inner.end.due()
+    }
+
+    /// The number of octets that the peer may send on the connection before any of them is
+    /// returned: 65,535, and what [`Conn::widen`] has added. 0 once the connection has failed.
+    pub fn granted(&self) -> u32
+        ensures { (values : Values) (log : Log) → ConnRepresents values self.now log
+            → result ≡ reader_granted (log_view log) }
+    {
+        self.inner.end.granted()
+    }
+
+    /// The largest payload of a frame that this end reads, in octets (sections 4.2 and 6.5.3): by
+    /// its SETTINGS in force, and by those that the peer has not acknowledged yet. Of no use once
+    /// the connection has failed.
+    pub fn payload_limit(&self) -> u32
+        ensures { (values : Values) (log : Log) → ConnRepresents values self.now log
+            → log.failed ≡ None → result ≡ payload_limit (acked log) log.sent }
+    {
+        self.inner.end.payload_limit()
     }
 
     /// Returns the least number above `above` of an active stream. `None` if there is none, and

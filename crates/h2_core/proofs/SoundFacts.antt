@@ -73,19 +73,20 @@ module _ (e : End) where
     sound.counts.active,
   )
 
-  -- The connection's receive window, what is unreturned and what one stream owes are 65,535 at
-  -- most.
+  -- The connection's receive window, what is unreturned and what one stream owes are the greatest
+  -- window at most.
   pub owed_fits : (i : ℕ) (stream : StreamView) → IsSoundEnd e → stream_at e i ≡ Some stream
-      → e.windows.recv + (e.windows.unreturned + stream.owed) ≤ 65535
+      → e.windows.recv + (e.windows.unreturned + stream.owed) ≤ 2147483647
   owed_fits i stream sound active = omega (
     arith,
     found_owes i (map.entries e.streams.entries),
     ap owed_of (found_in e i stream active),
     sound.window.whole,
+    sound.ranges.granted,
   )
 
-  pub connection_fits : IsSoundEnd e → e.windows.recv + e.windows.unreturned ≤ 65535
-  connection_fits sound = omega (arith, sound.window.whole)
+  pub connection_fits : IsSoundEnd e → e.windows.recv + e.windows.unreturned ≤ 2147483647
+  connection_fits sound = omega (arith, sound.window.whole, sound.ranges.granted)
 
   -- The windows of a stream in range are near zero.
   near_send : (stream : StreamView) → StreamIsInRange e stream → is_far stream.send_window ≡ false

@@ -27,6 +27,17 @@ pub release-owed : (count owing : ℕ) → 0 < count → count ≤ owing
     → (count == 0 || nat_lt owing count) ≡ false
 release-owed count owing some enough = grind (arith, nat_tests)
 
+-- So are those of a wider window.
+pub widen-test : (count granted : ℕ) → granted ≤ 2147483647
+    → (count ≡ 0) ⊎ ((count ≡ 0 → ⊥) × (2147483647 - granted < count))
+    → (count == 0 || nat_lt 2147483647 (granted + count)) ≡ true
+widen-test count granted within (inl none) = grind (arith, nat_tests)
+widen-test count granted within (inr more) = grind (arith, nat_tests)
+
+pub widen-allowed : (count granted : ℕ) → 0 < count → granted + count ≤ 2147483647
+    → (count == 0 || nat_lt 2147483647 (granted + count)) ≡ false
+widen-allowed count granted some enough = grind (arith, nat_tests)
+
 -- A stream that is active has a number of 31 bits.
 pub active-number : (e : End) (id : ℕ) (stream : StreamView) → IsSoundEnd e
     → stream_at e id ≡ Some stream → id < 2 ^ 31

@@ -34,6 +34,7 @@ end_of one = record {
   windows = record {
     send = one.send_window;
     recv = one.recv_window;
+    granted = one.granted;
     unreturned = one.unreturned;
   };
   peer = record {

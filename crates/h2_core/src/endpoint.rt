@@ -39,6 +39,8 @@ pub struct Endpoint {
     pub(crate) send_window: u32,
     /// The connection's receive window: the octets that the peer may send.
     pub(crate) recv_window: u32,
+    /// The octets that the peer may send on the connection before any of them is returned.
+    pub(crate) granted: u32,
     /// The octets of the connection's window still to be returned.
     pub(crate) unreturned: u32,
     /// The peer's settings.

@@ -24,6 +24,7 @@ mod status;
 mod step_error;
 mod stream_steps;
 mod unprocessed;
+mod widen;
 
 pub use endpoint::Endpoint;
 pub use event::Event;

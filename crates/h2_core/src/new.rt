@@ -62,6 +62,7 @@ impl Endpoint {
             resets: 0,
             send_window: FIRST_WINDOW,
             recv_window: FIRST_WINDOW,
+            granted: FIRST_WINDOW,
             unreturned: 0,
             peer: Settings::first(),
             max_streams: config.max_streams(),

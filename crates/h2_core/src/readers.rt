@@ -166,6 +166,20 @@ impl Endpoint {
         }
     }
 
+    // rule: calls (own) An end answers of its state, and of little once it has failed
+    /// The number of octets that the peer may send on the connection before any of them is
+    /// returned: 65,535, and what the window was widened by. 0 once the connection has failed. It
+    /// takes no memory.
+    pub fn granted(&self) -> u32
+        ensures { result ≡ (if is_some self.now.failed then 0 else self.now.granted) }
+    {
+        if self.failed.is_some() {
+            0
+        } else {
+            self.granted
+        }
+    }
+
     /// Returns the least number above `above` of an active stream. `None` if there is none, and
     /// once the connection has failed. It takes no memory.
     pub fn next_live(&self, above: u32) -> Option<u32>

@@ -4,6 +4,7 @@ use Names.{◌≡◌, ◌≢◌, ℕ, false, [], refl, sym, ne_eqb, Refusal, Val
 use Names.{Refused, MayAnswer, with_call, ConnAnswers, answer_by, tokens_of_call, End, EndLog}
 use Names.{end_with_log, EndRepresents, RepresentsBut, call_may_close, Release, Result, Ok, Err}
 use Rattle.h2_spec_log.specs.Acts.{ResetStream, SendPing, SendGoAway, Fail, ChangeSettings, PutOut}
+use Rattle.h2_spec_log.specs.Acts.{Widen}
 use Rattle.h2_ends.specs.Represents.{EndAnswers}
 use Rattle.h2_ends.proofs.EndTokens.{no_part_tokens}
 use Rattle.h2_ends.proofs.InSteps.{called_as, called_but}
@@ -16,6 +17,7 @@ ClosesNone (Fail code) = Unit {0}
 ClosesNone (ChangeSettings own) = Unit {0}
 ClosesNone (PutOut count) = Unit {0}
 ClosesNone (Release id count) = Unit {0}
+ClosesNone (Widen count) = Unit {0}
 ClosesNone act = ⊥
 
 pub closes_none : (act : Act) (answer : Answer) (i : ℕ) → ClosesNone act
@@ -27,6 +29,7 @@ closes_none (Fail code) answer i is = (refl, refl)
 closes_none (ChangeSettings own) answer i is = (refl, refl)
 closes_none (PutOut count) answer i is = (refl, refl)
 closes_none (Release id count) answer i is = (refl, refl)
+closes_none (Widen count) answer i is = (refl, refl)
 closes_none act answer i is = absurd is
 
 -- None of the connection's calls opens a stream: what they answer is no number.

@@ -4,7 +4,7 @@ ghost use Rattle.std.specs.Prelude.{◌≡◌, ◌+◌, ◌≤◌, min, false, v
 ghost use Rattle.std.specs.Prelude.{OnOk};
 ghost use Rattle.std.specs.Vec.{vec_capacity};
 ghost use Rattle.h2_spec_log.specs.Acts.{ResetStream, SendPing, SendGoAway, ChangeSettings};
-ghost use Rattle.h2_spec_log.specs.Acts.{PutOut, Values, Count, Done, Release, Fail};
+ghost use Rattle.h2_spec_log.specs.Acts.{PutOut, Values, Count, Done, Release, Widen, Fail};
 ghost use Rattle.h2_spec_log.specs.CallRules.{returns_before_put_out};
 ghost use Rattle.h2_spec_log.specs.Log.{Log, waiting};
 ghost use Rattle.h2_spec_log.specs.LogView.{log_view};
@@ -35,6 +35,14 @@ impl End {
             self.new }
     {
         self.conn.release(id, count)
+    }
+
+    // rule: 8.1 (own) The other calls of a client and a server are the connection's
+    /// Lets the peer send so many octets more on the connection.
+    pub(crate) fn widen(&mut self, count: u32) -> Result<(), Refusal>
+        ensures { EndAnswers self.old (Widen count) (answer_by (λ done. Done) result) self.new }
+    {
+        self.conn.widen(count)
     }
 
     // rule: 8.1 (own) The other calls of a client and a server are the connection's

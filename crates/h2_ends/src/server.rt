@@ -6,7 +6,7 @@ ghost use Rattle.std.specs.Vec.{vec_capacity};
 ghost use Rattle.h2_flow.specs.ConfigValues.{values_of};
 ghost use Rattle.h2_spec_log.specs.declared.role.Role.TheVariants as roles;
 ghost use Rattle.h2_spec_log.specs.Acts.{ResetStream, SendPing, SendGoAway, ChangeSettings};
-ghost use Rattle.h2_spec_log.specs.Acts.{PutOut, Values, Count, Done, Release, Fail};
+ghost use Rattle.h2_spec_log.specs.Acts.{PutOut, Values, Count, Done, Release, Widen, Fail};
 ghost use Rattle.h2_spec_log.specs.CallRules.{returns_before_put_out};
 ghost use Rattle.h2_spec_log.specs.Limits.{full_output};
 ghost use Rattle.h2_spec_log.specs.Log.{Log, waiting, reader_next_live};
@@ -268,6 +268,20 @@ impl Server {
             self.new.end }
     {
         self.end.reset(id, code)
+    }
+
+    // contract: 6.9.2 (own) The window of the connection is widened by a call, for good
+    /// Lets the peer send `count` octets more on the connection, for good: see [`Conn::widen`].
+    ///
+    /// # Errors
+    ///
+    /// [`Refusal::Closed`] (C1), [`Refusal::OutputFull`] (C7), [`Refusal::WindowTooLarge`] (C14)
+    /// and [`Refusal::Memory`] (C12), in this order. Nothing has changed.
+    pub fn widen(&mut self, count: u32) -> Result<(), Refusal>
+        ensures { EndAnswers self.old.end (Widen count) (answer_by (λ done. Done) result)
+            self.new.end }
+    {
+        self.end.widen(count)
     }
 
     /// Sends PING: see [`Conn::ping`].

@@ -178,6 +178,8 @@ module _ (P : EndLog → Type 0) (keep : AllKeep P) (take : TakesKeep P) {values
       pumped_keeps P (quietly P keep) before result after may (holds_responding answer new was)
   holds_responding answer new (server.gives_out {end = before} was count said typed may) =
       keep before _ _ (holds_responding answer new was)
+  holds_responding answer new (server.widens {end = before} was count said typed may) =
+      keep before _ _ (holds_responding answer new was)
 
   -- and so it is with a client.
   holds_fetching : RequestsKeep P → P (new_end_log Client values)
@@ -193,6 +195,8 @@ module _ (P : EndLog → Type 0) (keep : AllKeep P) (take : TakesKeep P) {values
   holds_fetching request new (client.pumps {end = before} {after = after} was result may) =
       pumped_keeps P (quietly P keep) before result after may (holds_fetching request new was)
   holds_fetching request new (client.gives_out {end = before} was count said typed may) =
+      keep before _ _ (holds_fetching request new was)
+  holds_fetching request new (client.widens {end = before} was count said typed may) =
       keep before _ _ (holds_fetching request new was)
 
 -- A new end has its role, and a message that is accepted keeps it.

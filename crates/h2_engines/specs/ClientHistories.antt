@@ -3,7 +3,7 @@ use Rattle.std.specs.Prelude.{◌≡◌, ℕ, Bool, List, map as each, option_ma
 use Rattle.std.specs.Prelude.{Result}
 use Rattle.std.specs.List.{concat}
 use Rattle.h2_spec_log.specs.declared.role.Role.TheVariants.{Client}
-use Rattle.h2_spec_log.specs.Acts.{Values, AreInRange, Answer, IsTypedAct, PutOut}
+use Rattle.h2_spec_log.specs.Acts.{Values, AreInRange, Answer, IsTypedAct, PutOut, Widen}
 use Rattle.h2_spec_log.specs.LogCalls.{MayAnswer, with_call}
 use Rattle.h2_message.specs.Messages.{SentMessage}
 use Rattle.h2_message.specs.Reading.{Part, ReadMessage, message_parts}
@@ -15,7 +15,7 @@ use Rattle.h2_ends.specs.Represents.{new_end_log}
 use Rattle.h2_engines.specs.declared.fetcher.Fetched.{Fetched}
 
 -- What has happened at a client since it was new: it made one request, with this message; it took
--- octets, released, pumped and gave out.
+-- octets, released, pumped and gave out, and widened the window of the connection.
 -- rule: engines (own) A response that is fetched is the message handed out, whole
 pub data IsFetching (values : Values) (message : SentMessage) : EndLog → Type 0 where
   begins : AreInRange values → IsFetching values message (new_end_log Client values)
@@ -32,6 +32,9 @@ pub data IsFetching (values : Values) (message : SentMessage) : EndLog → Type 
   gives_out : {end : EndLog} → IsFetching values message end → (count : ℕ) (answer : Answer)
       → IsTypedAct (PutOut count) → MayAnswer end.log (PutOut count) answer
       → IsFetching values message (end_with_log end (with_call end.log (PutOut count) answer))
+  widens : {end : EndLog} → IsFetching values message end → (count : ℕ) (answer : Answer)
+      → IsTypedAct (Widen count) → MayAnswer end.log (Widen count) answer
+      → IsFetching values message (end_with_log end (with_call end.log (Widen count) answer))
 
 -- the response as it was read, its body in these parts
 abbrev pub response_read : Fetched → (data_parts : List (List ℕ)) → ReadMessage

@@ -15,3 +15,4 @@ mod SeveralTaking
 mod SeveralWaits
 mod Taking
 mod Writing
+mod Widening

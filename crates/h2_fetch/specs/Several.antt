@@ -5,6 +5,7 @@ use Rattle.std.specs.List.{Contains}
 use Rattle.h2_spec_log.specs.declared.role.Role.TheVariants.{Client}
 use Rattle.h2_spec_log.specs.declared.refusal.Refusal.TheVariants.{ListTooLarge}
 use Rattle.h2_spec_log.specs.Acts.{Values, AreInRange, Answer, IsTypedAct, PutOut, Release}
+use Rattle.h2_spec_log.specs.Acts.{Widen}
 use Rattle.h2_spec_log.specs.Events.{ResetEvent, UnprocessedEvent}
 use Rattle.h2_spec_log.specs.LogCalls.{MayAnswer, with_call}
 use Rattle.h2_message.specs.Messages.{SentMessage}
@@ -33,7 +34,8 @@ abbrev pub AskedOn : Type 0
 AskedOn = ℕ × SentMessage
 
 -- What has happened at a client since it was new: it made these requests, the first one first, and
--- each was accepted; it took octets, released, pumped and gave out.
+-- each was accepted; it took octets, released, pumped and gave out, and widened the window of the
+-- connection.
 -- rule: engines (own) Responses of several requests are what is handed out, each in order
 pub data IsFetchingSeveral (values : Values) : List AskedOn → EndLog → Type 0 where
   begins : AreInRange values → IsFetchingSeveral values [] (new_end_log Client values)
@@ -59,6 +61,11 @@ pub data IsFetchingSeveral (values : Values) : List AskedOn → EndLog → Type 
       → MayAnswer end.log (PutOut count) answer
       → IsFetchingSeveral values asked
       (end_with_log end (with_call end.log (PutOut count) answer))
+  widens : {asked : List AskedOn} {end : EndLog} → IsFetchingSeveral values asked end
+      → (count : ℕ) (answer : Answer) → IsTypedAct (Widen count)
+      → MayAnswer end.log (Widen count) answer
+      → IsFetchingSeveral values asked
+      (end_with_log end (with_call end.log (Widen count) answer))
 
 -- the octets that were read and not used yet
 abbrev pub several_unused : SeveralFetch → List ℕ

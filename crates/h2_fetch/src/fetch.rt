@@ -3,6 +3,8 @@
 ghost use Rattle.std.specs.Prelude.{◌≡◌, ◌≢◌, ◌≤◌, ◌<◌, ◌-◌, ◌^◌, [], Err, IfErr, IfOk, length};
 ghost use Rattle.std.specs.Io.KnownBytes.{Appends};
 ghost use Rattle.h2_flow.specs.ConfigValues.{values_of};
+ghost use Rattle.h2_spec_log.specs.Acts.{Done};
+ghost use Rattle.h2_conn.specs.Conn.{answer_by};
 ghost use Rattle.h2_message.specs.Values.{message_value};
 ghost use Rattle.h2_engines.specs.Failures.{CutsOffAtEnd, IsOfClient, failures_at_end, failures_by};
 ghost use Rattle.h2_engines.specs.Fetches.{IsNotAccepted};
@@ -56,6 +58,7 @@ pub(crate) enum PartNext {
 impl PartFetch {
     ghost use Rattle.h2_fetch.specs.Comings.{AnswersNext, BeginsFetch, EndsSo, Refills};
     ghost use Rattle.h2_fetch.specs.Comings.{TakesUntilPart};
+    ghost use Rattle.h2_fetch.specs.Widening.{WidensFetch};
 
     // rule: engines (own) N7 comes only where the message breaks a rule or is too large
     /// Makes a client, and queues its opening and the head of the request.
@@ -94,6 +97,21 @@ impl PartFetch {
         ensures { result.now ≡ self.now.client.end.conn }
     {
         self.client.conn()
+    }
+
+    // contract: 6.9.2 (own) The window of the connection is widened by a call, for good
+    /// Lets the server send `count` octets more on the connection, for good: see [`Conn::widen`].
+    /// Called before [`PartFetch::next`], it is sent with the request.
+    ///
+    /// # Errors
+    ///
+    /// [`Refusal::Closed`] (C1), [`Refusal::OutputFull`] (C7), [`Refusal::WindowTooLarge`] (C14)
+    /// and [`Refusal::Memory`] (C12), in this order. Nothing has changed.
+    pub fn widen(&mut self, count: u32) -> Result<(), Refusal>
+        ensures widens { WidensFetch count (answer_by (λ done. Done) result) self.old self.new }
+        ensures stream { self.new.id ≡ self.old.id }
+    {
+        self.client.widen(count)
     }
 
     // contract: engines (own) A response in parts is what is handed out, in order

@@ -2,6 +2,8 @@
 
 ghost use Rattle.std.specs.Prelude.{◌≡◌, ◌≢◌, ◌≤◌, ◌<◌, ◌-◌, ◌^◌, IfErr, IfOk, length, map};
 ghost use Rattle.h2_flow.specs.ConfigValues.{values_of};
+ghost use Rattle.h2_spec_log.specs.Acts.{Done};
+ghost use Rattle.h2_conn.specs.Conn.{answer_by};
 ghost use Rattle.h2_message.specs.Values.{message_value};
 ghost use Rattle.h2_engines.specs.Failures.{CutsOffAtEnd, IsOfClient, failures_at_end};
 ghost use Rattle.h2_engines.specs.Linked.{traffic};
@@ -12,7 +14,7 @@ use crate::kept::{keep, take_kept};
 use crate::part::ResponsePart;
 use crate::reading::read_piece;
 use crate::sending::{Credit, end_early};
-use h2_ends::{Client, Config, Conn, Message};
+use h2_ends::{Client, Config, Conn, Message, Refusal};
 use h2_link::{Link, LinkError};
 use std::alloc::Global;
 use std::collections::VecDeque;
@@ -33,9 +35,9 @@ pub enum Came {
 /// only on the stream that is asked for. Interim responses and empty parts of a body that don't
 /// end it are dropped, since no window bounds them.
 ///
-/// The connection's window is 65,535 octets, and bodies that are kept use it up. So with `n`
-/// requests give [`Config::new`] an initial window of 65,535 / `n` or less: otherwise what is kept
-/// may take all of it, and nothing more comes.
+/// The connection's window is 65,535 octets, and what [`SeveralFetch::widen`] adds; bodies that are
+/// kept use it up. So with `n` requests give [`Config::new`] an initial window of an `n`th of it or
+/// less: otherwise what is kept may take all of it, and nothing more comes.
 #[derive(Drop)]
 pub struct SeveralFetch {
     pub(crate) alloc: Global,
@@ -54,6 +56,7 @@ pub struct SeveralFetch {
 impl SeveralFetch {
     ghost use Rattle.h2_fetch.specs.Several.{AnswersNextOn, BeginsSeveral, RefusesOne};
     ghost use Rattle.h2_fetch.specs.SeveralComings.{FillsSeveral, TakesUntilCame, WaitsFor};
+    ghost use Rattle.h2_fetch.specs.Widening.{WidensSeveral};
 
     // contract: engines (own) Responses of several requests are what is handed out, each in order
     // rule: engines (own) Responses of several requests are what is handed out, each in order
@@ -109,6 +112,21 @@ impl SeveralFetch {
         ensures { result.now ≡ self.now.client.end.conn }
     {
         self.client.conn()
+    }
+
+    // contract: 6.9.2 (own) The window of the connection is widened by a call, for good
+    /// Lets the server send `count` octets more on the connection, for good: see [`Conn::widen`].
+    /// Called before [`SeveralFetch::next_on`], it is sent with the requests.
+    ///
+    /// # Errors
+    ///
+    /// [`Refusal::Closed`] (C1), [`Refusal::OutputFull`] (C7), [`Refusal::WindowTooLarge`] (C14)
+    /// and [`Refusal::Memory`] (C12), in this order. Nothing has changed.
+    pub fn widen(&mut self, count: u32) -> Result<(), Refusal>
+        ensures widens { WidensSeveral count (answer_by (λ done. Done) result) self.old self.new }
+        ensures streams { self.new.ids ≡ self.old.ids }
+    {
+        self.client.widen(count)
     }
 
     // contract: engines (own) Responses of several requests are what is handed out, each in order

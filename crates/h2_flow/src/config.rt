@@ -51,6 +51,7 @@ impl Config {
     /// - `table_limit` is the most octets of the header table of the peer's encoder, from 0 to
     ///   65,536.
     /// - `initial_window` is the window of a new stream in octets, from 1 to 2,147,483,647.
+    ///   Above 65,535 it is of no use until `widen` has made the connection's window as wide.
     /// - `max_streams` is the most active streams at a server, from 100 to 1,000.
     ///
     /// # Errors
@@ -97,9 +98,9 @@ impl Config {
     /// 6.5.2). It is sent if it differs from the value sent last. A greater value holds once
     /// SETTINGS with it are sent, a lesser one once they are acknowledged.
     ///
-    /// The connection's window stays 65,535 octets, so DATA with a longer payload still ends
-    /// the connection, with FLOW_CONTROL_ERROR if its stream is active. The limit of a field
-    /// block stays 65,552 octets.
+    /// The connection's window is 65,535 octets until `widen` is called, so DATA with a longer
+    /// payload still ends the connection, with FLOW_CONTROL_ERROR if its stream is active. The
+    /// limit of a field block stays 65,552 octets.
     ///
     /// # Errors
     ///

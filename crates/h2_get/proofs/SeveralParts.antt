@@ -10,7 +10,7 @@ use Rattle.std.proofs.lemmas.List.{length-map, map-append}
 use Rattle.std.specs.Io.KnownBytes.{Appends}
 use Rattle.std.specs.List.{Contains}
 use Rattle.hpack.specs.declared.types.field.Field.{Field}
-use Rattle.h2_spec_log.specs.Acts.{Values, Number, PutOut, Release}
+use Rattle.h2_spec_log.specs.Acts.{Values, Number, PutOut, Release, Widen}
 use Rattle.h2_spec_log.specs.Events.{ResetEvent, UnprocessedEvent}
 use Rattle.h2_laws_pair.specs.Tokens.{at_once}
 use Rattle.h2_ends.specs.EndCalls.{MayAsk, opened_with}
@@ -31,6 +31,7 @@ use Rattle.h2_fetch.specs.Parts.{handed_of, is_on}
 use Rattle.h2_fetch.specs.Several.{AnsweredOn, AnswersNextOn, AreComing, AskedOn, CameSo, DropOn}
 use Rattle.h2_fetch.specs.Several.{HaveStopped, IsFetchingSeveral, OnStream, PartOn, all_on, as_on}
 use Rattle.h2_fetch.specs.Several.{begins, gives_out, kept_on, pumps, releases, releases_on}
+use Rattle.h2_fetch.specs.Several.{widens}
 use Rattle.h2_fetch.specs.Several.{requests, takes}
 use Rattle.h2_get.specs.declared.pass_error.PassError.{PassError}
 use Rattle.h2_get.specs.declared.pass_error.PassError.TheVariants as passes
@@ -183,6 +184,8 @@ handed_within (pumps {end = before} {after = after} was result may) =
     pumped_keeps IsWithinTurns calls_within before result after may (handed_within was)
 handed_within (gives_out {end = before} was count answer typed may) =
     omega (arith, handed_within was, turns_of_call before.log (PutOut count) answer)
+handed_within (widens {end = before} was count answer typed may) =
+    omega (arith, handed_within was, turns_of_call before.log (Widen count) answer)
 
 one_at_most : (here : Bool) (one : OnStream) → length (if here then one ∷ [] else []) ≤ 1
 one_at_most true one = omega arith

@@ -2,6 +2,7 @@
 
 ghost use Rattle.std.specs.Prelude.{◌≡◌, ◌↔◌, ◌≤◌, [], nat_lt, true, false, None, OnOk, IsOk};
 ghost use Rattle.h2_spec_log.specs.Acts.{Answer, Count, Done, Fail, PutOut, SendGoAway, Values};
+ghost use Rattle.h2_spec_log.specs.Acts.{Widen};
 ghost use Rattle.h2_spec_log.specs.CallRules.{returns_before_put_out};
 ghost use Rattle.h2_spec_log.specs.Limits.{full_output};
 ghost use Rattle.h2_spec_log.specs.Log.{Log, reader_next_live, waiting};
@@ -33,6 +34,26 @@ impl<W: Drop, H: Handler<Work = W>> Handled<H, W> {
         ensures exchanges { self.new.exchanges ≡ self.old.exchanges }
     {
         self.server.go_away()
+    }
+
+    // contract: 6.9.2 (own) The window of the connection is widened by a call, for good
+    /// Lets the client send `count` octets more on the connection, for good; see
+    /// [`Server::widen`].
+    ///
+    /// [`Server::widen`]: h2_ends::Server::widen
+    ///
+    /// # Errors
+    ///
+    /// Those of [`Server::widen`]. Nothing has changed.
+    pub fn widen(&mut self, count: u32) -> Result<(), Refusal>
+        ensures handles { Handles (relations H.heads H.bodies H.trails H.gives H.ends) []
+            self.old.server.end (handling_of self.old.exchanges) self.new.server.end
+            (handling_of self.new.exchanges) }
+        ensures answers { EndAnswers self.old.server.end (Widen count)
+            (answer_by (λ done. Done) result) self.new.server.end }
+        ensures exchanges { self.new.exchanges ≡ self.old.exchanges }
+    {
+        self.server.widen(count)
     }
 
     /// Ends the connection with this error code, unless it has failed before. In both cases ends

@@ -1,4 +1,8 @@
 -- A call of `take` of an end, and what is kept of it then.
+use Rattle.std.proofs.Common.{◌+◌, ◌^◌, min, is_some, if◌then◌else◌}
+use Rattle.h2_conn.specs.declared.conn.Conn.{Conn}
+use Rattle.h2_conn.specs.Conn.{ConnRepresents}
+use Rattle.h2_spec_log.specs.Log.{Log, reader_held}
 use Rattle.h2_joined.proofs.Names
 use Names.{◌<◌, ◌≤◌, true, [], ◌∷◌, length, Option, Ok, Err, refl, sym, ap, ◌∙◌, subst, inl, inr}
 use Names.{arith, reverse-append, Code, Values, End, EndLog, Handed, EndTook, EndFailed, EndMayTake}
@@ -11,10 +15,10 @@ use Rattle.h2_ends.specs.EndEvents.{LentPart}
 use Rattle.h2_ends.specs.declared.event.EndTaken.{EndTaken}
 use Rattle.h2_ends.specs.Represents.{EndTakes}
 use Rattle.h2_joined.specs.declared.octets.Taking.{Taking}
-use Rattle.h2_joined.specs.Delivering.{TakesOnce, IsTaken, MakesRoom, TookAt}
+use Rattle.h2_joined.specs.Delivering.{TakesOnce, IsTaken, MakesRoom, TookAt, most_body}
 use Rattle.h2_joined.proofs.KeptEnds.{taken_says}
 use Rattle.h2_joined.proofs.KeptStore.{same_handed}
-use Rattle.h2_joined.proofs.TakenSizes.{taken_fits}
+use Rattle.h2_joined.proofs.TakenSizes.{taken_fits, hands_up}
 use Rattle.h2_joined.specs.declared.octets.Taking.TheVariants as takings
 use Rattle.h2_joined.specs.declared.octets.Next.TheVariants as nexts
 
@@ -56,7 +60,7 @@ took_nothing old new store piece taken none takes values end represents =
 -- Where something is, that is kept.
 pub took_event : (old new : End) (store new_store : Store) (piece : List ℕ) (taken : EndTaken)
     (event : LentPart) → taken.event ≡ Some event
-    → (HasRoomForEvent store → Fits (event_handed event) → AreStored store
+    → ((body : ℕ) → HasRoomForEvent body store → Fits body (event_handed event) → AreStored store
     → KeepsMore store (event_handed event) new_store)
     → EndTakes old piece (Ok taken) new
     → TakesOnce old store piece (takings.Took taken.used true) new new_store
@@ -73,7 +77,8 @@ took_event old new store new_store piece taken event some keep takes values end 
       says = λ none. cc;
       represents = now;
       kept = λ room keeps. keeps_one_more store new_store handed end.handed after.handed
-          (keep room (taken_fits values old end piece taken.used handed after represents may)
+          (keep (most_body end piece) (room (hands_up end after piece _ taken.used handed may refl))
+          (taken_fits values old end piece taken.used handed after represents may)
           keeps.stored) says.handed keeps;
     }
 
@@ -92,6 +97,20 @@ took_fault old new store piece fault takes values end represents =
       kept = λ room keeps. keeps_still store end.handed after.handed says.handed keeps;
     }
 
+-- What a connection holds of a frame, and a piece, are all that a body can have.
+pub held_body : (values : Values) (old : End) (conn : Conn) (end : EndLog) (piece : List ℕ)
+    (held body : ℕ) → conn ≡ old.conn → EndRepresents values old end → end.log.failed ≡ None
+    → ((vs : Values) (log : Log) → ConnRepresents vs conn log → held ≡ reader_held log)
+    → ((vs : Values) (log : Log) → ConnRepresents vs conn log → held ≤ 1048585)
+    → length piece < 2 ^ 63 → body ≡ min (held + length piece) 18446744073709551615
+    → body ≡ most_body end piece
+held_body values old conn end piece held body same represents up value bound fits sum =
+    let parts : ConnRepresents values conn end.log = rw same represents.streams.conn in
+    let few = bound values end.log parts in
+    let is : held ≡ length end.log.unparsed = value values end.log parts
+    ∙ ap (λ (failed : Option Code). if is_some failed then 0 else length end.log.unparsed) up in
+    omega (arith, few, is, fits, sum)
+
 -- both changes, one after the other
 pub both_only : (side : Side) (old mid new : Joined) → ChangesOnly side old mid
     → ChangesOnly side mid new → ChangesOnly side old new
@@ -105,9 +124,10 @@ both_only side old mid new first second =
     }
 
 -- Where room was made for it, the same is kept.
-roomy : (side : Side) (old mid : Joined) (made : Bool) (values : Values) (end : EndLog)
-    → MakesRoom side old made mid → IsKeptAt values side old end → IsKeptAt values side mid end
-roomy side old mid made values end makes keeps =
+roomy : (side : Side) (old mid : Joined) (piece : List ℕ) (made : Bool) (values : Values)
+    (end : EndLog) → MakesRoom side old piece made mid → IsKeptAt values side old end
+    → IsKeptAt values side mid end
+roomy side old mid piece made values end makes keeps =
     record {
       represents = subst (λ (e : End). EndRepresents values e end) (sym makes.one_end)
           keeps.represents;
@@ -116,14 +136,14 @@ roomy side old mid made values end makes keeps =
     }
 
 module _ (side : Side) (old mid new : Joined) (piece : List ℕ) (made : Bool)
-    (makes : MakesRoom side old made mid) (has : made ≡ true) where
+    (makes : MakesRoom side old piece made mid) (has : made ≡ true) where
   -- The call was made, and what was handed out is kept.
   taken_of : (values : Values) (end : EndLog) (taking : Taking) → TookAt side mid piece taking new
       → IsKeptAt values side old end
       → IsTaken values end (kept_of side mid).handed piece taking (end_at side new)
       (kept_of side new).handed
   taken_of values end taking took keeps =
-      took.takes values end (roomy side old mid made values end makes keeps).represents
+      took.takes values end (roomy side old mid piece made values end makes keeps).represents
 
   is_kept : (values : Values) (end : EndLog) (taking : Taking)
       (took : TookAt side mid piece taking new) (keeps : IsKeptAt values side old end)
@@ -132,8 +152,8 @@ module _ (side : Side) (old mid new : Joined) (piece : List ℕ) (made : Bool)
       let taken = taken_of values end taking took keeps in
       record {
         represents = taken.represents;
-        handed = taken.kept (makes.room has)
-            (roomy side old mid made values end makes keeps).handed;
+        handed = taken.kept (makes.room has values end keeps.represents)
+            (roomy side old mid piece made values end makes keeps).handed;
       }
 
   -- How a delivery goes on, where something was handed out: with what is left of the piece.

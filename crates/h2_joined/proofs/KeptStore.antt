@@ -7,7 +7,7 @@ use Names.{FieldPlace, EventPlace, Store, items_in, stored_fields, events_kept, 
 use Names.{AreStored, HasRoomForEvent, KeepsMore, KeepsHanded, stored_field, event_kept}
 use Names.{IsEventPlace, Fits, ◌≡◌, ℕ, Bool, false, List, reverse}
 use Rattle.h2_joined.specs.Stored.{KeepsItems, StoresOctets, KeepsField, AreFieldsKept, KeepsList}
-use Rattle.h2_joined.specs.Stored.{IsPlaced, PlacesEvent, most_event_octets}
+use Rattle.h2_joined.specs.Stored.{IsPlaced, PlacesEvent, most_list_size}
 use Rattle.std.proofs.Common.{◌*◌, length-append}
 use Rattle.std.proofs.Math.Seq.{take-append_seam, take-length}
 use Rattle.std.proofs.lemmas.List.Sums.{sum_by-cons}
@@ -182,13 +182,14 @@ pub record KeptSoFar (old : Store) (list : List Field) (count : ℕ) (now : Stor
 
 pub record ListSoFar (old : Store) (list : List Field) (count : ℕ) (now : Store) : Type 0 where
   pub events : now.events ≡ old.events
-  pub kept : HasRoomForEvent old → list_size list ≤ most_event_octets → KeptSoFar old list count now
+  pub kept : (body : ℕ) → HasRoomForEvent body old → list_size list ≤ most_list_size
+      → KeptSoFar old list count now
 
 pub list_begins : (old : Store) (list : List Field) → ListSoFar old list 0 old
 list_begins old list =
     record {
       events = refl;
-      kept = λ room small. record {
+      kept = λ body room small. record {
         kept = record {
           octets = [];
           places = [];
@@ -212,8 +213,8 @@ list_ends old now list count span all starts ends sofar =
       events = sofar.events;
       start = starts;
       end = ends;
-      kept = λ room small. subst (λ (l : List Field). AreFieldsKept old l now)
-          (take_all count list all) (sofar.kept room small).kept;
+      kept = λ body room small. subst (λ (l : List Field). AreFieldsKept old l now)
+          (take_all count list all) (sofar.kept body room small).kept;
     }
 
 pub list_goes_on : (old now new : Store) (list : List Field) (count : ℕ) (field : Field)
@@ -223,8 +224,8 @@ pub list_goes_on : (old now new : Store) (list : List Field) (count : ℕ) (fiel
 list_goes_on old now new list count field left taken sofar keeps =
     record {
       events = keeps.events ∙ sofar.events;
-      kept = λ room small.
-          let some = sofar.kept room small in
+      kept = λ body room small.
+          let some = sofar.kept body room small in
           let size = ap list_size left ∙ size_cons field (drop (count + 1) list) in
           let others = ap length left in
           let one = keeps.kept (omega (arith, some.octets_room, size))
@@ -297,7 +298,7 @@ module _ (old new : Store) (list : List Field) (span : Span) where
 
   -- So an event with a list has its place,
   pub list_event : (handed : Handed) (place : EventPlace) → KeepsList old list span new
-      → (Fits handed → list_size list ≤ most_event_octets)
+      → ((body : ℕ) → Fits body handed → list_size list ≤ most_list_size)
       → (stored_fields new.octets.items (items_in new.fields.items span) ≡ list → event_kept
       new.octets.items new.fields.items place ≡ handed)
       → (IsSpan (length new.fields.items) span → IsEventPlace (length new.octets.items)
@@ -306,8 +307,8 @@ module _ (old new : Store) (list : List Field) (span : Span) where
   list_event handed place keeps small same within =
       record {
         events = keeps.events;
-        placed = λ room fit.
-            let kept = keeps.kept room (small fit) in
+        placed = λ body room fit.
+            let kept = keeps.kept body room (small body fit) in
             let placed = list_placed keeps kept in
             record {
               octets = kept.octets;
@@ -328,7 +329,7 @@ unfolding event_kept Fits IsEventPlace
 body_event old new octets span id end keeps =
     record {
       events = keeps.events;
-      placed = λ room fit.
+      placed = λ body room fit.
           let (are, starts, ends) = keeps.kept (omega (arith, room.octets, fit)) in
           let count = ap length are ∙ length-append old.octets.items octets in
           record {
@@ -354,7 +355,7 @@ pub bare_event : (old : Store) (handed : Handed) (place : EventPlace)
 bare_event old handed place same within =
     record {
       events = refl;
-      placed = λ room fit. record {
+      placed = λ body room fit. record {
         octets = [];
         fields = [];
         octets_are = sym (append-nil old.octets.items);

@@ -18,6 +18,7 @@ pub mod JointStart
 pub mod OrderKept
 pub mod JointActs
 pub mod JointLaws
+mod FrameOctets
 mod HeldCredit
 pub mod JointMemory
 pub mod Unparsed

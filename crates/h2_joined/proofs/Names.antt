@@ -93,7 +93,7 @@ pub use Rattle.h2_message.specs.declared.reading.Reads.TheVariants.{Responses}
 pub use Rattle.h2_spec_log.proofs.StreamLemmas.{stream_of_log}
 pub use Rattle.h2_spec_log.specs.Acts.{Act, Answer, ChangeSettings, Count, Done, Number, Open}
 pub use Rattle.h2_spec_log.specs.Acts.{OutOfMemory, PutOut, Refuse, Refused, ResetStream}
-pub use Rattle.h2_spec_log.specs.Acts.{SendFields, SendGoAway, SendPing, Values, Fail}
+pub use Rattle.h2_spec_log.specs.Acts.{SendFields, SendGoAway, SendPing, Values, Widen, Fail}
 pub use Rattle.h2_spec_log.specs.Events.{DataEvent, Event, FieldsEvent, ResetEvent}
 pub use Rattle.h2_spec_log.specs.Events.{UnprocessedEvent}
 pub use Rattle.h2_spec_log.specs.Histories.{IsLog}

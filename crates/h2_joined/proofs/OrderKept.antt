@@ -1,6 +1,7 @@
 -- What was sent and handed out at two joined ends keeps the order, whatever acts are made.
 use Rattle.h2_joined.proofs.Names
 use Names.{Result, Ok, Err, sym, subst, Role, Values, Act, ResetStream, SendPing, SendGoAway}
+use Names.{Widen}
 use Names.{Fail, ChangeSettings, PutOut, Done, IsLog, opened_is_new, SentMessage, Option, Malformed}
 use Names.{EndRefusal, EndLog, EndTook, EndFailed, KeepsOrder, no_part_next, Acted, Doing, JointEnd}
 use Names.{Delivery, IsDelivered, MayDo, IsControlCall, MayAsk, MayReply, ℕ, List, Answer, Said}
@@ -196,6 +197,7 @@ said_trailers before after id list (Err refusal) is typed may =
 -- A call of the connection that is an act sends no part of a message.
 no_part_of_act : (act : Act) → IsControlCall act → SendsNoPart act
 no_part_of_act (Release id count) call = tt
+no_part_of_act (Widen count) call = tt
 no_part_of_act (ResetStream id code) call = tt
 no_part_of_act (SendPing octets) call = tt
 no_part_of_act SendGoAway call = tt

@@ -1,5 +1,5 @@
 -- A delivery under way: what a call of `take` made of an end, and what is kept of it.
-use Rattle.std.specs.Prelude.{◌≡◌, ◌≢◌, ◌≤◌, ℕ, Bool, List, length, drop, ◌<◌, ◌⊎◌, true, false}
+use Rattle.std.specs.Prelude.{◌≡◌, ◌≢◌, ◌+◌, ◌≤◌, ℕ, Bool, List, length, drop, ◌<◌, ◌⊎◌, true, false}
 use Rattle.std.specs.Prelude.{Option, None}
 use Rattle.h2_spec_log.specs.Acts.{Values}
 use Rattle.h2_ends.specs.declared.end.End.{End}
@@ -36,6 +36,11 @@ abbrev pub UsesWithin : Taking → ℕ → Type 0
 UsesWithin (takings.Took used hands) size = used ≤ size
 UsesWithin (takings.Failed code) size = Unit {0}
 
+-- how many octets a body has at most that a call of `take` hands out: those of a frame that were
+-- kept, and those of the piece
+abbrev pub most_body : EndLog → List ℕ → ℕ
+most_body end piece = length end.log.unparsed + length piece
+
 -- The call of `take` may have this answer, the end represents what has happened then, and its event
 -- is kept, where there was room for the largest one.
 pub record IsTaken (values : Values) (end : EndLog) (store : Store) (piece : List ℕ)
@@ -45,8 +50,8 @@ pub record IsTaken (values : Values) (end : EndLog) (store : Store) (piece : Lis
   pub may : EndMayTake end piece (end_answer taking handed) after
   pub says : SaysHanded taking handed
   pub represents : EndRepresents values new after
-  pub kept : HasRoomForEvent store → KeepsHanded store end.handed
-      → KeepsHanded new_store after.handed
+  pub kept : (end.log.failed ≡ None → HasRoomForEvent (most_body end piece) store)
+      → KeepsHanded store end.handed → KeepsHanded new_store after.handed
 
 -- Whatever has happened at the end.
 abbrev pub TakesOnce : End → Store → List ℕ → Taking → End → Store → Type 0
@@ -71,8 +76,11 @@ pub record TookAt (side : Side) (old : Joined) (piece : List ℕ) (taking : Taki
   pub only : ChangesOnly side old new
 
 -- Room was made for the largest event of a call at an end, or memory was refused.
-pub record MakesRoom (side : Side) (old : Joined) (made : Bool) (new : Joined) : Type 0 where
-  pub room : made ≡ true → HasRoomForEvent (kept_of side new).handed
+pub record MakesRoom (side : Side) (old : Joined) (piece : List ℕ) (made : Bool) (new : Joined)
+    : Type 0 where
+  pub room : made ≡ true → (values : Values) (end : EndLog)
+      → EndRepresents values (end_at side old) end → end.log.failed ≡ None
+      → HasRoomForEvent (most_body end piece) (kept_of side new).handed
   pub items : KeepsItems (kept_of side old).handed (kept_of side new).handed
   pub one_end : end_at side new ≡ end_at side old
   pub only : ChangesOnly side old new

@@ -4,8 +4,8 @@ use Rattle.std.specs.Prelude.{◌≡◌, ◌⊎◌, ℕ, pos, ◌+ℤ◌, true, 
 use Rattle.std.specs.List.{Contains}
 use Rattle.h2_spec_log.specs.Acts.{ResetStream}
 use Rattle.h2_spec_log.specs.Events.{ResetEvent, UnprocessedEvent}
-use Rattle.h2_spec_log.specs.Log.{Log, owed}
-use Rattle.h2_spec_log.specs.Windows.{first_window, connection_send_window}
+use Rattle.h2_spec_log.specs.Log.{Log, owed, granted}
+use Rattle.h2_spec_log.specs.Windows.{connection_send_window}
 use Rattle.h2_laws_log.specs.Sums.{sum_below}
 use Rattle.h2_ends.specs.Ends.{EndLog, Passed}
 use Rattle.h2_ends.specs.Quiet.{IsQuietEnd}
@@ -25,12 +25,12 @@ pub record AreQuiet (client server : JointEnd) : Type 0 where
   pub finished_server : server.unfinished ≡ false
 
 -- What the writer may send on the connection, and what the reader owes on its streams (of numbers
--- below a bound), are 65,535 octets together.
+-- below a bound), are 65,535 octets and what the reader widened the window by.
 -- rule (law): joined (own) What slow readers hold of the window is all that others lack
 abbrev pub HoldsTheRest : (writer reader : Log) (bound : ℕ) → Type 0
 HoldsTheRest writer reader bound =
     connection_send_window writer.received writer.sent +ℤ pos (sum_below bound (owed reader))
-    ≡ pos first_window
+    ≡ pos (granted reader)
 
 -- A Reset of the stream was made at the end, with the code, and was done.
 abbrev pub WasResetAt : List Made → Side → (id code : ℕ) → Type 0

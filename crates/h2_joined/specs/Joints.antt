@@ -11,6 +11,7 @@ use Rattle.h2_spec_log.specs.declared.role.Role.TheVariants.{Client, Server}
 use Rattle.h2_spec_log.specs.Acts.{Values, AreInRange, Act, Answer, IsTypedAct, Number, Count, Done}
 use Rattle.h2_spec_log.specs.Acts.{OutOfMemory, Refused, ResetStream, SendPing, SendGoAway}
 use Rattle.h2_spec_log.specs.Acts.{ChangeSettings, PutOut, SendFields, SendData, Release, Fail}
+use Rattle.h2_spec_log.specs.Acts.{Widen}
 use Rattle.h2_spec_log.specs.LogCalls.{MayAnswer, with_call}
 use Rattle.h2_message.specs.Messages.{SentMessage}
 use Rattle.h2_laws_pair.specs.Pairs.{Half, given_since}
@@ -95,9 +96,10 @@ acted_as Done = acted.Done
 acted_as OutOfMemory = acted.Done
 acted_as (Refused refusal) = acted.Refused (Conn refusal)
 
--- The call is one of `release`, `reset`, `ping`, `go_away`, `fail` and `change_settings`.
+-- The call is one of `release`, `widen`, `reset`, `ping`, `go_away`, `fail` and `change_settings`.
 abbrev pub IsControlCall : Act → Type 0
 IsControlCall (Release id count) = Unit {0}
+IsControlCall (Widen count) = Unit {0}
 IsControlCall (ResetStream id code) = Unit {0}
 IsControlCall (SendPing octets) = Unit {0}
 IsControlCall SendGoAway = Unit {0}

@@ -1,6 +1,6 @@
 -- What is kept of events: where each lies among octets and fields that are kept one after another,
 -- and what a store is once one event more is kept.
-use Rattle.std.specs.Prelude.{map, ◌≡◌, ℕ, ◌+◌, ◌-◌, ◌≤◌, List, [], ◌∷◌, ◌++◌, length, take, drop}
+use Rattle.std.specs.Prelude.{map, max, ◌≡◌, ℕ, ◌+◌, ◌-◌, ◌≤◌, List, [], ◌∷◌, ◌++◌, length, take, drop}
 use Rattle.std.specs.List.{AllByRecursion}
 use Rattle.std.specs.Borrow.{Bor}
 use Rattle.std.specs.Vec.{vec_len, vec_capacity}
@@ -85,29 +85,32 @@ fields_kept list = stored_fields list.octets.now list.places.now
 abbrev pub joint_event_value : EndEvent KeptFields (Bor (List ℕ)) → Handed
 joint_event_value event = end_event_value fields_kept (λ octets. octets.now) event
 
--- the greatest number of octets, and of fields, that one event has: the size of a list, in which
--- each field counts 32 octets more than it has, is 65,536 at most
-abbrev pub most_event_octets : ℕ
-most_event_octets = 65536
+-- the greatest size of a list, in which each field counts 32 octets more than it has
+abbrev pub most_list_size : ℕ
+most_list_size = 65536
 
--- see `most_event_octets`: 65,536 octets, by 32 for each field
+-- how many octets an event has at most, where a body has no more than this
+abbrev pub most_event_octets : ℕ → ℕ
+most_event_octets body = max most_list_size body
+
+-- see `most_list_size`: 65,536 octets, by 32 for each field
 abbrev pub most_fields : ℕ
 most_fields = 2048
 
--- There is room for the largest event of a call.
+-- There is room for the largest event of a call, where a body has so many octets at most.
 -- rule: joined (own) A delivery without memory stops before a call and loses nothing
-pub record HasRoomForEvent (store : Store) : Type 0 where
+pub record HasRoomForEvent (body : ℕ) (store : Store) : Type 0 where
   pub events : vec_len store.events + 1 ≤ vec_capacity store.events
   pub fields : vec_len store.fields + most_fields ≤ vec_capacity store.fields
-  pub octets : vec_len store.octets + most_event_octets ≤ vec_capacity store.octets
+  pub octets : vec_len store.octets + most_event_octets body ≤ vec_capacity store.octets
 
 -- Such room is enough for this event.
-unfoldable pub Fits : Handed → Type 0
-Fits (InterimHanded id list) = list_size list ≤ most_event_octets
-Fits (HeadHanded id list end) = list_size list ≤ most_event_octets
-Fits (BodyHanded id octets end) = length octets ≤ most_event_octets
-Fits (TrailersHanded id list) = list_size list ≤ most_event_octets
-Fits (Passed event) = Unit {0}
+unfoldable pub Fits : ℕ → Handed → Type 0
+Fits body (InterimHanded id list) = list_size list ≤ most_list_size
+Fits body (HeadHanded id list end) = list_size list ≤ most_list_size
+Fits body (BodyHanded id octets end) = length octets ≤ most_event_octets body
+Fits body (TrailersHanded id list) = list_size list ≤ most_list_size
+Fits body (Passed event) = Unit {0}
 
 -- The same is kept, with other room.
 pub record KeepsItems (old new : Store) : Type 0 where
@@ -160,7 +163,8 @@ pub record KeepsList (old : Store) (list : List Field) (span : Span) (new : Stor
   pub events : new.events ≡ old.events
   pub start : span.start ≡ length old.fields.items
   pub end : span.end ≡ length new.fields.items
-  pub kept : HasRoomForEvent old → list_size list ≤ most_event_octets → AreFieldsKept old list new
+  pub kept : (body : ℕ) → HasRoomForEvent body old → list_size list ≤ most_list_size
+      → AreFieldsKept old list new
 
 -- What an event has is kept, and this is its place.
 pub record IsPlaced (old : Store) (handed : Handed) (place : EventPlace) (new : Store) : Type 0
@@ -178,4 +182,5 @@ pub record IsPlaced (old : Store) (handed : Handed) (place : EventPlace) (new : 
 pub record PlacesEvent (old : Store) (handed : Handed) (place : EventPlace) (new : Store) : Type 0
   where
     pub events : new.events ≡ old.events
-    pub placed : HasRoomForEvent old → Fits handed → IsPlaced old handed place new
+    pub placed : (body : ℕ) → HasRoomForEvent body old → Fits body handed
+        → IsPlaced old handed place new

@@ -92,6 +92,13 @@ pub enum JointAct {
         /// How many octets.
         count: u32,
     },
+    /// An end widens the connection's window: [`Client::widen`](h2_ends::Client::widen).
+    Widen {
+        /// The end.
+        side: Side,
+        /// By how many octets.
+        count: u32,
+    },
     /// An end resets a stream: [`Client::reset`](h2_ends::Client::reset).
     Reset {
         /// The end.
@@ -135,8 +142,8 @@ pub enum Acted {
     /// How many octets of bodies a Pump, a PumpSome or a SendBody has sent, or how many octets
     /// a Move has moved or a Deliver has delivered.
     Count(usize),
-    /// A Respond, BeginResponse, SendTrailers, ReleaseAll, Release, Reset, Ping, GoAway, Fail or
-    /// ChangeSettings was done.
+    /// A Respond, BeginResponse, SendTrailers, ReleaseAll, Release, Widen, Reset, Ping, GoAway,
+    /// Fail or ChangeSettings was done.
     Done,
     /// The end refused the call. A Deliver is never refused.
     Refused(EndRefusal),

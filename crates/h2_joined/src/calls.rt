@@ -3,7 +3,7 @@
 ghost use Rattle.std.specs.Prelude.{◌≡◌};
 ghost use Rattle.h2_flow.specs.ConfigValues.{values_of};
 ghost use Rattle.h2_spec_log.specs.Acts.{ResetStream, SendPing, SendGoAway, ChangeSettings, Done};
-ghost use Rattle.h2_spec_log.specs.Acts.{Fail, Release};
+ghost use Rattle.h2_spec_log.specs.Acts.{Fail, Release, Widen};
 ghost use Rattle.h2_conn.specs.Conn.{answer_by};
 ghost use Rattle.h2_message.specs.Values.{message_value};
 ghost use Rattle.h2_joined.specs.declared.act.Side.TheVariants.{Client, Server};
@@ -107,6 +107,16 @@ impl Joined {
         done(match side {
             Side::Client => self.client.release(id, count),
             Side::Server => self.server.release(id, count),
+        })
+    }
+
+    /// An end widens the connection's window.
+    pub(crate) fn widen(&mut self, side: Side, count: u32) -> Acted
+        ensures { MakesAct self.old (made side (Calls (Widen count)) result) self.new }
+    {
+        done(match side {
+            Side::Client => self.client.widen(count),
+            Side::Server => self.server.widen(count),
         })
     }
 

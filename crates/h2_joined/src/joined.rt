@@ -89,6 +89,7 @@ impl Joined {
             JointAct::Deliver { to, count } => self.deliver(*to, *count),
             JointAct::ReleaseAll(side) => self.release_all(*side),
             JointAct::Release { side, id, count } => self.release(*side, *id, *count),
+            JointAct::Widen { side, count } => self.widen(*side, *count),
             JointAct::Reset { side, id, code } => self.reset(*side, *id, *code),
             JointAct::Ping { side, octets } => self.ping(*side, *octets),
             JointAct::GoAway(side) => self.go_away(*side),

@@ -108,7 +108,8 @@ pub fn header_tables_are_in_step()
 // contract: joined (own) The header tables of joined ends agree, no window is lost
 /// Nothing of the connection's window is lost, both ways, as long as the reader has not failed:
 /// what the writer may send, the DATA under way, the increments under way, and what the reader
-/// owes or has not returned add up to 65,535 octets (RFC 9113, section 6.9).
+/// owes or has not returned add up to 65,535 octets and what the reader widened the window by (RFC
+/// 9113, section 6.9).
 pub fn connection_windows_are_conserved()
     ensures to_server { (client_values server_values : Values) (made : List Made)
         (client server : JointEnd) (way back : List Item) (bound : ℕ)
@@ -132,7 +133,8 @@ pub fn connection_windows_are_conserved()
 /// Slow readers hold all that is missing from the connection's window, both ways, as long as
 /// the reader has not failed: once nothing is under way and no credit is still to be returned
 /// to that window, what the writer may send on the connection and what the reader owes on its
-/// streams add up to 65,535 octets (RFC 9113, section 6.9).
+/// streams add up to 65,535 octets and what the reader widened the window by (RFC 9113, section
+/// 6.9).
 pub fn held_credit()
     ensures to_server { (client_values server_values : Values) (made : List Made)
         (client server : JointEnd) (bound : ℕ)

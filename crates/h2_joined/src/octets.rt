@@ -142,7 +142,7 @@ impl Joined {
     fn take_next(&mut self, to: Side, piece: &[u8]) -> Next
         ensures { TakesNext to self.old piece.now result self.new }
     {
-        if !self.make_room(to) {
+        if !self.make_room(to, piece) {
             return Next::Stopped;
         }
         match self.take_once(to, piece) {
@@ -160,14 +160,20 @@ impl Joined {
     }
 
     // rule: joined (own) A delivery without memory stops before a call and loses nothing
-    /// Makes room for the largest event that `take` of an end can return, and returns whether
-    /// there was memory for it.
-    fn make_room(&mut self, to: Side) -> bool
-        ensures { MakesRoom to self.old result self.new }
+    /// Makes room for the largest event that `take` of an end can return for a piece, and returns
+    /// whether there was memory for it.
+    fn make_room(&mut self, to: Side, piece: &[u8]) -> bool
+        ensures { MakesRoom to self.old piece.now result self.new }
     {
         match to {
-            Side::Client => self.at_client.handed.make_room(),
-            Side::Server => self.at_server.handed.make_room(),
+            Side::Client => {
+                let body = self.client.conn().held().saturating_add(piece.len());
+                self.at_client.handed.make_room(body)
+            }
+            Side::Server => {
+                let body = self.server.conn().held().saturating_add(piece.len());
+                self.at_server.handed.make_room(body)
+            }
         }
     }
 

@@ -1,6 +1,6 @@
 //! What an end has handed out: its events, with the places of their fields and octets.
 
-ghost use Rattle.std.specs.Prelude.{◌≡◌, true, length, []};
+ghost use Rattle.std.specs.Prelude.{◌≡◌, ℕ, true, length, []};
 ghost use Rattle.h2_ends.specs.Loans.{event_handed};
 ghost use Rattle.h2_joined.specs.Stored.{AreStored, Fits, HasRoomForEvent, KeepsItems, KeepsMore};
 ghost use Rattle.h2_joined.specs.Stored.{KeepsField, KeepsList, StoresOctets, PlacesEvent};
@@ -9,9 +9,8 @@ ghost use Rattle.h2_joined.specs.Stored.{events_kept, items_in};
 use h2_ends::{EndEvent, FieldList, FieldRef};
 use std::alloc::Global;
 
-/// The most octets of one event: a list whose size is at most 65,536, or a body of at most
-/// 65,535, the connection's window.
-const MOST_OCTETS: usize = 65_536;
+/// The greatest size of a list: its octets, and 32 for each field.
+const MOST_LIST_SIZE: usize = 65_536;
 
 /// The most fields of one event: each counts at least 32 of the size of its list.
 const MOST_FIELDS: usize = 2_048;
@@ -56,11 +55,11 @@ impl Store {
     }
 
     // rule: joined (own) A delivery without memory stops before a call and loses nothing
-    /// Makes room for the largest event that a call of `take` can return, and returns whether there
-    /// was memory for it.
-    pub(crate) fn make_room(&mut self) -> bool
+    /// Makes room for the largest event that a call of `take` can return, whose body has at most
+    /// `body` octets, and returns whether there was memory for it.
+    pub(crate) fn make_room(&mut self, body: usize) -> bool
         ensures items { KeepsItems self.old self.new }
-        ensures room { result ≡ true → HasRoomForEvent self.new }
+        ensures room { result ≡ true → HasRoomForEvent body self.new }
     {
         if self.events.reserve(1).is_err() {
             return false;
@@ -68,14 +67,14 @@ impl Store {
         if self.fields.reserve(MOST_FIELDS).is_err() {
             return false;
         }
-        self.octets.reserve(MOST_OCTETS).is_ok()
+        self.octets.reserve(MOST_LIST_SIZE.max(body)).is_ok()
     }
 
     // rule: joined (own) Accepted messages, what was handed out, octets on a pipe are kept
     /// Keeps an event. There is room, so memory is never refused.
     pub(crate) fn keep(&mut self, event: EndEvent<&FieldList, &[u8]>)
-        ensures { HasRoomForEvent self.old → Fits (event_handed event.entry) → AreStored self.old
-            → KeepsMore self.old (event_handed event.entry) self.new }
+        ensures { (body : ℕ) → HasRoomForEvent body self.old → Fits body (event_handed event.entry)
+            → AreStored self.old → KeepsMore self.old (event_handed event.entry) self.new }
     {
         let place = self.place_of(event);
         let _pushed = self.events.push(place);

@@ -2,6 +2,7 @@
 -- answer its number; and one that is refused isn't active afterwards.
 use Rattle.h2_laws_end.proofs.Names
 use Names.{◌≡◌, true, List, ◌++◌, Some, None, refl, Reset, alone, Count, Event, lacks, fails, IsLog}
+use Names.{Widen}
 use Names.{◌≢◌, ℕ, ◌≤◌, not, [], ◌∷◌, sym, ap, ◌∙◌, Code, Item, Role, Act, Open, Done, Log, View}
 use Names.{◌==◌, list_any, and_left, SendData, SendPing, is_active, MayAnswer, any_after, with_call}
 use Names.{Bool, false, arith, subst, Field, Server, Values, Answer, Refuse, Number, active, resets}
@@ -24,7 +25,7 @@ use Rattle.h2_laws_end.proofs.ActivityLogs.{known_of_logs}
 use Rattle.h2_laws_end.proofs.ActivityStays.{AreHarmless, harmless_append, harmless_credit}
 use Rattle.h2_laws_end.proofs.ActivityStays.{harmless_block, harmless_body, harmless_reset}
 use Rattle.h2_laws_end.proofs.ActivityStays.{harmless_goaway, harmless_settings, harmless_ping}
-use Rattle.h2_laws_end.proofs.ActivityStays.{harmless_release, stays_active}
+use Rattle.h2_laws_end.proofs.ActivityStays.{harmless_release, harmless_update, stays_active}
 use Rattle.h2_laws_end.proofs.ActivitySteps.{AfterCall, was_refused, was_broken, was_accepted}
 use Rattle.h2_laws_end.proofs.ActivitySteps.{call_after}
 
@@ -49,6 +50,7 @@ items_harmless role i view (SendPing octets) Done none opens low = (harmless_pin
 items_harmless role i view SendGoAway Done none opens low = (harmless_goaway _ _ _ 0 low, tt)
 items_harmless role i view (ChangeSettings values) Done none opens low =
     (harmless_settings role i false _, tt)
+items_harmless role i view (Widen count) Done none opens low = (harmless_update _ _ 0 count, tt)
 items_harmless role i view act answer none opens low = tt
 
 pub active_low : (role : Role) (values : Values) (log : Log) (i : ℕ) → IsLog role values log

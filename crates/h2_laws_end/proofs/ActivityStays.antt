@@ -57,7 +57,7 @@ module _ (role : Role) (i : ℕ) where
   }
 
   -- WINDOW_UPDATE, SETTINGS and PING.
-  harmless_update : (id count : ℕ) → IsHarmless role i (alone (WindowUpdate id count))
+  pub harmless_update : (id count : ℕ) → IsHarmless role i (alone (WindowUpdate id count))
   unfolding ends resets is_goaway_below
   harmless_update id count =
       record { ends_not = refl; resets_not = refl; below_not = λ server. refl }

@@ -114,7 +114,9 @@ pub use Rattle.h2_spec_log.specs.States.{Active, Closed, ClosedByUs, greatest_nu
 pub use Rattle.h2_spec_log.specs.States.{openings, State, state_by}
 pub use Rattle.h2_spec_log.specs.Verdicts.{ConnectionFault, NoEvent, Reported, StreamFault, Verdict}
 pub use Rattle.h2_spec_log.specs.View.{ended_in, owed_on, View}
-pub use Rattle.h2_spec_log.specs.Windows.{first_window}
+pub use Rattle.h2_spec_log.specs.Windows.{first_window, greatest_window}
+unfoldable pub use Rattle.h2_spec_log.specs.Windows.{granted_on_connection}
+pub use Rattle.h2_spec_log.specs.Acts.{Widen}
 pub use Rattle.h2_spec_log.specs.declared.refusal.Refusal.{Refusal}
 pub use Rattle.h2_spec_log.specs.declared.refusal.Refusal.TheVariants.{Memory}
 pub use Rattle.h2_spec_log.specs.declared.role.Role.{Role}

@@ -1,6 +1,7 @@
 -- What calls write on streams that are over: no block.
 use Rattle.h2_laws_end.proofs.Names
 use Names.{◌≡◌, ℕ, true, List, ◌∷◌, ◌++◌, refl, inl, inr, Item, Act, Open, Done, Log, View}
+use Names.{Widen}
 use Names.{◌==◌, list_any, both_ways, SendData, SendPing, MayAnswer, with_call, used_more, items_of}
 use Names.{Bool, false, arith, ne_eqb, Field, alone, Answer, Release, Refuse, Number, Count, IsOver}
 use Names.{if◌then◌else◌, or_from, false_from_ne_true, WindowUpdate, ChangeSettings, is_number_used}
@@ -55,6 +56,7 @@ items_no_block i view (Refuse id code) Done opens writes = refl
 items_no_block i view (SendPing octets) Done opens writes = refl
 items_no_block i view SendGoAway Done opens writes = refl
 items_no_block i view (ChangeSettings values) Done opens writes = refl
+items_no_block i view (Widen count) Done opens writes = refl
 items_no_block i view act answer opens writes = refl
 
 -- So it is with any call on a stream that is over.

@@ -1,6 +1,7 @@
 -- What keeps a stream's receive window, and what is owed of it, in step: calls; and so every log.
 use Rattle.h2_laws_end.proofs.Names
 use Names.{◌≡◌, ◌≢◌, ℕ, ◌+◌, ◌-◌, ◌≤◌, ◌∷◌, pos, sym, ap, ◌∙◌, inl, inr, Act, Log, read, ◌+ℤ◌, owed}
+use Names.{Widen}
 use Names.{◌==◌, Bool, true, List, [], None, ◌-ℤ◌, refl, ints, Item, Role, ends, Done, IsLog, total}
 use Names.{false, arith, Values, Answer, acked, active, called, flow_on, owed_on, items_of, opened}
 use Names.{list_any, ne_eqb, cases_eq, SendData, ended_in, log_view, own_value, released, with_sent}
@@ -108,6 +109,8 @@ accepted_steps log (Release id count) i some before none =
       ltb-false (owed_on ((log_view log).stream id)) count owing,
       owed_there log id alive,
     ))
+accepted_steps log (Widen count) i some before none =
+    call_steps log i _ _ before (omega (arith, update_elsewhere i count some)) refl
 accepted_steps log act i some before none = call_steps log i _ _ before refl refl
 
 module _ (role : Role) (values : Values) (i : ℕ) where

@@ -1,6 +1,7 @@
 -- Each SETTINGS and each PING that was read is replied to once, and nothing else is.
 use Rattle.h2_laws_end.proofs.Names
 use Names.{◌≡◌, ChangeSettings, ConnectionFault, verdict_of_fault, IsLogInvariant, verdict_by_rules}
+use Names.{Widen}
 use Names.{ℕ, [], ◌∷◌, refl, sym, ap, ◌∙◌, Code, Ping, Item, Role, Act, Open, Done, Log, View, read}
 use Names.{Bool, Settings, SendData, SendPing, Reported, ended_in, answer_of, replies_to, with_sent}
 use Names.{true, false, List, ◌++◌, Some, None, subst, alone, Number, Count, called, IsLog, opened}
@@ -69,6 +70,7 @@ call_replies view (Refuse id code) Done = refl
 call_replies view (SendPing octets) Done = refl
 call_replies view SendGoAway Done = refl
 call_replies view (ChangeSettings values) Done = refl
+call_replies view (Widen count) Done = refl
 call_replies view act answer = refl
 
 -- What is due for an item stands before what is due for the others.

@@ -1,6 +1,7 @@
 -- What an end has written can be sent: what every log has for that, and what an end reads.
 use Rattle.h2_laws_end.proofs.Names
 use Names.{◌≡◌, ltb-false, payload_of, ClosedByUs, IsSendable, AreSendable, replies_to, total_after}
+use Names.{greatest_window, granted_on_connection}
 use Names.{◌≢◌, ◌+◌, ◌^◌, ◌≤◌, ◌<◌, ◌∷◌, inl, inr, Log}
 use Names.{ℕ, Bool, false, arith, subst, alone, block, Event, State, Active, Closed, Values, total}
 use Names.{◌==◌, AllByRecursion, stream_of_item, ConnectionFault, verdict_by_rules, comes_as_before}
@@ -67,11 +68,11 @@ wrote_keeps events log (item ∷ items) all are =
     wrote_fit (max_payload_sent log) log.payloads log.received (item ∷ items) log.sent
     (events ++ log.reported) all are
 
--- A WINDOW_UPDATE of the connection that was allowed returns no more than its window.
+-- A WINDOW_UPDATE of the connection that was allowed is of no more than the greatest window.
 update_allowed : (role : Role) (received all : List Item) (n : ℕ) (sent : List Item)
     → AllowedHistory role received all → all ≡ alone (WindowUpdate 0 n) ∷ sent
-    → total data_of received ≤ 65535 + total (increment_on 0) sent → n ≤ 65535
-unfolding total
+    → total data_of received ≤ 65535 + total (increment_on 0) sent → n ≤ greatest_window
+unfolding total granted_on_connection
 update_allowed role _ _ n sent (starts values ok) line credit = absurd (cc)
 update_allowed role _ all n sent (reads {received = received} item with_sent) line credit =
     update_allowed role received all n sent with_sent line (omega (arith, credit))
@@ -79,7 +80,7 @@ update_allowed role received _ n sent (writes {sent = before} item with_sent all
     let same : item ≡ alone (WindowUpdate 0 n) = cc in
     let rest : before ≡ sent = cc in
     let may = (rw (same, rest) at allowed).1 in
-    omega (arith, may.read_at_all refl, credit)
+    omega (arith, may.within refl, credit)
 
 update_low : (role : Role) (n : ℕ) (received sent : List Item)
     → AllowedHistory role received (alone (WindowUpdate 0 n) ∷ sent)

@@ -1,6 +1,7 @@
 -- What an end has written can be sent: calls, and so every log.
 use Rattle.h2_laws_end.proofs.Names
 use Names.{◌≡◌, AllByRecursion, stream_is_active, pending_by_logs, comes_as_before, greatest_number}
+use Names.{Widen, greatest_window}
 use Names.{ℕ, [], inr, Act, Log, Fail}
 use Names.{suc, ◌^◌, ◌≤◌, ◌<◌, true, List, ◌∷◌, None, refl, inl, Item, Role, Open, ◌||◌, used, Good}
 use Names.{◌==◌, ResetStream, most_between, active_parts, unreleased_is, processed_by, refuse_fault}
@@ -124,13 +125,14 @@ data_call_sendable log id octets end count are none =
     data_items_sendable (max_payload_sent log) id octets end count (most_between log.received)
     (active_above log id alive) (active_low log id are alive)
 
--- What is owed on an active stream is no more than the connection's window.
+-- What is owed on an active stream is no more than the greatest window.
 owed_low : (log : Log) (i : ℕ) → Good (history_of log) → LogIsFit log → active log i ≡ true
-    → unreleased log i ≤ 65535
+    → unreleased log i ≤ greatest_window
 owed_low log i good are alive =
     omega (
       arith,
       good.whole (suc i),
+      good.wide,
       owes_one (history_of log) i,
       owes_active (history_of log) i alive,
       unreleased_is log i,
@@ -222,6 +224,11 @@ accepted_sendable role log (ChangeSettings values) represents typed none up are 
   change_sendable (max_payload_sent log) log.role _ values (most_between log.received) typed,
   tt,
 )
+accepted_sendable role log (Widen count) represents typed none up are =
+    let narrow = or_parts (count == 0) _ (none_holds _ none).1.1.0 in
+    let low = ltb-false greatest_window _ narrow.1 in
+    (update_sendable (max_payload_sent log) 0 count (most_between log.received) (omega arith)
+    (omega (arith, low)), tt)
 
 -- A new log.
 begins_fit : (role : Role) (values : Values) → AreInRange values → LogIsFit (opened role values)

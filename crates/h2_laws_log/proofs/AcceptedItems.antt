@@ -202,11 +202,11 @@ within_stream received sent unread i increment within read =
 
 -- what is returned doesn't bring the connection's window above the greatest
 within_connection : (received sent unread : List Item) (increment : ℕ)
-    → total (increment_on 0) sent + increment ≤ total data_of received
+    → granted_on_connection sent + increment ≤ greatest_window + total data_of received
     → is_above_greatest (given_on_connection sent + increment) (total data_of (unread
     ++ received)) ≡ false
-unfolding given_on_connection
-within_connection received sent unread increment read =
+unfolding given_on_connection granted_on_connection
+within_connection received sent unread increment within =
     le-ltb (greatest_window + total data_of (unread ++ received)) (first_window + total
     (increment_on 0) sent + increment) (omega (arith, total_after data_of unread received))
 
@@ -232,4 +232,4 @@ connection_update_lem role received sent unread log increment with_sent may read
     ap is_fault (update_by_sums log None 0 increment)
     ∙ connection_update_sound increment _ may.some
     (rw (reader.read, reader.written) (within_connection received sent unread increment
-    (may.read_at_all refl)))
+    (may.within refl)))

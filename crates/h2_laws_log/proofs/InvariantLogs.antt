@@ -3,7 +3,8 @@ use Rattle.h2_laws_log.proofs.Names
 use Names.{list_any, both_ways, InternalError, Role, total, increment_on, one_answer, is_goaway}
 use Names.{settings_count, one_ack, UnprocessedEvent, flow_on, reported_total, one_acked, one_pong}
 use Names.{Values, AreInRange, Act, Answer, IsTypedAct, Open, SendFields, SendData, Release}
-use Names.{ResetStream, Refuse, SendPing, SendGoAway, Fail, PutOut, ChangeSettings, Log, released}
+use Names.{ResetStream, Refuse, SendPing, SendGoAway, Fail, PutOut, ChangeSettings, Widen, Log}
+use Names.{released, widened}
 use Names.{last_processed, least_goaway, next_unprocessed, with_sent, with_reported, owed_at_close}
 use Names.{took_none, used, opened, with_call, MayAnswer, accepts, refuses, lacks, fails}
 use Names.{refusal_of, answer_of, log_view, IsLog, AllowedHistory, starts, sum_below, ◌≡◌, ◌≢◌, ℕ}
@@ -15,7 +16,7 @@ use Rattle.h2_laws_log.proofs.InvariantCalls.{refused_represents, reset_represen
 use Rattle.h2_laws_log.proofs.InvariantCalls.{refuse_represents, end_represents}
 use Rattle.h2_laws_log.proofs.InvariantCalls.{failed_represents, ping_represents}
 use Rattle.h2_laws_log.proofs.InvariantCalls.{leave_represents, change_represents}
-use Rattle.h2_laws_log.proofs.InvariantCalls.{put_out_represents}
+use Rattle.h2_laws_log.proofs.InvariantCalls.{put_out_represents, widen_represents}
 use Rattle.h2_laws_log.proofs.InvariantReads.{frame_represents}
 use Rattle.h2_laws_log.proofs.InvariantSends.{open_represents, fields_represent, data_represents}
 use Rattle.h2_laws_log.proofs.InvariantSteps.{fails_represents, last_low, step_log}
@@ -41,8 +42,10 @@ unprocessed_moves v n with_sent left = record {
   reported_open = λ j some. absurd (some refl);
   elsewhere = λ j other. refl;
   kept = λ j. omega arith;
+  wider = omega arith;
+  wide = λ before. before;
   out = omega arith;
-  out_active = λ some. absurd (some refl);
+  out_active = λ some. absurd (some (omega arith));
   fits = omega arith;
 }
 
@@ -88,6 +91,8 @@ accepted_represents role log (PutOut count) answer represents fit typed none is 
     (put_out_represents role log count _ represents)
 accepted_represents role log (ChangeSettings values) answer represents fit typed none is = rw is
     (change_represents role log values represents typed none)
+accepted_represents role log (Widen count) answer represents fit typed none is = rw is
+    (widen_represents role log count represents none)
 
 -- The invariant holds after a call.
 call_represents : (role : Role) (log : Log) (act : Act) (answer : Answer)
@@ -122,7 +127,7 @@ first_owes role values j = none_of _
 -- The invariant of a new log.
 begins_represents : (role : Role) (values : Values) → AreInRange values
     → Represents role (history_of (opened role values))
-unfolding opened with_sent total settings_count reported_total released one_ack one_answer
+unfolding opened with_sent total settings_count reported_total released widened one_ack one_answer
     increment_on
 begins_represents role values ok = record {
   own = refl;
@@ -142,6 +147,7 @@ begins_represents role values ok = record {
           (λ j below. first_owes role values j),
       none_owed n,
     );
+    wide = omega arith;
   };
 }
 

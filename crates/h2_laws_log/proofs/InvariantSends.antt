@@ -4,7 +4,7 @@ use Names.{list_any, both_ways, or_parts, ltb-false, leb-false, false_from_ne_tr
 use Names.{block_of, Data, Item, alone, block, Role, Client, Server, increment_on, one_answer, ends}
 use Names.{is_goaway, greatest_block, one_ack, is_server, Act, Answer, Open, SendFields, SendData}
 use Names.{Number, Count, Done, openings, count_below, greatest_number, Log, active, active_count}
-use Names.{released, next_number, allowed_by, streams_allowed, goaway_written, goaway_read}
+use Names.{released, widened, next_number, allowed_by, streams_allowed, goaway_written, goaway_read}
 use Names.{max_payload_sent, log_view, conditions, refusal_of, items_of, stream_of_act, data_items}
 use Names.{with_sent, max_list, with_call, AllowedHistory, writes, MayContinue, active_by_items}
 use Names.{none_since, ◌≡◌, ℕ, ◌+◌, ◌≤◌, ◌<◌, nat_lt, Bool, true, false, if◌then◌else◌, List, []}
@@ -62,10 +62,10 @@ few_active log good stays client few =
 -- A block acknowledges, answers and gives nothing.
 block_writes : (v : History) (i id : ℕ) (end : Bool) (octets : List ℕ) (calls : List (Act
     × Answer)) → AllowedHistory v.role v.received (block id end octets ∷ v.sent)
-    → ((j : ℕ) → released j calls ≡ released j v.calls)
+    → ((j : ℕ) → released j calls ≡ released j v.calls) → widened calls ≡ widened v.calls
     → Moves v i [] (block id end octets ∷ []) [] calls 0
 unfolding one_ack one_answer increment_on
-block_writes v i id end octets calls with_sent same = search (rules, writes_one)
+block_writes v i id end octets calls with_sent same wide = search (rules, writes_one)
 
 -- The invariant holds after opening a stream with a number that is the next one.
 open_with : (role : Role) (log : Log) (fields : List Field) (end : Bool) (number : ℕ)
@@ -75,7 +75,7 @@ open_with : (role : Role) (log : Log) (fields : List Field) (end : Bool) (number
     → active_count log < streams_allowed log → list_size fields ≤ max_list → number
     ≡ next_number log
     → Represents role (history_of (with_call log (Open fields end) (Number number)))
-unfolding with_call items_of stream_of_act released
+unfolding with_call items_of stream_of_act released widened
 open_with role log fields end number represents up server low went few small is =
     let good = represents.good up in
     let next = next_odd log represents.with_sent in
@@ -93,7 +93,7 @@ open_with role log fields end number represents up server low went few small is 
         reported_to_stay = went.1;
       }),
       block_is_gathered log.encoder fields small,
-    )) (λ j. refl))
+    )) (λ j. refl) refl)
 
 -- a choice that fails
 pub client_number : (b : Bool) (n : ℕ) → b ≡ false → (if b then 0 else n) ≡ n
@@ -127,7 +127,7 @@ pub fields_represent : (role : Role) (log : Log) (id : ℕ) (fields : List Field
     → Represents role (history_of log)
     → refusal_of (log_view log) (SendFields id fields end) ≡ None
     → Represents role (history_of (with_call log (SendFields id fields end) Done))
-unfolding conditions with_call items_of stream_of_act released
+unfolding conditions with_call items_of stream_of_act released widened
 fields_represent role log id fields end represents none =
     let holds = none_holds _ none in
     let up = none_since log.failed holds.0 in
@@ -139,7 +139,7 @@ fields_represent role log id fields end represents none =
       inr (active_goes log id (stream_is_active log id holds.1.0) (open_out log id
           (stream_is_active log id holds.1.0) holds.1.1.0)),
       block_is_gathered log.encoder fields (ltb-false max_list (list_size fields) holds.1.1.1.1.0),
-    )) (λ j. refl))
+    )) (λ j. refl) refl)
 
 -- DATA answers nothing
 data_answer : (id : ℕ) (end : Bool) (octets : List ℕ)
@@ -159,7 +159,7 @@ pub data_represents : (role : Role) (log : Log) (id : ℕ) (octets : List ℕ) (
     → refusal_of (log_view log) (SendData id octets end) ≡ None
     → Represents role (history_of (with_call log (SendData id octets end) (Count (count_of log id
     (length octets)))))
-unfolding conditions with_call items_of stream_of_act released
+unfolding conditions with_call items_of stream_of_act released widened
 data_represents role log id octets end represents none =
     let holds = none_holds _ none in
     let up = none_since log.failed holds.0 in
@@ -176,4 +176,4 @@ data_represents role log id octets end represents none =
     (none_of_items one_ack data_ack (max_payload_sent log) id octets end count)
     (none_of_items one_answer data_answer (max_payload_sent log) id octets end count)
     (λ j. none_of_items (increment_on j) (data_gives j)
-    (max_payload_sent log) id octets end count) (λ j. refl))
+    (max_payload_sent log) id octets end count) (λ j. refl) refl)

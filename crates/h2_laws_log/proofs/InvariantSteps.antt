@@ -3,6 +3,7 @@ use Rattle.h2_laws_log.proofs.Names
 use Names.{ap, list_any, and_parts, ltb-true, ne_eqb, Code, GoAway, WindowUpdate, Item, alone, Role}
 use Names.{Client, Server, total, increment_on, one_answer, is_block_on, one_ack, Event, flow_on}
 use Names.{reported_total, Act, Answer, openings, Log, last_processed, least_goaway, released}
+use Names.{widened, granted_on_connection}
 use Names.{waiting, code_number, with_sent, with_reported, with_unreturned, with_failure}
 use Names.{owed_at_close, full_output, writes, sum_below, ◌≡◌, ◌≢◌, ℕ, ◌+◌, ◌-◌, ◌≤◌, ◌&&◌, nat_lt}
 use Names.{Bool, true, false, List, [], ◌∷◌, None, refl, sym, ◌∙◌, inl, arith, rules}
@@ -67,14 +68,17 @@ give_good v good = record {
       let less : sum_below n (owes (give v)) ≤ sum_below n (owes v) = sum_less n (owes v)
       (owes (give v)) (λ j below. owes_given v j) in
       omega (arith, less, good.whole n, update_here v.unreturned);
+  wide = good.wide;
 }
 
 -- What is due may be returned, where it isn't nothing.
 pub give_represents : (role : Role) (v : History) → Represents role v → v.failed ≡ None
     → v.unreturned ≢ 0 → Represents role (give v)
+unfolding granted_on_connection
 give_represents role v represents up some =
     let good = represents.good up in
     let whole = good.whole 0 in
+    let wide = good.wide in
     record {
       own = represents.own;
       with_sent = writes (alone (WindowUpdate 0 v.unreturned)) represents.with_sent (
@@ -83,7 +87,7 @@ give_represents role v represents up some =
           some = some;
           active = λ wrong. absurd (wrong refl);
           read = λ wrong. absurd (wrong refl);
-          read_at_all = λ same. omega (arith, whole);
+          within = λ same. omega (arith, whole, wide);
         },
       );
       good = λ still. give_good v good;
@@ -116,18 +120,18 @@ owes_recalled v calls j same = rw same (omega arith)
 
 -- the same of what is good
 recalled_good : (v : History) (calls : List (Act × Answer)) → ((j : ℕ) → released j calls
-    ≡ released j v.calls) → Good v
+    ≡ released j v.calls) → widened calls ≡ widened v.calls → Good v
     → Good (record v { calls = calls })
-recalled_good v calls same good = search (rules, owes, sum_less, owes_recalled)
+recalled_good v calls same wide good = search (rules, owes, sum_less, owes_recalled)
 
--- A call that releases nothing changes nothing.
+-- A call that releases nothing, and widens nothing, changes nothing.
 pub recalled_represents : (role : Role) (v : History) (calls : List (Act × Answer)) → ((j : ℕ)
-    → released j calls ≡ released j v.calls) → Represents role v
+    → released j calls ≡ released j v.calls) → widened calls ≡ widened v.calls → Represents role v
     → Represents role (record v { calls = calls })
-recalled_represents role v calls same represents = record {
+recalled_represents role v calls same wide represents = record {
   own = represents.own;
   with_sent = represents.with_sent;
-  good = λ up. recalled_good v calls same (represents.good up);
+  good = λ up. recalled_good v calls same wide (represents.good up);
 }
 
 -- What is due may be returned after a step, before its events.

@@ -5,7 +5,8 @@ use Names.{list_any, both_ways, cases_Bool, Item, Role, Client, Server, total, i
 use Names.{data_on, data_of, one_ping, one_answer, is_goaway, is_block_on, resets, is_goaway_below}
 use Names.{is_server, settings_count, one_ack, Event, flow_on, reported_total, one_acked, one_pong}
 use Names.{greatest_processed, reports_unprocessed, Act, Answer, is_active, is_used, openings}
-use Names.{is_above, least_goaway, released, HasAcknowledged, AllowedHistory, sum_below, ◌≡◌, ◌⊎◌}
+use Names.{is_above, least_goaway, released, widened, first_window, greatest_window}
+use Names.{HasAcknowledged, AllowedHistory, sum_below, ◌≡◌, ◌⊎◌}
 use Names.{◌≢◌, ℕ, zero, suc, ◌+◌, ◌-◌, ◌≤◌, ◌&&◌, not, Bool, true, false, if◌then◌else◌, List}
 use Names.{◌++◌, None, refl, inl, inr, arith, rules}
 use Rattle.h2_laws_log.proofs.ItemLists.{none_after, any_after}
@@ -17,7 +18,8 @@ use Rattle.h2_laws_log.proofs.LogHistory.{sum_moves}
 
 -- What holds of a view as long as the connection hasn't failed: all that was read is answered;
 -- nothing was reported that wasn't read; increments were released, and stand for octets that were
--- read; no flow was reported of a stream that wasn't opened.
+-- read or by which the connection's window was widened, which is no wider than the greatest; no flow
+-- was reported of a stream that wasn't opened.
 pub record Good (v : History) : Type 0 where
   pub returned : HasAcknowledged v.received v.sent
   pub answered : total one_answer v.sent ≡ total one_ping v.received
@@ -30,7 +32,8 @@ pub record Good (v : History) : Type 0 where
   pub opened : (i : ℕ) → list_any (is_block_on i) (openings v.role v.received v.sent) ≡ false
       → reported_total (flow_on i) v.reported ≡ 0
   pub whole : (n : ℕ) → total (increment_on 0) v.sent + (sum_below n
-      (owes v) + v.unreturned) ≤ total data_of v.received
+      (owes v) + v.unreturned) ≤ total data_of v.received + widened v.calls
+  pub wide : first_window + widened v.calls ≤ greatest_window
 
 -- What stands of the view of every log.
 pub record Represents (role : Role) (v : History) : Type 0 where
@@ -63,11 +66,16 @@ pub record Moves (v : History) (i : ℕ) (reads items : List Item) (events : Lis
       → list_any (is_block_on j) (openings v.role v.received v.sent) ≡ true
   pub elsewhere : (j : ℕ) → j ≢ i → reported_total (flow_on j) events ≡ 0
   pub kept : (j : ℕ) → released j v.calls ≤ released j calls
+  pub wider : widened v.calls ≤ widened calls
+  pub wide : first_window + widened v.calls ≤ greatest_window
+      → first_window + widened calls ≤ greatest_window
   pub out : ((reported_total (flow_on i) events + reported_total
-      (flow_on i) v.reported) - released i calls) + total (increment_on 0) items
+      (flow_on i) v.reported) - released i calls) + (total (increment_on 0) items - (widened calls
+      - widened v.calls))
       ≤ (reported_total (flow_on i) v.reported - released i v.calls) + reported_total
       (flow_on i) events
-  pub out_active : total (increment_on 0) items ≢ 0 → active_in_view v i ≡ true
+  pub out_active : total (increment_on 0) items - (widened calls - widened v.calls) ≢ 0
+      → active_in_view v i ≡ true
   pub fits : reported_total (flow_on i) events + discarded ≤ total data_of reads
 
 -- where a block wasn't among the openings, it isn't among those before
@@ -154,14 +162,15 @@ owes_here : (v : History) (i : ℕ) (reads items : List Item) (events : List Eve
     (Act × Answer)) (discarded unreturned : ℕ) → Good v
     → Moves v i reads items events calls discarded
     → owes (moved v reads items events calls unreturned) i + (owing v
-    (moved v reads items events calls unreturned) i + total (increment_on 0) items)
+    (moved v reads items events calls unreturned) i + (total (increment_on 0) items
+    - (widened calls - widened v.calls)))
     ≤ owes v i + reported_total (flow_on i) events
 unfolding owes owing left
 owes_here v i reads items events calls discarded unreturned good moves =
     moves_by (active_in_view v i) (active_in_view (moved v reads items events calls unreturned) i)
     (reported_total (flow_on i) v.reported - released i v.calls)
     (reported_total (flow_on i) (events ++ v.reported) - released i calls) (reported_total
-    (flow_on i) events) (total (increment_on 0) items)
+    (flow_on i) events) (total (increment_on 0) items - (widened calls - widened v.calls))
     (was_left v reads items events calls unreturned i good) moves.out_active (rw (reported_append
     (flow_on i) events v.reported) moves.out)
 
@@ -188,16 +197,18 @@ whole_after : (v : History) (i : ℕ) (reads items : List Item) (events : List E
     ≡ v.unreturned + (discarded + owing v (moved v reads items events calls unreturned) i) → (n : ℕ)
     → total (increment_on 0) (items ++ v.sent) + (sum_below n (owes
     (moved v reads items events calls unreturned)) + unreturned) ≤ total data_of (reads
-    ++ v.received)
+    ++ v.received) + widened calls
 whole_after v i reads items events calls discarded unreturned good moves is n =
     let sums = sum_moves (suc i + n) i (owing v
-    (moved v reads items events calls unreturned) i + total (increment_on 0) items)
+    (moved v reads items events calls unreturned) i + (total (increment_on 0) items
+    - (widened calls - widened v.calls)))
     (reported_total (flow_on i) events) (owes v) (owes
     (moved v reads items events calls unreturned)) (omega arith)
     (owes_there v i reads items events calls discarded unreturned good moves)
     (owes_here v i reads items events calls discarded unreturned good moves) in
     let longer = sum_longer n (suc i) (owes (moved v reads items events calls unreturned)) in
     let before = good.whole (suc i + n) in
+    let wider = moves.wider in
     omega (arith, total-append)
 
 -- A step keeps what is good.
@@ -228,6 +239,7 @@ step_good v i reads items events calls discarded unreturned good moves is = reco
         none_reported _ _ (moves.reported_open j) before,
       );
   whole = whole_after v i reads items events calls discarded unreturned good moves is;
+  wide = moves.wide good.wide;
 }
 
 -- The invariant holds after a step keeps what.

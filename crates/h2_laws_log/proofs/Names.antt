@@ -18,7 +18,7 @@ unfoldable pub use Rattle.h2_spec_log.specs.Items.{is_goaway, one_answer, data_o
 unfoldable pub use Rattle.h2_spec_log.specs.Items.{encoding_of_items, is_goaway_below, resets}
 unfoldable pub use Rattle.h2_spec_log.specs.Items.{one_ping, encoding_of_item, greatest_block}
 unfoldable pub use Rattle.h2_spec_log.specs.Items.{opens_from, stream_of_item}
-unfoldable pub use Rattle.h2_spec_log.specs.Log.{least_goaway, released, last_processed}
+unfoldable pub use Rattle.h2_spec_log.specs.Log.{least_goaway, released, widened, last_processed}
 unfoldable pub use Rattle.h2_spec_log.specs.Log.{max_payload_sent_by, next_unprocessed, waiting}
 unfoldable pub use Rattle.h2_spec_log.specs.Log.{unreleased, active_count, allowed_by, next_number}
 unfoldable pub use Rattle.h2_spec_log.specs.Log.{max_streams, next_active, output}
@@ -69,6 +69,7 @@ pub use Rattle.h2_frame.specs.declared.code.Code.TheVariants.{ProtocolError, Flo
 pub use Rattle.h2_wire.specs.Streams.{expected_preface, AreFrames, Frames, Limits}
 pub use Rattle.h2_block.specs.Grouping.{Item, alone, block, Begun, next_fault}
 pub use Rattle.h2_spec_log.specs.Acts.{Act, Values, Answer, AreInRange, Done, Release, Count, Open}
+pub use Rattle.h2_spec_log.specs.Acts.{Widen}
 pub use Rattle.h2_spec_log.specs.Acts.{OutOfMemory, PutOut, Refuse, SendData, SendGoAway, Happened}
 pub use Rattle.h2_spec_log.specs.Acts.{Number, Refused, SendFields, ChangeSettings, In, ResetStream}
 pub use Rattle.h2_spec_log.specs.Acts.{SendPing, Turn, Out, shown, Fail}

@@ -3,7 +3,7 @@ use Rattle.std.proofs.lemmas.Bool.{eqb-false}
 use Rattle.h2_laws_log.proofs.Names
 use Names.{ap, both_ways, ne_eqb, or_parts, ltb-false, WindowUpdate, Item, alone, Role, total}
 use Names.{increment_on, one_answer, settings_count, one_ack, flow_on, reported_total, Act, Answer}
-use Names.{Release, Done, Log, released, unreleased, ended_in, owed_on, log_view, conditions}
+use Names.{granted_on_connection, Release, Done, Log, released, widened, unreleased, ended_in, owed_on, log_view, conditions}
 use Names.{refusal_of, items_of, stream_of_act, with_call, HasAcknowledged, AllowedHistory, writes}
 use Names.{active_by_items, MayUpdateWindow, sum_below, none_since, ◌≡◌, ◌≢◌, ℕ, suc, ◌+◌, ◌-◌, ◌≤◌}
 use Names.{◌==◌, nat_lt, Bool, true, false, if◌then◌else◌, List, [], ◌∷◌, ◌++◌, None, refl, sym}
@@ -80,8 +80,10 @@ gives_all : (v : History) (i count : ℕ) (sent : List Item) → Good v → Give
     → HasAcknowledged v.received sent
     → total (increment_on 0) sent ≡ total (increment_on 0) v.sent
     → HasAcknowledged v.received sent × MayUpdateWindow v.role 0 count v.received sent
+unfolding granted_on_connection
 gives_all v i count sent good gives returned same =
     let whole = good.whole (suc i) in
+    let wide = good.wide in
     let one = owes_one v i in
     let is = owes_active v i gives.active in
     let much = gives.owed in (
@@ -90,7 +92,7 @@ gives_all v i count sent good gives returned same =
         some = gives.some;
         active = λ wrong. absurd (wrong refl);
         read = λ wrong. absurd (wrong refl);
-        read_at_all = λ zero. omega arith;
+        within = λ zero. omega arith;
       },
     )
 
@@ -114,7 +116,7 @@ updates_written v i count false good with_sent active gives =
         some = gives.some;
         active = λ number. active;
         read = λ number. let some = gives.some in omega arith;
-        read_at_all = λ zero. absurd (gives.number zero);
+        within = λ zero. absurd (gives.number zero);
       },
     )) (gives_all _ _ _ _ good gives (omega (arith, total_one, update_ack)) (omega arith))
 
@@ -138,7 +140,7 @@ release_moves : (v : History) (i count : ℕ) (ended : Bool) → Good v
     → AllowedHistory v.role v.received v.sent → active_by_items v.role i v.received v.sent ≡ true
     → Gives v i count
     → Moves v i [] (updates i count ended) [] ((Release i count, Done) ∷ v.calls) 0
-unfolding reported_total settings_count
+unfolding reported_total settings_count widened
 release_moves v i count ended good with_sent active gives =
     let all = updates_all i count ended gives.number in
     let here = released_here i count v.calls in
@@ -156,6 +158,8 @@ release_moves v i count ended good with_sent active gives =
       reported_open = λ j some. absurd (some refl);
       elsewhere = λ j other. refl;
       kept = λ j. omega (arith, gives_released i j count v.calls);
+      wider = omega arith;
+      wide = λ before. before;
       out = omega arith;
       out_active = λ some. gives.active;
       fits = omega arith;

@@ -242,7 +242,9 @@ data_reported v i end octets pad with_sent active =
       ];
       elsewhere = λ j other. omega (arith, flow_elsewhere i end octets n j other);
       kept = λ j. omega arith;
+      wider = omega arith;
+      wide = λ before. before;
       out = omega arith;
-      out_active = λ some. absurd (some refl);
+      out_active = λ some. absurd (some (omega arith));
       fits = omega (arith, flow_fits i end octets n i);
     }

@@ -2,6 +2,7 @@
 -- its log.
 use Rattle.h2_laws_machine.proofs.Names
 use Names.{◌≡◌, ℕ, ◌==◌, true, [], ◌∷◌, Option, Some, None, refl, sym, ap, subst, ◌∙◌, Code}
+use Names.{widened}
 use Names.{InternalError, Reset, alone, end_view, End, log_view, View, Values, Act, Answer}
 use Names.{IsTypedAct, Open, Refuse, Done, OutOfMemory, Refused, Log, active, last_processed}
 use Names.{released, code_number, with_failure, called, with_call, with_items, MayAnswer}
@@ -9,6 +10,7 @@ use Names.{refuse_fault, items_of, stream_of_act, encoder_after_call, refusal_of
 use Names.{called_one, queue_output, fail, after_refuse, after_call, reset_stream, Represents}
 use Names.{Refusal, stream_is_active, and_other, none_holds, Fail}
 use Rattle.h2_laws_log.proofs.InvariantCalls.{released_refused, no_fault, released_out_of_memory}
+use Rattle.h2_laws_log.proofs.InvariantCalls.{widened_refused}
 use Rattle.h2_spec_log.specs.LogCalls.{refused_with}
 use Rattle.h2_laws_machine.proofs.CallReset.{reset_up}
 use Rattle.h2_laws_machine.proofs.GoAwaysSent.{active_processed}
@@ -77,7 +79,8 @@ refused_represents values e log act refusal represents typed may = record {
       runs e (called log act (Refused refusal)) run.started
       (called_going e log act (Refused refusal) e.output.encoder (run.encoder
       ∙ refused_encoder log act refusal)
-      (λ i. released_refused i act refusal log.calls) (going e log represents.streams run));
+      (λ i. released_refused i act refusal log.calls) (widened_refused act refusal log.calls)
+      (going e log represents.streams run));
   whole = represents.whole;
   used = represents.used;
 }
@@ -128,7 +131,7 @@ refuse_by : (values : Values) (e : End) (log : Log) (id code : ℕ) (x : Option 
     → e.failed ≡ None → Represents values (after_call e (Refuse id code))
     (with_call log (Refuse id code) Done)
 unfolding after_call with_call refused_with with_items items_of stream_of_act encoder_after_call
-    released
+    released widened
 refuse_by values e log id code (Some fault) is represents typed may accepted none up =
     let came = called_one represents.came (Refuse id code) Done typed may in
     let made = fails_represent values e log (Refuse id code) Done fault (λ i. refl) represents up
@@ -143,7 +146,7 @@ refuse_by values e log id code None is represents typed may accepted none up =
     let active_is = refused_active log id code none is in
     let base = called log (Refuse id code) Done in
     let made = reset_up e log base id code active_is active_is
-    (called_up e log (Refuse id code) Done refl (λ i. refl) (up_of values e log represents up)) in
+    (called_up e log (Refuse id code) Done refl (λ i. refl) refl (up_of values e log represents up)) in
     let all : Up (after_refuse e id code (refuse_fault (end_view e) code))
     (refused_with log (Refuse id code) Done (refuse_fault (log_view log) code)) =
     subst (λ (x : Option Code). Up (after_refuse e id code x)

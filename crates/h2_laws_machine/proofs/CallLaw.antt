@@ -3,7 +3,8 @@ use Rattle.h2_laws_machine.proofs.Names
 use Names.{◌≡◌, ℕ, ◌%◌, ◌≤◌, ◌<◌, Bool, true, if◌then◌else◌, List, None, refl, sym, ap, subst, ◌∙◌}
 use Names.{Field, both_ways, or_parts, log_view, one_ping, total, greatest_block, one_pong}
 use Names.{reported_total, Values, Act, Answer, IsTypedAct, Open, SendFields, SendData, Release}
-use Names.{ResetStream, Refuse, SendPing, SendGoAway, PutOut, ChangeSettings, Number, OutOfMemory}
+use Names.{ResetStream, Refuse, SendPing, SendGoAway, PutOut, ChangeSettings, Widen, Number}
+use Names.{OutOfMemory}
 use Names.{Refused, is_server, settings_count, Log, acked, active, last_processed, next_number}
 use Names.{conditions, refusal_of, answer_of, may_fail_for_memory, MayAnswer, accepts, refuses}
 use Names.{lacks, fails, with_call, End, after_call, Represents, Role, Client, Server, Refusal}
@@ -21,7 +22,7 @@ use Rattle.h2_laws_machine.proofs.CallRelease.{release_up}
 use Rattle.h2_laws_machine.proofs.CallReset.{reset_call_up}
 use Rattle.h2_laws_machine.proofs.CallSend.{fields_up, data_up}
 use Rattle.h2_laws_machine.proofs.CallWithoutStream.{ping_up, goaway_up, settings_up}
-use Rattle.h2_laws_machine.proofs.CallWithoutStream.{put_out_represents}
+use Rattle.h2_laws_machine.proofs.CallWithoutStream.{put_out_represents, widen_up}
 use Rattle.h2_laws_machine.proofs.LogCore.{core}
 use Rattle.h2_laws_machine.proofs.RepresentedSteps.{Up, up_of, represents_after}
 
@@ -103,6 +104,8 @@ call_up values e log (PutOut count) represents none sound no_put leaves up =
 call_up values e log (ChangeSettings others) represents none sound no_put leaves up =
     let written = (log_represents e.role values log represents.came).with_sent in
     settings_up e log others sound.acks (wrote_settings log.role log.received log.sent written) up
+call_up values e log (Widen count) represents none sound no_put leaves up =
+    widen_up e log count up
 
 -- the answer of the rules to a call
 abbrev answer_by : Log → Act → Answer

@@ -2,6 +2,7 @@
 use Rattle.std.specs.FinMap as map
 use Rattle.h2_laws_machine.proofs.Names
 use Names.{◌≡◌, ◌≢◌, zero, ◌||◌, Bool, true, List, refl, ints, Item, Role, ends, Event, Open, View}
+use Names.{widened}
 use Names.{ℕ, increment_on, greatest_block, first_window, stream_of_act, active_entry, with_encoder}
 use Names.{suc, ◌+◌, ◌-◌, ◌≤◌, ◌<◌, ◌%◌, [], ◌∷◌, pos, sym, ap, ◌∙◌, Log, End}
 use Names.{false, subst, arith, Field, block, Client, Server, resets, total, window, Number, called}
@@ -190,7 +191,7 @@ open_advances h c i end octets client odd above clear g =
         last_processed = g.streams.last_processed;
         resets = g.streams.resets ∙ sym (total_quiet one_reset item c.sent refl);
       };
-      windows = windows_sent h.windows c.received c.sent c.unreturned item h.windows.recv refl
+      windows = windows_sent h.windows c.received c.sent c.calls c.unreturned item h.windows.recv refl
           (omega arith) g.windows;
       peer = g.peer;
       own = own_sent h.own c.role (confirmed c) c.sent item refl g.own;
@@ -205,14 +206,14 @@ pub open_up : (e : End) (log : Log) (fields : List Field) (end : Bool) → log.r
     → Up (after_call e (Open fields end))
     (with_call log (Open fields end) (Number (log_view log).next_number))
 unfolding after_call with_call with_items items_of stream_of_act encoder_after_call released
-    unreleased
+    widened unreleased
 open_up e log fields end client odd above clear is =
     let act = Open fields end in
     let id = (log_view log).next_number in
     let base = called log act (Number id) in
     let octets = block_of log.encoder fields in
     let went = called_going e log act (Number id) (after_block log.encoder fields) refl (λ i. refl)
-    is.going in
+    refl is.going in
     let f = with_encoder e (after_block log.encoder fields) in
     let opened_one = record f {
       streams = record f.streams {

@@ -2,7 +2,8 @@
 use Rattle.std.specs.FinMap as map
 use Rattle.h2_laws_machine.proofs.Names
 use Names.{◌≡◌, ◌≢◌, ℕ, ◌+◌, ◌-◌, ◌∷◌, pos, sym, ap, ◌∙◌, Log, Act, Done, End, View}
-use Names.{◌==◌, list_any, given_on, released, log_view, with_sent, with_call, StreamMap, total_one}
+use Names.{◌==◌, list_any, given_on, widened, released, log_view, with_sent, with_call, StreamMap}
+use Names.{total_one}
 use Names.{Bool, Option, subst, ne_eqb, window, active, Answer, called, items_of, ended_in, get_set}
 use Names.{true, List, ◌++◌, ◌+ℤ◌, Some, refl, arith, ints, Item, alone, Role, ends, total, Event}
 use Names.{false, if◌then◌else◌, nat_cmp_total, with_unreturned, encoder_after_call, increment_here}
@@ -61,6 +62,7 @@ owed_less_advances : (h : CoreFacts) (c : Core) (id count : ℕ) → active_by_i
             (active_entry (record (said c id) { owed = kept_back c id - count }));
       };
     }) (with_release c id count)
+unfolding widened
 owed_less_advances h c id count active_is g =
     let next = record (said c id) { owed = kept_back c id - count } in
     let base = with_release c id count in

@@ -2,6 +2,7 @@
 use Rattle.std.specs.FinMap as map
 use Rattle.h2_laws_machine.proofs.Names
 use Names.{◌≡◌, ◌≢◌, ℕ, ◌+◌, ◌-◌, Bool, true, false, List, [], ◌∷◌, is_some, refl, sym, ap, ◌∙◌}
+use Names.{widened}
 use Names.{arith, false_from_ne_true, both_ways, eq-eqb, list_any, Reset, Item, alone, resets}
 use Names.{one_reset, first_window, Log, active, unreleased, released, ResetStream, Done, with_sent}
 use Names.{with_unreturned, owed_at_close, with_items, with_call, items_of, stream_of_act}
@@ -64,7 +65,7 @@ reset_advances h c id code count active_is one g =
           (others_same c id code) (closed_here c id code) (reset_here id code c.sent))
           (used_wrote c.role item c.received c.sent (λ items. refl)) refl
           (omega (arith, g.streams.resets, total_one one_reset item c.sent)) g.streams);
-      windows = windows_sent h.windows c.received c.sent c.unreturned item h.windows.recv refl
+      windows = windows_sent h.windows c.received c.sent c.calls c.unreturned item h.windows.recv refl
           (omega arith) g.windows;
       peer = g.peer;
       own = own_sent h.own c.role (confirmed c) c.sent item refl g.own;
@@ -110,5 +111,6 @@ reset_up e log base id code was active_is is =
 pub reset_call_up : (e : End) (log : Log) (id code : ℕ) → active log id ≡ true → Up e log
     → Up (after_call e (ResetStream id code)) (with_call log (ResetStream id code) Done)
 unfolding after_call with_call with_items items_of stream_of_act encoder_after_call released
+    widened
 reset_call_up e log id code active_is is =
-    reset_up _ _ _ _ _ active_is active_is (called_up _ _ _ Done refl (λ i. refl) is)
+    reset_up _ _ _ _ _ active_is active_is (called_up _ _ _ Done refl (λ i. refl) refl is)

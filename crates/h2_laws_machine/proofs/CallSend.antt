@@ -3,6 +3,7 @@
 use Rattle.std.specs.FinMap as map
 use Rattle.h2_laws_machine.proofs.Names
 use Names.{◌≡◌, ℕ, suc, ◌+◌, ◌-◌, ◌≤◌, ◌==◌, not, ◌&&◌, Bool, true, false, if◌then◌else◌, List, []}
+use Names.{widened}
 use Names.{◌∷◌, ◌++◌, length, take, ℤ, pos, ◌-ℤ◌, Option, Some, None, refl, sym, ap, subst, ◌∙◌}
 use Names.{arith, list_any, ints, length-take-le, Field, block_of, after_block, Item, block, End}
 use Names.{end_view, active_entry, owed_entry, log_view, stream_of_log, data_on, data_of, ends}
@@ -88,12 +89,12 @@ pub fields_up : (e : End) (log : Log) (id : ℕ) (fields : List Field) (end : Bo
     → active log id ≡ true → list_any (ends id) log.sent ≡ false → Up e log
     → Up (after_call e (SendFields id fields end)) (with_call log (SendFields id fields end) Done)
 unfolding after_call with_call with_items items_of stream_of_act encoder_after_call released
-    unreleased
+    widened unreleased
 fields_up e log id fields end active_is goes is =
     let run = is.going in
     let base = called log (SendFields id fields end) Done in
     let ran = called_going e log (SendFields id fields end) Done (after_block log.encoder fields)
-    refl (λ i. refl) run in
+    refl (λ i. refl) refl run in
     let opened = (active_parts log.role id log.received log.sent log.reported active_is).opened in
     let conserved : e.windows.send + (0 + total data_of log.sent) ≡ given_on_connection log.received
     = omega (arith, run.windows.send) in
@@ -151,15 +152,16 @@ data_by : (e : End) (log : Log) (id : ℕ) (octets : List ℕ) (end : Bool) (cou
     (with_sent (called log (SendData id octets end) (Count count))
     (if b then [] else data_frames (suc count) (end_view e).max_payload id (take count octets)
     (end && count == length octets))))
-unfolding with_sent released encoder_after_call unreleased
+unfolding with_sent released widened encoder_after_call unreleased
 data_by e log id octets end count true active_is goes within is =
     let base = called log (SendData id octets end) (Count count) in
-    nothing_unreturned _ _ _ _ (owes_active _ _ _ active_is) (called_up _ _ _ _ refl (λ i. refl) is)
+    nothing_unreturned _ _ _ _ (owes_active _ _ _ active_is) (called_up _ _ _ _ refl (λ i. refl)
+    refl is)
 data_by e log id octets end count false active_is goes within is =
     let run = is.going in
     let base = called log (SendData id octets end) (Count count) in
     let ran = called_going e log (SendData id octets end) (Count count) e.output.encoder run.encoder
-    (λ i. refl) run in
+    (λ i. refl) refl run in
     let last = end && count == length octets in
     let size : length (take count octets) ≡ count = length-take-le count octets within.whole in
     let items = data_frames (suc count) (end_view e).max_payload id (take count octets) last in

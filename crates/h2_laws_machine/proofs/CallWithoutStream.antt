@@ -8,7 +8,8 @@ use Names.{if◌then◌else◌, length-append, WindowUpdate, before_put_out, str
 use Names.{length, encoding_of_items, encoder_after_call, returns_before_put_out, before_put_out_at}
 use Names.{Option, reported_total, ChangeSettings, settings_count, last_processed, max_payload_sent}
 use Names.{Settings, is_server, with_sent, MayAnswer, with_call, refusal_of, after_call, Represents}
-use Names.{end_view, one_ping, one_pong, SendPing, waiting, released, first_of, items_of, answer_of}
+use Names.{Widen, widened, end_view, one_ping, one_pong, SendPing, waiting, released, first_of}
+use Names.{items_of, answer_of}
 use Rattle.std.proofs.lemmas.List.{drop-drop, drop_min, length-drop}
 use Rattle.h2_spec_log.specs.CallRules.{update_size}
 use Rattle.h2_laws_log.proofs.CreditCases.{put_out_cases}
@@ -18,8 +19,8 @@ use Rattle.h2_laws_machine.proofs.RepresentedSteps.{called_going, Up, up_of, rep
 use Rattle.h2_laws_machine.proofs.RepresentedSteps.{wrote_up, called_up, ready_up}
 use Rattle.h2_laws_machine.proofs.RepresentedSteps.{nothing_unreturned, views_of_up}
 use Rattle.h2_laws_machine.proofs.SentConnectionItems.{ping_advances, goaway_advances}
-use Rattle.h2_laws_machine.proofs.SentConnectionItems.{settings_advance}
-use Rattle.h2_laws_machine.proofs.SentQuietItems.{called_streams}
+use Rattle.h2_laws_machine.proofs.SentConnectionItems.{settings_advance, widened_advances}
+use Rattle.h2_laws_machine.proofs.SentQuietItems.{called_streams, granted_advances}
 use Rattle.h2_laws_machine.proofs.WaitingOutput.{OutputOf}
 
 -- A PING is sent.
@@ -27,10 +28,11 @@ pub ping_up : (e : End) (log : Log) (octets : List ℕ)
     → reported_total one_pong log.reported ≤ total one_ping log.sent → Up e log
     → Up (after_call e (SendPing octets)) (with_call log (SendPing octets) Done)
 unfolding after_call with_call with_items items_of stream_of_act encoder_after_call released
+    widened
 ping_up e log octets enough is =
     let base = called log (SendPing octets) Done in
     let went = called_going e log (SendPing octets) Done e.output.encoder is.going.encoder
-    (λ i. refl) is.going in
+    (λ i. refl) refl is.going in
     nothing_unreturned _ log _ 0 (owes_none log _)
     (wrote_up e (record e { ping = Some octets }) base (alone (Ping false octets) ∷ []) is.role
     is.up is.same refl is.waits is.started
@@ -41,11 +43,11 @@ pub goaway_up : (e : End) (log : Log) → (is_server log.role ≡ true → (i : 
     → i ≤ last_processed log) → Up e log
     → Up (after_call e SendGoAway) (with_call log SendGoAway Done)
 unfolding after_call with_call with_items items_of stream_of_act encoder_after_call released
-    last_processed
+    widened last_processed
 goaway_up e log low is =
     let base = called log SendGoAway Done in
     let went = called_going e log SendGoAway Done e.output.encoder is.going.encoder (λ i. refl)
-    is.going in
+    refl is.going in
     let all : Up (record (queue_output e (alone (GoAway (last_processed log) 0 []) ∷ []))
     { goaway = record e.goaway { sent = Some (last_processed log) } })
     (with_sent base (alone (GoAway (last_processed log) 0 []) ∷ [])) =
@@ -63,10 +65,11 @@ pub settings_up : (e : End) (log : Log) (values : Values) → acked log ≤ sett
     → 1 ≤ settings_count log.sent → Up e log
     → Up (after_call e (ChangeSettings values)) (with_call log (ChangeSettings values) Done)
 unfolding after_call with_call with_items items_of stream_of_act encoder_after_call released
+    widened
 settings_up e log values enough some is =
     let base = called log (ChangeSettings values) Done in
     let went = called_going e log (ChangeSettings values) Done e.output.encoder is.going.encoder
-    (λ i. refl) is.going in
+    (λ i. refl) refl is.going in
     let written = value_read 5 16384 log.sent in
     let item = alone (Settings false (changed_pairs log.role written values)) in
     let all : Up (record (queue_output e (item ∷ []))
@@ -78,6 +81,24 @@ settings_up e log values enough some is =
     (record (queue_output e (items_of view (ChangeSettings values) Done))
     { own = record e.own { awaited = Some values } }) (with_sent base (item ∷ [])))
     (sym (views_of_up e log is)) all)
+
+-- The connection's window is widened.
+pub widen_up : (e : End) (log : Log) (count : ℕ) → Up e log
+    → Up (after_call e (Widen count)) (with_call log (Widen count) Done)
+unfolding after_call with_call with_items items_of stream_of_act encoder_after_call
+widen_up e log count is =
+    let base = called log (Widen count) Done in
+    let granted = granted_advances (core_facts e) (core log) count is.going in
+    let wide = widened_advances (core_facts (record e {
+      windows = record e.windows { granted = e.windows.granted + count };
+    })) (core base) count granted in
+    nothing_unreturned _ log _ 0 (owes_none log _)
+    (wrote_up e (record e {
+      windows = record e.windows {
+        recv = e.windows.recv + count;
+        granted = e.windows.granted + count;
+      };
+    }) base (alone (WindowUpdate 0 count) ∷ []) is.role is.up is.same refl is.waits is.started wide)
 
 -- Octets are put out of what waits.
 put_out_waits : (e : End) (log : Log) (count n : ℕ) → n ≡ min count (waiting log) → OutputOf e log
@@ -113,10 +134,10 @@ ready_waits log act answer =
 put_out_up : (e : End) (log : Log) (count n : ℕ) → n ≡ min count (waiting (before_put_out log))
     → Up e log
     → Up (after_call e (PutOut count)) (with_call log (PutOut count) (Count n))
-unfolding after_call with_call encoder_after_call released
+unfolding after_call with_call encoder_after_call released widened
 put_out_up e log count n is up =
     let base = called log (PutOut count) (Count n) in
-    let made = ready_up e base (called_up e log (PutOut count) (Count n) refl (λ i. refl) up) in
+    let made = ready_up e base (called_up e log (PutOut count) (Count n) refl (λ i. refl) refl up) in
     let waits = put_out_waits (before_put_out_at e) (before_put_out base) count n (is
     ∙ ap (min count) (sym (ready_waits log (PutOut count) (Count n)))) made.waits in
     let all : Up (record (before_put_out_at e) {

@@ -112,7 +112,7 @@ counts_kept = record {
     most = h.most;
     clear = λ j above. h.clear j (omega (arith, most, above));
   };
-  windows = λ e more later windows same most h. h;
+  windows = λ e more later windows same most wide h. h;
   set = λ e more later i stream next active same stays h. entry_set e.streams.active_count
       e.streams.resets e.streams.highest _ _ _ _ i (active_entry next)
       (omega (arith, active_by (map.get e.streams.entries i) (Some stream) active))

@@ -69,11 +69,13 @@ pub record IsEndInvariant (Typed Seen : Type 0) (P : ℕ → End → Type 0) (Q 
       → (e.streams.last_processed ≤ e.streams.highest → last ≤ highest) → P 0 e
       → P 0 (record e { streams = record e.streams { highest = highest; last_processed = last } })
   -- octets pass between the receive window, what is unreturned and what is still to be
-  -- returned, all in all as many; and the send window grows no further than the greatest
+  -- returned, all in all as many, but for what the window is widened by; and neither it nor the
+  -- send window grows further than the greatest
   pub windows : (e : End) (more later : ℕ) (windows : ConnectionWindows)
-      → windows.recv + (windows.unreturned + later)
-      ≡ e.windows.recv + (e.windows.unreturned + more)
-      → (e.windows.send ≤ greatest_window → windows.send ≤ greatest_window) → P more e
+      → (windows.recv + (windows.unreturned + later)) + e.windows.granted
+      ≡ (e.windows.recv + (e.windows.unreturned + more)) + windows.granted
+      → (e.windows.send ≤ greatest_window → windows.send ≤ greatest_window)
+      → (e.windows.granted ≤ greatest_window → windows.granted ≤ greatest_window) → P more e
       → P later (record e { windows = windows })
   -- an active stream is changed, and what is owed on it becomes still to be returned, or was
   pub set : (e : End) (more later i : ℕ) (stream next : StreamView) → stream_at e i ≡ Some stream

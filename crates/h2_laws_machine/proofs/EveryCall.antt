@@ -10,6 +10,7 @@ use Names.{false, cond_both, set_stream, after_data, after_call, none_since, dat
 use Names.{[], refuse_fault, with_encoder, queue_output, reset_stream, after_release, neither_other}
 use Names.{length, Option, is_some, ap, GoAway, Release, Refuse, PutOut, owed_on, end_view, size_of}
 use Names.{after_block, SendFields, ResetStream, SendGoAway, full_output, after_refuse, size-goaway}
+use Names.{Widen, size-update}
 use Rattle.std.proofs.Common.{leb-false, ltb-false, ltb-true}
 use Rattle.hpack.proofs.WrittenBlocks.{block_goes_on}
 use Rattle.h2_spec_log.specs.CallRules.{is_full, is_no_stream}
@@ -59,7 +60,7 @@ module _ {Typed Seen : Type 0} {P : ℕ → End → Type 0} {Q : End → Type 0}
       (updated steady after 0 i stream next active (omega arith)
       (λ apart peer own. sent_fits_stream _ _ stream count (end && count == length octets)
       (lets stream refl) peer)
-      (steady.windows _ 0 0 windows refl (λ most. omega (arith, most)) wrote))
+      (steady.windows _ 0 0 windows refl (λ most. omega (arith, most)) (λ wide. wide) wrote))
 
   -- Octets were released, of those that are owed.
   released : (e : End) (i count : ℕ) (x : Option StreamView) → stream_at e i ≡ x
@@ -74,6 +75,7 @@ module _ {Typed Seen : Type 0} {P : ℕ → End → Type 0} {Q : End → Type 0}
       } in
       steady.windows (set_stream e i next) count 0
       (record e.windows { recv = e.windows.recv + count }) (omega arith) (λ within. within)
+      (λ wide. wide)
       (steady.set e 0 count i stream next active (omega (arith, most))
       (λ apart peer own. released_fits_stream _ _ stream count most) h)
 
@@ -179,6 +181,17 @@ module _ {Typed Seen : Type 0} {P : ℕ → End → Type 0} {Q : End → Type 0}
       steady.kept _ (steady.awaits _ values typed
       (written e (items_of view (ChangeSettings values) Done) none.1.0
       (λ good. omega (arith, size-change)) (up_since e none.0 h)))
+  made e (Widen count) none typed h =
+      let view = end_view e in
+      let wide : ConnectionWindows =
+      record e.windows {
+        recv = e.windows.recv + count;
+        granted = e.windows.granted + count;
+      } in
+      steady.kept _ (steady.windows _ 0 0 wide (omega arith) (λ most. most)
+      (λ within. ltb-false _ _ (neither_other (count == 0) _ none.1.1.0))
+      (written e (items_of view (Widen count) Done) none.1.0
+      (λ good. omega (arith, size-update)) (up_since e none.0 h)))
 
   -- A call that isn't refused was made.
   pub call_keeps : (e : End) (act : Act) → refusal_of (end_view e) act ≡ None

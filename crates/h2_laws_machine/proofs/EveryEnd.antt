@@ -48,12 +48,13 @@ module _ {Typed Seen : Type 0} {P : ℕ → End → Type 0} {Q : End → Type 0}
   credited e space h =
       let items : List Item = alone (WindowUpdate 0 e.windows.unreturned) ∷ [] in
       steady.windows (queue_output e items) 0 0 (return_credit e).windows (omega arith)
-      (λ most. most) (steady.joined e 0 items (λ typed within. omega (arith, size-update)) h)
+      (λ most. most) (λ wide. wide) (steady.joined e 0 items (λ typed within. omega (arith, size-update)) h)
 
   -- What is still to be returned is unreturned.
   unreturned : (more : ℕ) (e : End) → P more e → P 0 (more_unreturned e more)
   unreturned more e h =
-      steady.windows e more 0 (more_unreturned e more).windows (omega arith) (λ most. most) h
+      steady.windows e more 0 (more_unreturned e more).windows (omega arith) (λ most. most)
+      (λ wide. wide) h
 
   -- What is still to be returned is unreturned, or is returned at once.
   pub returned_keeps : (more : ℕ) (e : End) → P more e → P 0 (add_unreturned more e)
@@ -107,7 +108,7 @@ module _ {Typed Seen : Type 0} {P : ℕ → End → Type 0} {Q : End → Type 0}
       → P count (narrow_recv_window e count)
   narrowed e count within h =
       steady.windows e 0 count (narrow_recv_window e count).windows (omega (arith, within))
-      (λ most. most) h
+      (λ most. most) (λ wide. wide) h
 
   -- DATA was reported, which is within both windows.
   data_reported : (e : End) (i count : ℕ) (end : Bool) (x : Option StreamView) → stream_at e i ≡ x
@@ -160,7 +161,7 @@ module _ {Typed Seen : Type 0} {P : ℕ → End → Type 0} {Q : End → Type 0}
       } else e)
   widened_by e increment true most h =
       steady.windows e 0 0 (record e.windows { send = e.windows.send + increment }) refl
-      (λ within. most refl) h
+      (λ within. most refl) (λ wide. wide) h
   widened_by e increment false most h = h
 
   -- A send window is widened to no more than the greatest.

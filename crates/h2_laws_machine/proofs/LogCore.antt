@@ -102,7 +102,7 @@ pub record Advances (e : CoreFacts) (c : Core) : Type 0 where
   pub reading : RepresentsReading e.reading c.begun c.table
   pub encoder : e.encoder ≡ c.encoder
   pub streams : StreamsOf e.streams c
-  pub windows : RepresentsWindows e.windows c.received c.sent c.unreturned
+  pub windows : RepresentsWindows e.windows c.received c.sent c.calls c.unreturned
   pub peer : RepresentsPeer e.peer c.received
   pub own : RepresentsOwn e.own c.role (confirmed c) c.sent
   pub goaway : RepresentsGoAways e.goaway c.received c.sent

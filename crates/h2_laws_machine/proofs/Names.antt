@@ -4,6 +4,7 @@ unfoldable pub use Rattle.h2_block.specs.Grouping.{fault_inside, fault_outside}
 unfoldable pub use Rattle.h2_frame.specs.Encoding.{stream_of}
 unfoldable pub use Rattle.h2_laws_log.specs.Sums.{sum_below}
 unfoldable pub use Rattle.h2_laws_machine.specs.Machines.{end_after, machine_after, MayStep}
+pub use Rattle.h2_spec_log.specs.Acts.{Widen}
 unfoldable pub use Rattle.h2_spec_log.specs.Acts.{IsTypedAct}
 unfoldable pub use Rattle.h2_spec_log.specs.CallRules.{changed_pairs, conditions, data_frames}
 unfoldable pub use Rattle.h2_spec_log.specs.CallRules.{data_items, encoder_after_call, first_of}
@@ -23,7 +24,7 @@ unfoldable pub use Rattle.h2_spec_log.specs.Items.{increment_on, is_goaway, one_
 unfoldable pub use Rattle.h2_spec_log.specs.Log.{active_count, last_processed, least_goaway, output}
 unfoldable pub use Rattle.h2_spec_log.specs.Log.{allowed_by, newest_ping, next_active, next_number}
 unfoldable pub use Rattle.h2_spec_log.specs.Log.{max_payload_sent_by, max_streams, next_unprocessed}
-unfoldable pub use Rattle.h2_spec_log.specs.Log.{released, unreleased, waiting}
+unfoldable pub use Rattle.h2_spec_log.specs.Log.{released, widened, unreleased, waiting}
 unfoldable pub use Rattle.h2_spec_log.specs.LogCalls.{before_put_out, opened, with_call, with_items}
 unfoldable pub use Rattle.h2_spec_log.specs.LogSteps.{owed_at_close, used, with_frame}
 unfoldable pub use Rattle.h2_spec_log.specs.LogSteps.{with_reported, with_sent, with_step}

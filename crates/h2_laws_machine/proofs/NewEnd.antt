@@ -1,6 +1,7 @@
 -- A new machine represents the log of a new end.
 use Rattle.h2_laws_machine.proofs.Names
 use Names.{◌≡◌, ℕ, ◌%◌, ◌==◌, true, false, [], ◌∷◌, Some, refl, sym, ◌∙◌, arith, nat_cmp, and_left}
+use Names.{widened}
 use Names.{and_right, Settings, alone, Role, Client, Server, data_on, data_of, increment_on}
 use Names.{is_block_on, ends, resets, is_goaway, one_ping, one_reset, total, greatest_block}
 use Names.{one_acked, one_pong, reported_total, greatest_processed, Values, AreInRange, is_server}
@@ -104,7 +105,7 @@ new_streams role values = record {
 -- The values of a new machine are those of a new log.
 new_running : (role : Role) (values : Values)
     → RepresentsWhileUp (new_end role values) (opened role values)
-unfolding computing
+unfolding computing widened
 new_running role values = assumption (new_max_streams role values, new_awaited role values)
 
 -- A new machine represents a new log.

@@ -2,12 +2,12 @@
 -- its log.
 use Rattle.std.specs.FinMap as map
 use Rattle.h2_laws_machine.proofs.Names
-use Names.{◌≡◌, first_window, unreleased, owed_entry, owed_total, StreamView, Represents, sum_below}
+use Names.{◌≡◌, unreleased, owed_entry, owed_total, StreamView, Represents, sum_below}
 use Names.{ℕ, ◌+◌, ◌<◌, ℤ, pos, ◌+ℤ◌, ◌-ℤ◌, None, refl, ap, ◌∙◌, ints, Item, ends, Log, End}
 use Names.{Bool, true, false, List, ◌++◌, arith, list_any, data_of, total, Values, active, entry_by}
 use Names.{if◌then◌else◌, increment_on, send_window, connection_send_window, connection_recv_window}
 use Rattle.h2_laws_log.proofs.WindowsOfTwoEnds.{connection_meets}
-use Rattle.h2_spec_log.specs.Log.{recv_window, owed}
+use Rattle.h2_spec_log.specs.Log.{recv_window, owed, granted}
 use Rattle.h2_laws_machine.proofs.OwedSums.{total-sum, same_sum}
 
 -- What is owed on what is kept of a number, by whether it is active and was reset.
@@ -36,25 +36,27 @@ owed_on_all values e log n represents up above =
     (λ i. owed_entry (map.get e.streams.entries i)) (owed log)
     (λ i below. ap owed_entry (represents.streams.entries i) ∙ owed_by _ _ (kept_stream log i))
 
--- What was granted less what has come, with what is owed and unreturned, is the first window.
-window_by : (recv_window come granted owing unreturned whole : ℕ)
-    → recv_window + (owing + unreturned) ≡ whole → recv_window + come ≡ granted
-    → (pos granted -ℤ pos come) +ℤ pos (owing + unreturned) ≡ pos whole
-window_by recv_window come granted owing unreturned whole is came = omega (arith, ints)
+-- What was given less what has come, with what is owed and unreturned, is the whole window.
+window_by : (recv_window come given owing unreturned whole : ℕ)
+    → recv_window + (owing + unreturned) ≡ whole → recv_window + come ≡ given
+    → (pos given -ℤ pos come) +ℤ pos (owing + unreturned) ≡ pos whole
+window_by recv_window come given owing unreturned whole is came = omega (arith, ints)
 
--- What the peer may send on the connection, by an end's log, is all but what is owed and
--- unreturned.
+-- What the peer may send on the connection, by an end's log, is all of what it was granted but what
+-- is owed and unreturned.
 pub window_of_a_log : (values : Values) (e : End) (log : Log) (n : ℕ) → Represents values e log
     → e.failed ≡ None → e.streams.highest < n
     → connection_recv_window log.received log.sent +ℤ pos (sum_below n (owed log) + log.unreturned)
-    ≡ pos first_window
+    ≡ pos (granted log)
 window_of_a_log values e log n represents up above =
-    window_by _ _ _ _ log.unreturned first_window (omega (
+    let run = represents.running up in
+    window_by _ _ _ _ log.unreturned (granted log) (omega (
       arith,
       represents.whole,
       owed_on_all values e log n represents up above,
-      (represents.running up).windows.unreturned,
-    )) (represents.running up).windows.recv
+      run.windows.unreturned,
+      run.windows.granted,
+    )) run.windows.recv
 
 -- What is under way may be added in two steps.
 pub in_steps : (send_window : ℤ) (back others : ℕ)
@@ -69,7 +71,7 @@ pub window_is_conserved : (values others : Values) (e other : End) (log theirs :
     → log.sent ≡ way ++ theirs.received → theirs.sent ≡ back ++ log.received
     → (connection_send_window log.received log.sent +ℤ pos (total data_of way))
     +ℤ pos (total (increment_on 0) back + (sum_below n (owed theirs) + theirs.unreturned))
-    ≡ pos first_window
+    ≡ pos (granted theirs)
 window_is_conserved values others e other log theirs way back n represents represented up too above
     sent_data gave =
     in_steps _ _ (sum_below n (owed theirs) + theirs.unreturned) ∙ ap

@@ -42,12 +42,13 @@ ReadingFits begun table =
     ((one : Begun) → begun ≡ Some one → length one.octets ≤ max_block_octets)
     × (table_size table.entries ≤ table.maximum) × (table.maximum ≤ max_table_limit)
 
--- The ranges of an end: of numbers of streams, of the connection's send window, of the peer's
+-- The ranges of an end: of numbers of streams, of the connection's windows, of the peer's
 -- initial window, of own settings, of streams, and of what was read.
 abbrev pub Fits : End → Type 0
 Fits e =
     NumbersFit e.streams.highest e.streams.last_processed e.goaway.sent
-    × (e.windows.send ≤ greatest_window) × (e.peer.initial_window ≤ greatest_window) × OwnFit e.own
+    × ((e.windows.send ≤ greatest_window) × (e.windows.granted ≤ greatest_window))
+    × (e.peer.initial_window ≤ greatest_window) × OwnFit e.own
     × StreamsFit e.peer.initial_window e.own.in_force.initial_window e.streams.entries
     × ReadingFits e.reading.begun e.reading.table
 
@@ -137,7 +138,8 @@ ranges_kept = record {
   table = λ e decoded item known h. table_fits e decoded item (known tt) h;
   numbered = λ e highest last most range less h.
       ((range tt h.0.0, less h.0.1, h.0.2), h.1, h.2, h.3, h.4, h.5);
-  windows = λ e more later windows same most h. (h.0, most h.1, h.2, h.3, h.4, h.5);
+  windows = λ e more later windows same most wide h.
+      (h.0, (most h.1.0, wide h.1.1), h.2, h.3, h.4, h.5);
   set = λ e more later i stream next active same stays h.
       let one = h.4 i stream active in
       let all = set_fits _ _ _ i next one.0 (stays one.0 h.2 h.3.0 one.1) h.4 in
@@ -193,7 +195,7 @@ pub new_fits : (role : Role) (values : Values) → AreInRange values → Fits (n
 unfolding new_end
 new_fits role values in_range = (
   (omega arith, omega arith, λ last is. absurd (cc)),
-  omega arith,
+  (omega arith, omega arith),
   omega arith,
   (
     omega arith,

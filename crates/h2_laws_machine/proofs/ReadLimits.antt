@@ -3,7 +3,8 @@
 use Rattle.h2_laws_machine.proofs.Names
 use Names.{◌≡◌, ◌≤◌, ◌==◌, ◌&&◌, Bool, List, ◌-ℤ◌, Some, None, refl, Item, Code, Role, Open, acked}
 use Names.{ℕ, suc, ◌+◌, ◌-◌, not, max, pos, sym, ap, ◌∙◌, Act, Log, End, Fail}
-use Names.{length, ChangeSettings, returns_credit, most_max_frame, settings_count, ValuesAreInRange}
+use Names.{length, ChangeSettings, Widen, returns_credit, most_max_frame, settings_count}
+use Names.{ValuesAreInRange}
 use Names.{Option, arith, ltb-true, Values, SendData, Refuse, SendPing, PutOut, end_view, stream_at}
 use Names.{is_some, returns_before_put_out, after_fields_sent, before_put_out_at, close_unprocessed}
 use Names.{ltb-false, cond_both, Release, own_value, StreamView, after_call, after_data, Represents}
@@ -123,6 +124,7 @@ own_of_call e (PutOut count) others =
     cond_both (returns_before_put_out (end_view e)) _ _ (Has e.own) (λ returns. refl)
     (λ keeps. refl)
 own_of_call e (ChangeSettings values) others = absurd (others values refl)
+own_of_call e (Widen count) others = refl
 
 -- The limit of own settings is within its bounds where both values are.
 newest_in_range : (own : OwnSettings) (awaited : Option Values) → own.awaited ≡ awaited

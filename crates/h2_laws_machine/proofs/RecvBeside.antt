@@ -15,7 +15,7 @@ use Rattle.h2_laws_machine.proofs.SentQuietItems.{ping_sent}
 pub record Beside (h : CoreFacts) (c : Core) : Type 0 where
   pub reading : RepresentsReading h.reading c.begun c.table
   pub encoder : h.encoder ≡ c.encoder
-  pub windows : RepresentsWindows h.windows c.received c.sent c.unreturned
+  pub windows : RepresentsWindows h.windows c.received c.sent c.calls c.unreturned
   pub peer : RepresentsPeer h.peer c.received
   pub own : RepresentsOwn h.own c.role (confirmed c) c.sent
   pub goaway : RepresentsGoAways h.goaway c.received c.sent
@@ -45,7 +45,8 @@ pub beside_read : (h : CoreFacts) (c : Core) (item : Item) (send recv : ℕ) →
     → Beside (record h { windows = record h.windows { send = send; recv = recv } }) (reads c item)
 beside_read h c item send recv q wider less g =
     assumption (
-      windows_read h.windows c.received c.sent c.unreturned item send recv wider less g.windows,
+      windows_read h.windows c.received c.sent c.calls c.unreturned item send recv wider less
+          g.windows,
       peer_read h.peer c.received item q.settings g.peer,
       goaways_read h.goaway c.received c.sent item q g.goaway,
       g,
@@ -69,7 +70,7 @@ beside_reset h c id code g =
     record {
       reading = g.reading;
       encoder = g.encoder;
-      windows = windows_sent _ _ _ _ _ h.windows.recv refl (omega arith) g.windows;
+      windows = windows_sent _ _ _ _ _ _ h.windows.recv refl (omega arith) g.windows;
       peer = g.peer;
       own = own_sent h.own c.role (confirmed c) c.sent item refl g.own;
       goaway = goaways_sent h.goaway c.received c.sent item refl refl g.goaway;

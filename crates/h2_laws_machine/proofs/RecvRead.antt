@@ -1,6 +1,7 @@
 -- What reading an item makes of each subject of an end, by what it makes of the streams.
 use Rattle.h2_laws_machine.proofs.Names
 use Names.{◌≡◌, ℕ, ◌+◌, List, [], ◌∷◌, refl, sym, ◌∙◌, arith, Item, ends, total, Event, Role}
+use Names.{Act, Answer}
 use Names.{true, least_goaway, increment_on, one_settings, first_window, PeerSettings, active_parts}
 use Names.{false, list_any, data_of, openings, is_over, given_on, GoAways, Streams, Client, Server}
 use Names.{zero-add, allowed_by, data_on, is_block_on, is_goaway, value_read, is_active, value_kept}
@@ -60,15 +61,18 @@ goaways_read goaway received sent item q g = record {
 }
 
 -- The connection's windows, where an item is read.
-pub windows_read : (windows : ConnectionWindows) (received sent : List Item) (unreturned : ℕ)
-    (item : Item) (send recv : ℕ) → send ≡ windows.send + increment_on 0 item
-    → recv + data_of item ≡ windows.recv → RepresentsWindows windows received sent unreturned
-    → RepresentsWindows (record windows { send = send; recv = recv }) (item ∷ received) sent
+pub windows_read : (windows : ConnectionWindows) (received sent : List Item)
+    (calls : List (Act × Answer)) (unreturned : ℕ) (item : Item) (send recv : ℕ)
+    → send ≡ windows.send + increment_on 0 item
+    → recv + data_of item ≡ windows.recv → RepresentsWindows windows received sent calls
+    unreturned
+    → RepresentsWindows (record windows { send = send; recv = recv }) (item ∷ received) sent calls
     unreturned
 unfolding total given_on_connection
-windows_read windows received sent unreturned item send recv wider less g = record {
+windows_read windows received sent calls unreturned item send recv wider less g = record {
   send = omega (arith, wider, g.send);
   recv = omega (arith, less, g.recv);
+  granted = g.granted;
   unreturned = g.unreturned;
 }
 
@@ -84,7 +88,8 @@ pub read_step : (h : CoreFacts) (c : Core) (item : Item) (streams : Streams) (se
 read_step h c item streams send recv q are wider less g =
     assumption (
       are,
-      windows_read h.windows c.received c.sent c.unreturned item send recv wider less g.windows,
+      windows_read h.windows c.received c.sent c.calls c.unreturned item send recv wider less
+          g.windows,
       peer_read h.peer c.received item q.settings g.peer,
       goaways_read h.goaway c.received c.sent item q g.goaway,
       g,

@@ -171,7 +171,7 @@ settings_read h c pairs begun g =
       reading = record { begun = g.reading.begun; table = g.reading.table };
       encoder = ap (λ (x : EncoderState). encoder_after_settings x pairs) g.encoder;
       streams = settings_streams _ _ _ g;
-      windows = windows_read _ _ _ _ _ _ _ (omega (arith, settings_give 0 pairs))
+      windows = windows_read _ _ _ _ _ _ _ _ (omega (arith, settings_give 0 pairs))
           (omega (arith, settings_take pairs)) g.windows;
       peer = record {
         initial_window = ap (λ (n : ℕ). value_after 4 n pairs) g.peer.initial_window ∙ sym

@@ -52,7 +52,7 @@ goaway_read h c last code debug low g =
       encoder = g.encoder;
       streams = streams_same h.streams c (reads c item) (λ i. goaway_same i c last code debug)
           (goaway_used c last code debug) refl refl g.streams;
-      windows = windows_read h.windows c.received c.sent c.unreturned item h.windows.send
+      windows = windows_read h.windows c.received c.sent c.calls c.unreturned item h.windows.send
           h.windows.recv (omega arith) (omega arith) g.windows;
       peer = peer_read h.peer c.received item refl g.peer;
       own = g.own;

@@ -152,5 +152,4 @@ unprocessed_represents values e log s up some =
     (λ still. runs (close_unprocessed e n) (took_none log) (begun ∙ r.started
     ∙ ap (λ (fs : List Frame). not (length fs == 0)) (sym (reported_frames _ _
     ∙ returned_frames log more))) (b.going still))
-    (is_whole (close_unprocessed e n) (ended e n 0 (lacks_none e.windows.recv e.windows.unreturned
-    e.streams.highest e.streams.entries (holds e whole))))
+    (is_whole (close_unprocessed e n) (ended e n 0 (lacks_none e (holds e whole))))

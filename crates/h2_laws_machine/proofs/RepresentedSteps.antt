@@ -2,6 +2,7 @@
 -- returned.
 use Rattle.h2_laws_machine.proofs.Names
 use Names.{◌==◌, not, ◌≡◌, ℕ, ◌+◌, List, [], ◌∷◌, ◌++◌, length, None, refl, sym, ap, subst, ◌∙◌}
+use Names.{widened}
 use Names.{arith, WindowUpdate, Item, alone, end_view, End, log_view, View, Values, Act, Answer}
 use Names.{IsTypedAct, Log, active, released, unreleased, max_payload_sent, is_active, with_sent}
 use Names.{with_unreturned, with_credit_returned, owed_at_close, called, before_put_out, MayAnswer}
@@ -149,17 +150,19 @@ module _ (e : End) (log : Log) (act : Act) (answer : Answer) where
   -- The call is recorded, with the encoder after it.
   pub called_going : (encoder : EncoderState) → encoder ≡ encoder_after_call log.encoder act answer
       → ((i : ℕ) → released i ((act, answer) ∷ log.calls) ≡ released i log.calls)
-      → Going e (core log)
+      → widened ((act, answer) ∷ log.calls) ≡ widened log.calls → Going e (core log)
       → Going (record e { output = record e.output { encoder = encoder } })
       (core (called log act answer))
-  called_going encoder is same g = rw is (called_advances (core_facts e) (core log) _ _ same g)
+  called_going encoder is same wide g =
+      rw is (called_advances (core_facts e) (core log) _ _ same wide g)
 
   -- The call is recorded.
   pub called_up : log.encoder ≡ encoder_after_call log.encoder act answer
-      → ((i : ℕ) → released i ((act, answer) ∷ log.calls) ≡ released i log.calls) → Up e log
+      → ((i : ℕ) → released i ((act, answer) ∷ log.calls) ≡ released i log.calls)
+      → widened ((act, answer) ∷ log.calls) ≡ widened log.calls → Up e log
       → Up e (called log act answer)
-  called_up keeps same is = assumption (
-    called_going e.output.encoder (is.going.encoder ∙ keeps) same is.going,
+  called_up keeps same wide is = assumption (
+    called_going e.output.encoder (is.going.encoder ∙ keeps) same wide is.going,
     is,
   )
 

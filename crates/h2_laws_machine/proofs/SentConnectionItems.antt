@@ -71,7 +71,7 @@ ping_advances h c octets enough g =
       encoder = g.encoder;
       streams = streams_sent h.streams c item (ping_leaves false octets) (λ j some. refl)
           (own_quiet 4 first_window (confirmed c) item c.sent refl) g.streams;
-      windows = windows_sent _ _ _ _ _ h.windows.recv refl (omega arith) g.windows;
+      windows = windows_sent _ _ _ _ _ _ h.windows.recv refl (omega arith) g.windows;
       peer = g.peer;
       own = own_sent h.own c.role (confirmed c) c.sent item refl g.own;
       goaway = goaways_sent h.goaway c.received c.sent item refl refl g.goaway;
@@ -147,7 +147,7 @@ settings_advance h c values enough some g =
       encoder = g.encoder;
       streams = streams_sent h.streams c item (settings_leave false pairs) (λ j some. refl)
           (value_stays 4 first_window (confirmed c) pairs c.sent enough) g.streams;
-      windows = windows_sent _ _ _ _ _ h.windows.recv refl (omega arith) g.windows;
+      windows = windows_sent _ _ _ _ _ _ h.windows.recv refl (omega arith) g.windows;
       peer = g.peer;
       own = own_changed h.own c.role (confirmed c) c.sent values enough some g.own;
       goaway = goaways_sent h.goaway c.received c.sent item refl refl g.goaway;
@@ -221,7 +221,7 @@ goaway_advances h c last code low g =
       reading = g.reading;
       encoder = g.encoder;
       streams = goaway_streams h.streams c last code low g.streams;
-      windows = windows_sent _ _ _ _ _ h.windows.recv refl (omega arith) g.windows;
+      windows = windows_sent _ _ _ _ _ _ h.windows.recv refl (omega arith) g.windows;
       peer = g.peer;
       own = own_sent h.own c.role (confirmed c) c.sent item refl g.own;
       goaway = record { last_sent = refl; least_received = g.goaway.least_received };

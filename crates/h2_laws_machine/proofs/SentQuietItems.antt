@@ -6,7 +6,7 @@ use Names.{resets, one_reset, one_ping, is_goaway, is_goaway_below, total, great
 use Names.{one_settings, own_value, openings, is_above, is_over, is_active, first_window}
 use Names.{granted_on, granted_on_connection, EncoderState, Act, Answer, newest_ping, released}
 use Names.{ConnectionWindows, Streams, OwnSettings, GoAways, goaway_sent_last, RepresentsWindows}
-use Names.{RepresentsOwn, RepresentsGoAways}
+use Names.{RepresentsOwn, RepresentsGoAways, Widen, Done, widened}
 use Rattle.h2_laws_machine.proofs.ItemsApart.{IsApart}
 use Rattle.h2_laws_machine.proofs.LogCore.{Core, CoreFacts, Advances, StreamsOf, PingOf, confirmed}
 use Rattle.h2_laws_machine.proofs.LogCore.{active_by_items}
@@ -88,14 +88,16 @@ streams_sent s c item q gives own g =
     (used_wrote c.role item c.received c.sent q.greatest) refl (total_quiet one_reset _ _ q.reset) g
 
 -- The connection's windows, where an item is sent that isn't DATA.
-pub windows_sent : (windows : ConnectionWindows) (received sent : List Item) (unreturned : ℕ)
-    (item : Item) (recv : ℕ) → data_of item ≡ 0 → recv ≡ windows.recv + increment_on 0 item
-    → RepresentsWindows windows received sent unreturned
-    → RepresentsWindows (record windows { recv = recv }) received (item ∷ sent) unreturned
+pub windows_sent : (windows : ConnectionWindows) (received sent : List Item)
+    (calls : List (Act × Answer)) (unreturned : ℕ) (item : Item) (recv : ℕ) → data_of item ≡ 0
+    → recv ≡ windows.recv + increment_on 0 item
+    → RepresentsWindows windows received sent calls unreturned
+    → RepresentsWindows (record windows { recv = recv }) received (item ∷ sent) calls unreturned
 unfolding granted_on_connection total
-windows_sent windows received sent unreturned item recv none more g = record {
+windows_sent windows received sent calls unreturned item recv none more g = record {
   send = omega (arith, none, g.send);
   recv = omega (arith, more, g.recv);
+  granted = g.granted;
   unreturned = g.unreturned;
 }
 
@@ -157,7 +159,8 @@ pub quiet_sent : (h : CoreFacts) (c : Core) (item : Item) (streams : Streams) (r
 quiet_sent h c item streams recv q more are g =
     assumption (
       are,
-      windows_sent h.windows c.received c.sent c.unreturned item recv q.flow_of more g.windows,
+      windows_sent h.windows c.received c.sent c.calls c.unreturned item recv q.flow_of more
+          g.windows,
       own_sent h.own c.role (confirmed c) c.sent item q.settings g.own,
       goaways_sent h.goaway c.received c.sent item q.leaves (q.newest c.sent) g.goaway,
       ping_sent h.ping c item q.pings (q.ping c.sent) g.ping,
@@ -189,9 +192,38 @@ called_streams s c calls same g =
     (λ j. record { active = refl; was_reset = refl; stream = λ alive. rw (same j) refl }) refl refl
     refl g
 
--- A call that releases nothing changes no more than the encoder.
+-- The connection's windows don't hang on calls that widen nothing.
+called_windows : (windows : ConnectionWindows) (received sent : List Item)
+    (before calls : List (Act × Answer)) (unreturned : ℕ) → widened calls ≡ widened before
+    → RepresentsWindows windows received sent before unreturned
+    → RepresentsWindows windows received sent calls unreturned
+called_windows windows received sent before calls unreturned same g =
+    record { send = g.send; recv = g.recv; granted = rw same g.granted; unreturned = g.unreturned }
+
+-- A call that releases nothing, and widens nothing, changes no more than the encoder.
 pub called_advances : (h : CoreFacts) (c : Core) (calls : List (Act × Answer))
-    (encoder : EncoderState) → ((i : ℕ) → released i calls ≡ released i c.calls) → Advances h c
+    (encoder : EncoderState) → ((i : ℕ) → released i calls ≡ released i c.calls)
+    → widened calls ≡ widened c.calls → Advances h c
     → Advances (record h { encoder = encoder }) (record c { calls = calls; encoder = encoder })
-called_advances h c calls encoder same g =
-    assumption (called_streams h.streams c calls same g.streams, g)
+called_advances h c calls encoder same wide g =
+    assumption (
+      called_streams h.streams c calls same g.streams,
+      called_windows h.windows c.received c.sent c.calls calls c.unreturned wide g.windows,
+      g,
+    )
+
+-- The connection's window is to be widened.
+pub granted_advances : (h : CoreFacts) (c : Core) (count : ℕ) → Advances h c
+    → Advances (record h { windows = record h.windows { granted = h.windows.granted + count } })
+    (record c { calls = (Widen count, Done) ∷ c.calls })
+unfolding widened released
+granted_advances h c count g =
+    let calls : List (Act × Answer) = (Widen count, Done) ∷ c.calls in
+    let windows : RepresentsWindows (record h.windows { granted = h.windows.granted + count })
+    c.received c.sent calls c.unreturned = record {
+      send = g.windows.send;
+      recv = g.windows.recv;
+      granted = omega (arith, g.windows.granted);
+      unreturned = g.windows.unreturned;
+    } in
+    assumption (windows, called_streams h.streams c calls (λ i. refl) g.streams, g)

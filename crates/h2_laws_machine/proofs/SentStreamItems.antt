@@ -132,6 +132,7 @@ adds_advance h c id news n end streams send a conserved are g = record {
   windows = record {
     send = rw (a.data_all) conserved;
     recv = rw (a.increments 0) g.windows.recv;
+    granted = g.windows.granted;
     unreturned = g.windows.unreturned;
   };
   peer = g.peer;

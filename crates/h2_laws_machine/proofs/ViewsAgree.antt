@@ -110,6 +110,7 @@ views_agree e log role failed waits streams run =
       last_processed = streams.last_processed i;
       send_window = send i;
       recv_window = recv i;
+      granted = run.windows.granted i;
       unreturned = run.windows.unreturned i;
       goaway_sent = goaway i;
       goaway_received = run.goaway.least_received i;

@@ -34,6 +34,7 @@ pub record ValuesAreInRange (e : End) : Type 0 where
   pub last_processed : e.streams.last_processed ≤ e.streams.highest
   pub goaway_sent : (last : ℕ) → e.goaway.sent ≡ Some last → last ≤ greatest_number
   pub send : e.windows.send ≤ greatest_window
+  pub granted : e.windows.granted ≤ greatest_window
   pub initial_window : e.peer.initial_window ≤ greatest_window
   pub own_window : e.own.in_force.initial_window ≤ greatest_window
   pub own_frame : e.own.in_force.max_frame ≤ most_max_frame

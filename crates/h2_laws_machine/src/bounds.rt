@@ -53,9 +53,9 @@ pub fn logs_are_bounded()
 
 // contract: 6.9 Nothing of the window of the connection is lost
 /// What the peer may send on the connection, what is owed on all streams, and what is unreturned,
-/// are 65,535 octets together, where nothing is kept of numbers that weren't used: at first, and
-/// after each frame, fault, stream that is reported as unprocessed, and call (RFC 9113, section
-/// 6.9).
+/// are 65,535 octets and what the window was widened by, where nothing is kept of numbers that
+/// weren't used: at first, and after each frame, fault, stream that is reported as unprocessed, and
+/// call (RFC 9113, section 6.9).
 pub fn connection_window_is_kept()
     ensures begins { (role : Role) (values : Values)
         → KeepsConnectionWindow (new_end role values) }

@@ -4,11 +4,10 @@ ghost use Rattle.std.specs.Prelude.{◌≡◌, ℕ, ◌+◌, ◌<◌, None, List
 ghost use Rattle.h2_block.specs.Grouping.{Item};
 ghost use Rattle.h2_spec_log.specs.Items.{data_of, increment_on, total};
 ghost use Rattle.h2_spec_log.specs.Acts.{Values};
-ghost use Rattle.h2_spec_log.specs.Log.{Log, owed};
+ghost use Rattle.h2_spec_log.specs.Log.{Log, owed, granted};
 ghost use Rattle.h2_spec_machine.specs.End.{End, owed_total};
 ghost use Rattle.h2_spec_machine.specs.Represents.{Represents};
-ghost use Rattle.h2_spec_log.specs.Windows.{first_window, connection_send_window};
-ghost use Rattle.h2_spec_log.specs.Windows.{connection_recv_window};
+ghost use Rattle.h2_spec_log.specs.Windows.{connection_send_window, connection_recv_window};
 ghost use Rattle.h2_laws_log.specs.Sums.{sum_below};
 
 /// What is owed on all streams of an end is the sum of what its log says is owed on each.
@@ -19,18 +18,18 @@ pub fn owed_on_all_streams()
 {}
 
 /// What the peer may send on the connection, by an end's log, is all but what is owed and
-/// unreturned.
+/// unreturned, of 65,535 octets and what it was widened by.
 pub fn connection_window_of_a_log()
     ensures { (values : Values) (e : End) (log : Log) (n : ℕ) → Represents values e log
         → e.failed ≡ None → e.streams.highest < n
         → connection_recv_window log.received log.sent
-        +ℤ pos (sum_below n (owed log) + log.unreturned) ≡ pos first_window }
+        +ℤ pos (sum_below n (owed log) + log.unreturned) ≡ pos (granted log) }
 {}
 
 // contract: 6.9 Nothing of the window of the connection is lost
 /// The connection's window is conserved: what one end may send, its DATA under way, the increments
 /// that come back, what the other end owes on all streams, and what is unreturned there, are 65,535
-/// octets.
+/// octets and what the other end widened it by.
 pub fn connection_window_is_conserved()
     ensures { (values others : Values) (e other : End) (log theirs : Log)
         (way back : List Item) (n : ℕ)
@@ -39,5 +38,5 @@ pub fn connection_window_is_conserved()
         → log.sent ≡ way ++ theirs.received → theirs.sent ≡ back ++ log.received
         → (connection_send_window log.received log.sent +ℤ pos (total data_of way))
         +ℤ pos (total (increment_on 0) back + (sum_below n (owed theirs) + theirs.unreturned))
-        ≡ pos first_window }
+        ≡ pos (granted theirs) }
 {}

@@ -6,6 +6,7 @@ use Rattle.h2_laws_log.proofs.LogHistory.{processed_after}
 use Rattle.h2_laws_log.proofs.LogViewLemmas.{stream_is_active}
 use Rattle.h2_laws_pair.proofs.Names
 use Names.{◌≡◌, inl, inr, ℕ, ◌≤◌, ◌==◌, Bool, true, false, if◌then◌else◌, List, [], ◌∷◌, ◌++◌, None}
+use Names.{Widen}
 use Names.{refl, ap, ◌∙◌, arith, list_any, AllByRecursion, both_ways, or_from, eqb-true, le-ltb}
 use Names.{or_cases, list_any-append, Field, Data, Settings, Ping, GoAway, WindowUpdate, Item}
 use Names.{alone, block, Role, Server, is_goaway_below, Values, Act, Open, SendFields, SendData}
@@ -170,6 +171,7 @@ items_fit log (SendData id octets end) server none =
     stream_fits log id _ server (stream_is_active log id (none_holds _ none).1.0)
     (data_all (IsOn id) id (data_on_stream id) (log_view log).max_payload octets end _)
 items_fit log (Release id count) server none = quiet_fits _ _ _ (updates_quiet _ _ _)
+items_fit log (Widen count) server none = quiet_fits _ _ _ (update_quiet count)
 items_fit log SendGoAway server none = goaway_fits log server.server
 items_fit log act server none = quiet_fits _ _ _ (λ i. (refl, refl))
 

@@ -7,6 +7,7 @@ use Rattle.h2_laws_log.proofs.LogViewLemmas.{closed_by_us_is, client_above}
 use Rattle.h2_laws_pair.specs.Quiet.{IsSending, IsStuck, CouldGo}
 use Rattle.h2_laws_pair.proofs.Names
 use Names.{◌≡◌, ◌≢◌, inl, inr, ℕ, zero, suc, ◌+◌, ◌≤◌, true, false, List, [], ◌∷◌, ◌++◌, None, refl}
+use Names.{granted}
 use Names.{sym, ap, ◌∙◌, append-nil, arith, length, ℤ, pos, ◌+ℤ◌, list_any, both_ways, cases_Bool}
 use Names.{nat_tests, ints, Settings, Item, alone, Role, Client, Server, Values, AllowedHistory}
 use Names.{Allowed, starts, reads, writes, ends, resets, total, data_on, data_of, increment_on}
@@ -99,8 +100,9 @@ connection_open writer reader i idle =
     idle.back (omega arith) in
     let owes : sum_below bound (owed reader.log) + reader.log.unreturned ≡ 0 = omega
     (arith, none_sum bound (owed reader.log) idle.none_owed, idle.none_unreturned) in
-    above_none window first_window (plain_window _ (total data_of []) (total (increment_on 0) []) _
-    first_window (total_none data_of) (total_none (increment_on 0)) owes conserved) (omega arith)
+    above_none window (granted reader.log) (plain_window _ (total data_of [])
+    (total (increment_on 0) []) _ (granted reader.log) (total_none data_of)
+    (total_none (increment_on 0)) owes conserved) (omega arith)
 
 pub could_go : (writer reader : Half) (i : ℕ) (token : Token) → IsIdle writer reader i
     → CouldGo writer.log i token

@@ -87,6 +87,9 @@ pub use Rattle.h2_spec_log.specs.ItemRules.{verdict_of_fault}
 pub use Rattle.h2_spec_log.specs.Items.{increment_on, data_of, greatest_block}
 pub use Rattle.h2_spec_log.specs.Limits.{max_frame_size_sent, max_list, full_output}
 pub use Rattle.h2_spec_log.specs.Log.{Log, acked, max_payload_sent, active, owed, send_window}
+pub use Rattle.h2_spec_log.specs.Log.{granted}
+unfoldable pub use Rattle.h2_spec_log.specs.Log.{widened}
+pub use Rattle.h2_spec_log.specs.Acts.{Widen}
 pub use Rattle.h2_spec_log.specs.LogCalls.{called, MayAnswer, accepts, refuses}
 pub use Rattle.h2_spec_log.specs.LogSteps.{read, with_unreturned, limits_from, took_none}
 pub use Rattle.h2_spec_log.specs.LogSteps.{with_failure}

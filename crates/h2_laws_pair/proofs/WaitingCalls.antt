@@ -1,11 +1,12 @@
 -- After a call that is accepted no more output waits than calls and replies make.
 use Rattle.std.proofs.Common.{leb-false}
-use Rattle.h2_spec_log.specs.Acts.{SendPing, IsTypedAct}
+use Rattle.h2_spec_log.specs.Acts.{SendPing, Widen, IsTypedAct}
 use Rattle.h2_spec_log.specs.CallRules.{is_full}
 use Rattle.h2_spec_log.proofs.SentPayloads.{most_between}
 use Rattle.h2_laws_log.proofs.BlockSizes.{block_is_gathered}
 use Rattle.h2_laws_log.proofs.CallConditions.{AreFalse}
 use Rattle.h2_laws_log.proofs.ItemSizes.{size_of, size-block, size-ping, size-goaway, size-change}
+use Rattle.h2_laws_log.proofs.ItemSizes.{size-update}
 use Rattle.h2_laws_log.proofs.RulesByTests.{data_size, release_size, count_few}
 use Rattle.h2_laws_pair.proofs.Names
 use Names.{◌≡◌, ℕ, ◌≤◌, false, length, refl, arith, ltb-false, list_size, block_of, Reset, alone}
@@ -79,3 +80,6 @@ fits_accepted before log (Fail code) typed none fits = fits_same _ _ _ refl refl
 fits_accepted before log (PutOut count) typed none fits = fits_same _ _ _ refl refl refl refl fits
 fits_accepted before log (ChangeSettings values) typed none fits =
     fits_items before log (ChangeSettings values) none.1.0 (omega (arith, size-change)) fits
+fits_accepted before log (Widen count) typed none fits =
+    fits_items before log (Widen count) none.1.0
+    (omega (arith, size-update (max_payload_sent log) 0 count)) fits

@@ -3,7 +3,7 @@ use Rattle.std.specs.Prelude.{◌≡◌, ◌≢◌, ℕ, ◌+◌, ◌<◌, true,
 use Rattle.std.specs.List.{list_any}
 use Rattle.h2_block.specs.Grouping.{Item}
 use Rattle.h2_spec_log.specs.Items.{data_on, data_of, ends, increment_on, total, greatest_block}
-use Rattle.h2_spec_log.specs.Log.{Log, state, active, owed, send_window}
+use Rattle.h2_spec_log.specs.Log.{Log, state, active, owed, granted, send_window}
 use Rattle.h2_spec_log.specs.States.{ClosedByUs, openings}
 use Rattle.h2_spec_log.specs.Settings.{value_read}
 use Rattle.h2_spec_log.specs.Windows.{first_window, connection_send_window}
@@ -22,13 +22,13 @@ AreUnderWay writer reader way = writer.sent ≡ way ++ reader.received
 
 -- The connection's window (RFC 9113, section 6.9): what the writer may send, DATA under way, the
 -- increments that come back, what the reader owes on its streams (of numbers below a bound), and
--- what is unreturned there, are 65,535 octets.
+-- what is unreturned there, are 65,535 octets and what the reader widened it by.
 -- rule (law): joined (own) The header tables of joined ends agree, no window is lost
 abbrev pub ConservesConnection : (writer reader : Log) (way back : List Item) (bound : ℕ) → Type 0
 ConservesConnection writer reader way back bound =
     (connection_send_window writer.received writer.sent +ℤ pos (total data_of way))
     +ℤ pos (total (increment_on 0) back + (sum_below bound (owed reader) + reader.unreturned))
-    ≡ pos first_window
+    ≡ pos (granted reader)
 
 -- The numbers of all streams of an end are below the bound.
 abbrev pub BoundsStreams : Log → ℕ → Type 0

@@ -11,7 +11,8 @@ use Rattle.h2_spec_log.specs.Acts.{Values, Open, Number, Release, ResetStream, S
 use Rattle.h2_spec_log.specs.Events.{DataEvent}
 unfoldable use Rattle.h2_spec_log.specs.Items.{data_of, one_ping, total, greatest_block}
 unfoldable use Rattle.h2_spec_log.specs.Settings.{one_settings}
-use Rattle.h2_spec_log.specs.Log.{Log, send_window}
+use Rattle.h2_spec_log.specs.Log.{Log, granted, send_window}
+unfoldable use Rattle.h2_spec_log.specs.Log.{widened}
 unfoldable use Rattle.h2_spec_log.specs.Log.{owed}
 unfoldable use Rattle.h2_spec_log.specs.LogCalls.{opened}
 use Rattle.h2_spec_log.specs.LogCalls.{before_opening}
@@ -290,11 +291,11 @@ only_first (suc (suc i)) low odd = absurd (omega (arith, low))
 
 -- A client that has opened one stream at most, 1, has open windows where that one's is, and the
 -- connection's.
-open_by : (log : Log) → log.role ≡ Client → greatest_block log.sent ≤ 1
-    → connection_send_window log.received log.sent ≡ pos first_window
+open_by : (log theirs : Log) → log.role ≡ Client → greatest_block log.sent ≤ 1
+    → connection_send_window log.received log.sent ≡ pos (granted theirs)
     → send_window log 1 ≡ pos (value_read 4 first_window log.received)
-    → 1 ≤ value_read 4 first_window log.received → HasOpenWindows log
-open_by log client low connection here some = record {
+    → 1 ≤ value_read 4 first_window log.received → HasOpenWindows log theirs
+open_by log theirs client low connection here some = record {
   connection = connection;
   streams = λ i alive goes_on.
       let parts = active_parts Client i log.received log.sent log.reported
@@ -308,10 +309,10 @@ open_by log client low connection here some = record {
 
 -- The windows of the client whose server has changed its initial window to 10 are open once all is
 -- released; before that its stream's window is below 0.
-changed_open : HasOpenWindows released_pair.client.log
-unfolding computing after_move after_moves
-changed_open = open_by released_pair.client.log refl (omega arith) refl refl (omega arith)
+changed_open : HasOpenWindows released_pair.client.log released_pair.server.log
+unfolding computing after_move after_moves widened
+changed_open = open_by released_pair.client.log released_pair.server.log refl (omega arith) refl refl (omega arith)
 
-changed_closed : HasOpenWindows delivered_pair.client.log → ⊥
+changed_closed : HasOpenWindows delivered_pair.client.log delivered_pair.server.log → ⊥
 unfolding computing after_move after_moves
 changed_closed opened_all = let here = opened_all.streams 1 refl refl in cc

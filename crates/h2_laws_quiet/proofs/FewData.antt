@@ -1,5 +1,5 @@
 -- How many DATA a body makes, and how long they are.
-use Rattle.std.proofs.Common.{◌≡◌, ◌≢◌, ℕ, zero, suc, ◌+◌, ◌*◌, ◌≤◌, ◌==◌}
+use Rattle.std.proofs.Common.{◌≡◌, ◌≢◌, ℕ, zero, suc, ◌+◌, ◌*◌, ◌-◌, ◌≤◌, ◌==◌}
 use Rattle.std.proofs.Common.{◌&&◌, not, nat_le, Bool, true, false, List, [], ◌∷◌}
 use Rattle.std.proofs.Common.{◌++◌}
 use Rattle.std.proofs.Common.{length, length-drop, length-take, take, drop}
@@ -55,6 +55,22 @@ frames_few (suc count) most id octets end big =
     let rest = length-drop most octets in
     let others = frames_few count most id (drop most octets) end big in
     omega (arith, others, rest, above, big))
+
+-- The last of them has one octet at least.
+frames_fewer : (count most id : ℕ) (octets : List ℕ) (end : Bool) → 16384 ≤ most
+    → 1 ≤ length octets
+    → 16384 * total one_data (data_frames count most id octets end) ≤ (length octets - 1) + 16384
+unfolding data_frames one_data total
+frames_fewer zero most id octets end big some = omega arith
+frames_fewer (suc count) most id octets end big some =
+    frames_by most (length octets - 1) (alone (Data id end octets None))
+    (alone (Data id false (take most octets) None)) (data_frames count most id (drop most octets)
+    end) (nat_le (length octets) most) (λ here. omega arith) (λ there.
+    let above = leb-false (length octets) most there in
+    let rest = length-drop most octets in
+    let others = frames_fewer count most id (drop most octets) end big (omega (arith, rest, above))
+    in
+    omega (arith, others, rest, above, big, some))
 
 size_none : (by : ℕ) → size_of by [] ≡ 0
 unfolding encoding_of_items
@@ -124,6 +140,17 @@ body_few by most id octets end n big within =
     items_by by n (n == 0 && not (length octets == 0 && end)) _
     (λ none. eqb-true n 0 (and_parts _ _ none).0) (omega (arith, sizes, first, within))
     (omega (arith, frames, first, within))
+
+-- Of a body of which some octets are sent it is fewer.
+pub body_fewer : (most id : ℕ) (octets : List ℕ) (end : Bool) (n : ℕ) → 16384 ≤ most
+    → n ≤ length octets → n ≢ 0
+    → 16384 * total one_data (data_items most id octets end n) ≤ (n - 1) + 16384
+unfolding data_items
+body_fewer most id octets end n big within some =
+    let first = length-take n octets in
+    let frames = frames_fewer (suc n) most id (take n octets) (end && n == length octets) big
+    (omega (arith, first, within, some)) in
+    rw (ne_eqb n 0 some) (omega (arith, frames, first, within))
 
 pub body_none : (most id : ℕ) (octets : List ℕ) (end : Bool) → length octets ≢ 0
     → total one_data (data_items most id octets end 0) ≡ 0

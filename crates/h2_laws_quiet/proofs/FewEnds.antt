@@ -62,6 +62,7 @@ module _ (role other : Role) (values others : Values) (w0 r0 w1 r1 : EndLog)
       let takes = t.reads.takes in
       let moved = credit_between (w_moved role other values others w0 r0 w1 r1 t) r_out_end
       t.moved in
+      let wide = takes.ends.drives.as_wide in
       let last = credit_is other others r1.log t.reads.log_last t.reads.up_last in
       let sum = ap (total (increment_on 0)) takes.ends.drives.sent
       ∙ total-append (increment_on 0) takes.ends.drives.written r_out_end.log.sent in
@@ -74,8 +75,8 @@ module _ (role other : Role) (values others : Values) (w0 r0 w1 r1 : EndLog)
       let gone = takes.none_gone in
       let work = ap (total work_of_item) takes.ends.drives.sent
       ∙ total-append work_of_item takes.ends.drives.written r_out_end.log.sent in (
-        omega (arith, back, moved, last, sum, no_data),
-        omega (arith, back, moved, last, sum, no_data, asks, same, read, cheap, gone, work),
+        omega (arith, back, moved, last, sum, no_data, wide),
+        omega (arith, back, moved, last, sum, no_data, wide, asks, same, read, cheap, gone, work),
       )
 
   -- So nothing is under way to the writer.

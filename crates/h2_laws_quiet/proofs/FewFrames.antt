@@ -1,24 +1,26 @@
 -- How many DATA a pump writes, and how long they make the output: one for each stream on which
--- octets have room, and one more for each 16,384 octets.
+-- octets have room, and one more for each 16,384 octets. It stops where the output is full.
+use Rattle.h2_laws_machine.proofs.EveryStep.{every_log_has_machine}
 use Rattle.std.proofs.Common.{◌≡◌, ◌≢◌, ◌⊎◌, inl, inr, ℕ, ◌+◌, ◌*◌, ◌-◌, ◌≤◌, ◌<◌}
 use Rattle.std.proofs.Common.{◌&&◌, nat_lt, min, Bool, true, false, List, [], ◌∷◌}
 use Rattle.std.proofs.Common.{length, length-append, Option}
 use Rattle.std.proofs.Common.{None, Some, Ok, refl, sym, ap, ◌∙◌, arith}
 use Rattle.std.proofs.Common.{if◌then◌else◌}
 use Rattle.std.proofs.lemmas.Bool.{both_ways, cases_Bool, cases_eq, and_parts, and_from}
-use Rattle.std.proofs.lemmas.Bool.{false_from_ne_true, lt-ltb, ltb-true, eq-eqb}
+use Rattle.std.proofs.lemmas.Bool.{false_from_ne_true, lt-ltb, ltb-false, ltb-true, leb-false}
+use Rattle.std.proofs.lemmas.Bool.{eq-eqb}
 use Rattle.h2_block.specs.Grouping.{Item}
 use Rattle.h2_spec_log.specs.declared.refusal.Refusal.{Refusal}
 use Rattle.h2_spec_log.specs.declared.refusal.Refusal.TheVariants.{OutputFull}
 use Rattle.h2_spec_log.specs.declared.role.Role.{Role}
 use Rattle.h2_spec_log.specs.Acts.{Values, Act, Answer, SendFields, SendData, Count, Done}
 use Rattle.h2_spec_log.specs.Acts.{Number, Refused}
-unfoldable use Rattle.h2_spec_log.specs.CallRules.{items_of, data_frames, data_items}
+unfoldable use Rattle.h2_spec_log.specs.CallRules.{conditions, items_of, data_frames, data_items}
 unfoldable use Rattle.h2_spec_log.specs.CallRules.{stream_of_act}
 use Rattle.h2_spec_log.specs.Histories.{IsLog, called_one}
 use Rattle.h2_spec_log.specs.Items.{data_of, data_on}
 unfoldable use Rattle.h2_spec_log.specs.Items.{total, encoding_of_items}
-use Rattle.h2_spec_log.specs.Limits.{max_data}
+use Rattle.h2_spec_log.specs.Limits.{full_output, max_data}
 use Rattle.h2_spec_log.specs.Log.{Log, active, owed, max_payload_sent}
 unfoldable use Rattle.h2_spec_log.specs.Log.{active_count, waiting, output}
 use Rattle.h2_spec_log.specs.LogCalls.{MayAnswer, called}
@@ -28,6 +30,7 @@ use Rattle.h2_spec_log.specs.LogView.{log_view}
 use Rattle.h2_spec_log.specs.States.{count_below}
 use Rattle.h2_spec_log.specs.Windows.{given_on, given_on_connection}
 use Rattle.h2_spec_log.proofs.SentPayloads.{most_between}
+use Rattle.h2_laws_log.proofs.CallConditions.{none_holds}
 use Rattle.h2_laws_log.proofs.ItemLists.{count_below_more}
 use Rattle.h2_laws_log.proofs.ItemSizes.{size_of}
 use Rattle.h2_laws_log.proofs.LogGrowth.{grows_call}
@@ -49,7 +52,8 @@ use Rattle.h2_ends.specs.Pumping.{end_after_call}
 use Rattle.h2_ends.proofs.EndTokens.{refused_tokens}
 use Rattle.h2_ends.proofs.PumpStuck.{waiting_same}
 use Rattle.h2_ends.proofs.PumpTokens.{fields_tokens}
-use Rattle.h2_ends.proofs.PumpWindows.{data_accepted, data_active, data_within}
+use Rattle.h2_ends.proofs.PumpWindows.{data_accepted, data_active, data_within, fields_wait}
+use Rattle.h2_ends.proofs.PumpWindows.{data_waits as data_grow}
 use Rattle.h2_laws_quiet.specs.Work.{above_streams}
 use Rattle.h2_laws_quiet.proofs.FewCounts.{count_fewer}
 unfoldable use Rattle.h2_laws_quiet.proofs.FewDue.{one_data}
@@ -63,7 +67,8 @@ use Rattle.h2_laws_quiet.proofs.PumpGoes.{some_octets}
 use Rattle.h2_laws_quiet.proofs.PumpSent.{stays_out, trailers_sent}
 use Rattle.h2_laws_quiet.proofs.PumpOctets.{among_data_here, among_fields, among_within}
 use Rattle.h2_laws_quiet.proofs.WorkOfEnds.{was_active}
-use Rattle.h2_laws_quiet.proofs.FewData.{frames_counts, block_is_no_frame, body_few, body_none}
+use Rattle.h2_laws_quiet.proofs.FewData.{frames_counts, block_is_no_frame, body_few, body_fewer}
+use Rattle.h2_laws_quiet.proofs.FewData.{body_none}
 
 -- Whether octets wait on a stream and have room.
 abbrev could_send : EndLog → ℕ → Bool
@@ -143,6 +148,19 @@ data_waits log id octets ends n none =
     let longer = sent_waits (called log act (Count n)) (items_of (log_view log) act (Count n)) in
     omega (arith, longer, ap waiting same)
 
+-- No more was put out than was written.
+given_written : (role : Role) (values : Values) (log : Log) → IsLog role values log
+    → log.given ≤ length log.written
+given_written role values log is = (every_log_has_machine role values log is).1.output.given
+
+-- Where octets of a body were sent the output was not full.
+has_space_for : (log : Log) (id : ℕ) (octets : List ℕ) (ends : Bool) (n : ℕ)
+    → MayAnswer log (SendData id octets ends) (Count n) → waiting log < full_output
+unfolding conditions
+has_space_for log id octets ends n may =
+    let none = none_holds _ (data_accepted log id octets ends n may).0 in
+    leb-false full_output (waiting log) none.1.1.1.0
+
 module _ (end : EndLog) (id : ℕ) (octets : List ℕ) (ends : Bool) (n : ℕ)
     (waits : BodyWaits end id octets ends)
     (may : MayAnswer end.log (SendData id octets ends) (Count n)) where
@@ -185,8 +203,7 @@ module _ (end : EndLog) (id : ℕ) (octets : List ℕ) (ends : Bool) (n : ℕ)
       (window_test (given_on_connection end.log.received) (total data_of end.log.sent)
       ∙ lt-ltb _ _ (omega (arith, some, count)))))
 
-  none_after_it : given_on_connection end.log.received - total data_of end.log.sent ≤ 65535
-      → could_send sent_end id ≡ false
+  none_after_it : n < max_data → could_send sent_end id ≡ false
   none_after_it few = false_from_ne_true _ (λ could.
       let parts = and_parts _ _ (and_parts _ _ could).1 in
       let room = and_parts _ _ parts.1 in
@@ -217,8 +234,7 @@ module _ (end : EndLog) (id : ℕ) (octets : List ℕ) (ends : Bool) (n : ℕ)
         call,
       ))
 
-  data_ready : (bound : ℕ) → (could_send end id ≡ true → id < bound)
-      → given_on_connection end.log.received - total data_of end.log.sent ≤ 65535 → 0 < n
+  data_ready : (bound : ℕ) → (could_send end id ≡ true → id < bound) → n < max_data → 0 < n
       → ready sent_end bound + 1 ≤ ready end bound
   data_ready bound low few some =
       count_fewer bound id (could_send sent_end) (could_send end) (low (could_before some))
@@ -229,13 +245,12 @@ module _ (end : EndLog) (id : ℕ) (octets : List ℕ) (ends : Bool) (n : ℕ)
       count_below_more bound (could_send sent_end) (could_send end) data_still
 
   data_frames_few : (bound : ℕ) → (could_send end id ≡ true → id < bound)
-      → given_on_connection end.log.received - total data_of end.log.sent ≤ 65535
       → 16384 * (total one_data sent_end.log.sent + ready sent_end bound)
       + total data_of end.log.sent
       ≤ 16384 * (total one_data end.log.sent + ready end bound)
       + total data_of sent_end.log.sent
   unfolding items_of
-  data_frames_few bound low few =
+  data_frames_few bound low =
       let least = (most_between end.log.received).0 in
       let items = body_counts one_data frames_counts end.log id octets ends n may in
       let all = sent_of_all end.log id octets ends n may in
@@ -248,10 +263,25 @@ module _ (end : EndLog) (id : ℕ) (octets : List ℕ) (ends : Bool) (n : ℕ)
             let same = ap (λ (m : ℕ). total one_data
             (data_items (max_payload_sent end.log) id octets ends m)) nothing in
             omega (arith, items, all, none, same, nothing, data_ready_still bound)
-        | inr other ↦
-            let fewer = data_ready bound low few (omega (arith, other)) in
-            omega (arith, items, all, body.1, fewer)
+        | inr other ↦ elim (cases_Bool (nat_lt n max_data)) [
+          | inl few ↦
+              let fewer = data_ready bound low (ltb-true n max_data few) (omega (arith, other)) in
+              omega (arith, items, all, body.1, fewer)
+          | inr many ↦
+              let frames = body_fewer (max_payload_sent end.log) id octets ends n least
+              (data_within end.log id octets ends n may) other in
+              let most = ltb-false n max_data many in
+              omega (arith, items, all, frames, most, count_is, data_ready_still bound)
+        ]
       ]
+
+  -- The octets wait, and were sent since the output was not full.
+  data_waits_more : end.log.given ≤ length end.log.written
+      → waiting end.log + n ≤ waiting sent_end.log
+  data_waits_more given = data_grow end.log id octets ends n given may
+
+  data_has_space : waiting end.log < full_output
+  data_has_space = has_space_for end.log id octets ends n may
 
   data_longer : owed end.log id ≡ 0
       → waiting sent_end.log + (9 * total one_data end.log.sent + total data_of end.log.sent)
@@ -296,21 +326,17 @@ module _ (role : Role) (values : Values) (bound : ℕ) where
 
   pumps_write : (end after : EndLog) (count : ℕ) (refused : Option Refusal)
       → Pumps end count refused after → IsLog role values end.log
-      → given_on_connection end.log.received - total data_of end.log.sent ≤ 65535
       → ((j : ℕ) → could_send end j ≡ true → j < bound) → PumpWrites end after bound
-  pumps_write end _ _ _ (pumps_no_more _) is few low =
+  pumps_write end _ _ _ (pumps_no_more _) is low =
       writes_nothing end end refl refl (λ j could. could)
   pumps_write end _ _ _ (pumps_data _ id sent more octets ends refused after next typed waits may
-      pumps) is few low =
+      pumps) is low =
       let act = SendData id octets ends in
       let between = end_after_call end act (Count sent) in
-      let received = (grows_call end.log act (Count sent)).received in
-      let all = sent_of_all end.log id octets ends sent may in
       let rest = pumps_write between after more refused pumps
       (called_one is act (Count sent) typed may)
-      (omega (arith, few, all, ap given_on_connection received))
       (λ j could. low j (data_still end id octets ends sent waits may j could)) in
-      let frames = data_frames_few end id octets ends sent waits may bound (low id) few in
+      let frames = data_frames_few end id octets ends sent waits may bound (low id) in
       let rest_frames = rest.frames in
       record {
         frames = omega (arith, frames, rest_frames);
@@ -329,10 +355,9 @@ module _ (role : Role) (values : Values) (bound : ℕ) where
             ];
       }
   pumps_write end _ _ _ (pumps_trailers _ id more list refused after next typed wait may pumps) is
-      few low =
+      low =
       let act = SendFields id list true in
       let between = end_after_call end act Done in
-      let received = (grows_call end.log act Done).received in
       let all = (fields_send_none 0 end.log id list true may).0 in
       let items = fields_count one_data frames_counts block_is_no_frame end.log id list true may in
       let still = λ (j : ℕ) (could : could_send between j ≡ true).
@@ -340,7 +365,6 @@ module _ (role : Role) (values : Values) (bound : ℕ) where
       (let since = among_since end between j _ (trailers_sent end id list j wait) in
       omega (arith, since)) could in
       let rest = pumps_write between after more refused pumps (called_one is act Done typed may)
-      (omega (arith, few, all, ap given_on_connection received))
       (λ j could. low j (still j could)) in
       let fewer = count_below_more bound (could_send between) (could_send end) still in
       let rest_frames = rest.frames in
@@ -353,9 +377,9 @@ module _ (role : Role) (values : Values) (bound : ℕ) where
         frames = omega (arith, all, items, fewer, rest_frames);
         longer = λ none. inr (id, next.active, omega (arith, since, later, call, no_octets));
       }
-  pumps_write end _ _ _ (data_refused _ id octets ends refusal next typed waits may) is few
-      low = refused_writes end (SendData id octets ends) refusal may
-  pumps_write end _ _ _ (trailers_refused _ id list refusal next typed wait may) is few low =
+  pumps_write end _ _ _ (data_refused _ id octets ends refusal next typed waits may) is low =
+      refused_writes end (SendData id octets ends) refusal may
+  pumps_write end _ _ _ (trailers_refused _ id list refusal next typed wait may) is low =
       refused_writes end (SendFields id list true) refusal may
 
   could_low : (end : EndLog) (j : ℕ) → could_send end j ≡ true → j < above_streams end.log
@@ -366,25 +390,25 @@ module _ (role : Role) (values : Values) (bound : ℕ) where
       (active_parts log.role j log.received log.sent log.reported alive).opened in
       omega (arith, low)
 
--- So a pump writes 1,003 DATA at most, by what the connection's window lets through.
+-- So a pump writes 1,007 DATA at most, since it stops where the output is full.
 pub record PumpFew (end after : EndLog) : Type 0 where
-  pub frames : total one_data after.log.sent ≤ total one_data end.log.sent + 1003
+  pub frames : total one_data after.log.sent ≤ total one_data end.log.sent + 1007
   pub longer : ((i : ℕ) → owed end.log i ≡ 0)
       → (waiting after.log + total data_of end.log.sent
-      ≤ waiting end.log + (9027 + total data_of after.log.sent))
+      ≤ waiting end.log + (9063 + total data_of after.log.sent))
       ⊎ ((id : ℕ) × (active end.log id ≡ true)
       × (others_among (tokens_waiting after id) < others_among (tokens_waiting end id)))
 
 few_by : (role : Role) (values : Values) (end after : EndLog) → IsLog role values end.log
     → PumpWrites end after (above_streams end.log)
-    → total data_of after.log.sent ≤ total data_of end.log.sent + 65535 → PumpFew end after
+    → total data_of after.log.sent ≤ total data_of end.log.sent + 131071 → PumpFew end after
 unfolding active_count
 few_by role values end after is writes few =
     let frames = writes.frames in
     let ready_few = count_below_more (above_streams end.log) (could_send end) (active end.log)
     (λ j could. (and_parts _ _ could).0) in
     let active_few = few_active role values end.log is in
-    let most : total one_data after.log.sent ≤ total one_data end.log.sent + 1003 =
+    let most : total one_data after.log.sent ≤ total one_data end.log.sent + 1007 =
     omega (arith, frames, ready_few, active_few, few) in
     record {
       frames = most;
@@ -394,16 +418,92 @@ few_by role values end after is writes few =
       ];
     }
 
+-- How much a pump sends where so much waits: it begins no call where the output is full, and no call
+-- sends more than 65,536 octets.
+pub record SendsFew (end after : EndLog) : Type 0 where
+  pub some : waiting end.log < full_output
+      → total data_of after.log.sent + waiting end.log ≤ total data_of end.log.sent + 131071
+  pub none : full_output ≤ waiting end.log
+      → total data_of after.log.sent ≤ total data_of end.log.sent
+
+-- More is sent before it, which waits.
+sends_more : (before between after n wait follows : ℕ) → between ≡ n + before → n ≤ 65536
+    → wait + n ≤ follows → wait < 65536 → (follows < 65536 → after + follows ≤ between + 131071)
+    → (65536 ≤ follows → after ≤ between) → (b : Bool) → nat_lt follows 65536 ≡ b
+    → after + wait ≤ before + 131071
+sends_more before between after n wait follows is few waits space some none true test =
+    let less = some (ltb-true follows 65536 test) in omega (arith, is, waits, less)
+sends_more before between after n wait follows is few waits space some none false test =
+    let less = none (ltb-false follows 65536 test) in omega (arith, is, few, space, less)
+
+module _ (role : Role) (values : Values) where
+  pumps_send_few : (end after : EndLog) (count : ℕ) (refused : Option Refusal)
+      → Pumps end count refused after → IsLog role values end.log → SendsFew end after
+  unfolding with_call
+  pumps_send_few end _ _ _ (pumps_no_more _) is =
+      record { some = λ few. omega (arith, few); none = λ full. omega arith }
+  pumps_send_few end _ _ _ (pumps_data _ id sent more octets ends refused after next typed waits may
+      pumps) is =
+      let act = SendData id octets ends in
+      let between = end_after_call end act (Count sent) in
+      let all = sent_of_all end.log id octets ends sent may in
+      let space = data_has_space end id octets ends sent waits may in
+      let grows = data_waits_more end id octets ends sent waits may (given_written role values end.log
+      is) in
+      let count = count_is end id octets ends sent waits may in
+      let rest = pumps_send_few between after more refused pumps
+      (called_one is act (Count sent) typed may) in
+      record {
+        some = λ few. sends_more (total data_of end.log.sent) (total data_of between.log.sent)
+            (total data_of after.log.sent) sent (waiting end.log) (waiting between.log) all
+            (omega (arith, count)) grows few rest.some rest.none
+            (nat_lt (waiting between.log) 65536) refl;
+        none = λ full. absurd (omega (arith, full, space));
+      }
+  pumps_send_few end _ _ _ (pumps_trailers _ id more list refused after next typed wait may pumps)
+      is =
+      let act = SendFields id list true in
+      let between = end_after_call end act Done in
+      let all = (fields_send_none 0 end.log id list true may).0 in
+      let grows = fields_wait end.log id list true (given_written role values end.log is) in
+      let rest = pumps_send_few between after more refused pumps (called_one is act Done typed may)
+      in
+      record {
+        some = λ few. sends_more (total data_of end.log.sent) (total data_of between.log.sent)
+            (total data_of after.log.sent) 0 (waiting end.log) (waiting between.log)
+            (omega (arith, all)) (omega arith) (omega (arith, grows)) few rest.some rest.none
+            (nat_lt (waiting between.log) 65536) refl;
+        none = λ full.
+            let less = rest.none (omega (arith, full, grows)) in omega (arith, less, all);
+      }
+  pumps_send_few end _ _ _ (data_refused _ id octets ends refusal next typed waits may) is =
+      record { some = λ few. omega (arith, few); none = λ full. omega arith }
+  pumps_send_few end _ _ _ (trailers_refused _ id list refusal next typed wait may) is =
+      record { some = λ few. omega (arith, few); none = λ full. omega arith }
+
+  -- A pump sends 131,071 octets at most.
+  sent_few : (end after : EndLog) (count : ℕ) (refused : Option Refusal)
+      → Pumps end count refused after → IsLog role values end.log
+      → total data_of after.log.sent ≤ total data_of end.log.sent + 131071
+  sent_few end after count refused pumps is =
+      let few = pumps_send_few end after count refused pumps is in
+      elim (cases_Bool (nat_lt (waiting end.log) full_output)) [
+        | inl space ↦
+            let less = few.some (ltb-true (waiting end.log) full_output space) in
+            omega (arith, less)
+        | inr full ↦
+            let less = few.none (ltb-false (waiting end.log) full_output full) in
+            omega (arith, less)
+      ]
+
 pub pump_few : (role : Role) (values : Values) (end after : EndLog) (count : ℕ)
-    → MayPump end (Ok count) after → IsLog role values end.log
-    → given_on_connection end.log.received ≤ 65535 + total data_of end.log.sent
-    → total data_of after.log.sent ≤ total data_of end.log.sent + 65535 → PumpFew end after
+    → MayPump end (Ok count) after → IsLog role values end.log → PumpFew end after
 unfolding MayPump
-pump_few role values end after count (up, inl full) is few sent =
+pump_few role values end after count (up, inl full) is =
     few_by role values end after is (pumps_write role values (above_streams end.log) end after
-    count (Some OutputFull) full.0 is (omega (arith, few)) (could_low role values
-    (above_streams end.log) end)) sent
-pump_few role values end after count (up, inr done) is few sent =
+    count (Some OutputFull) full.0 is (could_low role values (above_streams end.log) end))
+    (sent_few role values end after count (Some OutputFull) full.0 is)
+pump_few role values end after count (up, inr done) is =
     few_by role values end after is (pumps_write role values (above_streams end.log) end after
-    count None done.0 is (omega (arith, few)) (could_low role values (above_streams end.log) end))
-    sent
+    count None done.0 is (could_low role values (above_streams end.log) end))
+    (sent_few role values end after count None done.0 is)

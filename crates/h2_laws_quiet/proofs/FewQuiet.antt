@@ -32,7 +32,7 @@ record HasLost (base now : EndLog) (rounds : ℕ) : Type 0 where
   octets : octets_left now ≤ octets_left base
   pieces : pieces_left now ≤ pieces_left base
   much : (pieces_left now + 1 ≤ pieces_left base)
-      ⊎ (octets_left now + 17392 * rounds ≤ octets_left base)
+      ⊎ (octets_left now + 17200 * rounds ≤ octets_left base)
 
 lost_none : (base : EndLog) → HasLost base base 0
 lost_none base =

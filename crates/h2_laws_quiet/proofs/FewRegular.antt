@@ -27,11 +27,11 @@ shares_both client server =
     shares_left client.happened server.happened.log
     + shares_left server.happened client.happened.log
 
--- A writer sends trailers, an end or 17,392 octets.
+-- A writer sends trailers, an end or 17,200 octets.
 abbrev pub Loses : (before after : EndLog) → Type 0
 Loses before after =
     (pieces_left after + 1 ≤ pieces_left before)
-    ⊎ (octets_left after + 17392 ≤ octets_left before)
+    ⊎ (octets_left after + 17200 ≤ octets_left before)
 
 -- The first of some rounds, and the others.
 pub record FirstRound (client server : JointEnd) (count : ℕ) (new_client new_server : JointEnd)
@@ -87,8 +87,8 @@ pub record Regular (client_values server_values : Values) (client server : Joint
   pub joint : IsJoint client_values server_values made client server
   pub to_server : HasCome client.happened.log server.happened.log
   pub to_client : HasCome server.happened.log client.happened.log
-  pub client_room : with_owed client.happened.log ≤ 39117
-  pub server_room : with_owed server.happened.log ≤ 39117
+  pub client_room : with_owed client.happened.log ≤ 39273
+  pub server_room : with_owed server.happened.log ≤ 39273
 
 module _ (client_values server_values : Values) (made : List Made)
     (c0 s0 c1 s1 : JointEnd) (joint : IsJoint client_values server_values made c0 s0)

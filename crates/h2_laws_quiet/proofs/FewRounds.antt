@@ -1,5 +1,6 @@
 -- In two rounds one after another, in which the outputs have room and all credit comes back, as
 -- much goes of the lowest stream on which something waits as a window lets through, or all.
+use Rattle.h2_spec_log.specs.Log.{widened}
 use Rattle.std.proofs.Common.{◌≡◌, ◌≢◌, inl, inr, ℕ, ◌+◌, ◌-◌, ◌≤◌, ◌<◌, min, max}
 use Rattle.std.proofs.Common.{false, [], sym, ap, ◌∙◌, arith, subst}
 use Rattle.std.specs.List.{list_any}
@@ -279,7 +280,8 @@ module _ (role other : Role) (values others : Values) (w0 r0 w1 r1 : EndLog)
     -- Where all credit comes back in the round, what may be sent after it is what may be at first
     -- and what was taken before it: of the connection,
     pub all_given : credit_left r_moved.log ≡ 0 → HasCome w0.log r0.log
-        → given_on_connection w1.log.received ≡ first_window + total data_of w0.log.sent
+        → given_on_connection w1.log.received
+        ≡ (first_window + widened r_moved.log.calls) + total data_of w0.log.sent
     unfolding given_on_connection
     all_given back come =
         let credit = credit_between w_moved r_moved t.moved in
@@ -307,7 +309,7 @@ module _ (role other : Role) (values others : Values) (w0 r0 w1 r1 : EndLog)
         → (given_on i w0.log.received + owed r0.log i
         ≡ value_read 4 first_window w0.log.received + total (data_on i) w0.log.sent)
         × (given_on_connection w0.log.received + credit_left r0.log
-        ≤ first_window + total data_of w0.log.sent)
+        ≤ (first_window + widened r0.log.calls) + total data_of w0.log.sent)
     unfolding given_on given_on_connection
     lacks_less come odd some =
         let balanced = stream_between w0 r0 i t.first (first_carried some) in
@@ -319,16 +321,16 @@ module _ (role other : Role) (values others : Values) (w0 r0 w1 r1 : EndLog)
         (omega (arith, balanced, back, on), omega (arith, credit, fewer, all))
 
 -- The numbers of two rounds.
-less_by : (x0 n0 g0 d0 all0 x1 n1 g1 d1 all1 n2 v owes left : ℕ)
+less_by : (whole x0 n0 g0 d0 all0 x1 n1 g1 d1 all1 n2 v owes left : ℕ) → 65535 ≤ whole
     → x1 + n1 ≡ x0 + n0 → d1 ≤ max d0 all0
     → n1 + min n0 (min (min (g0 - x0) (all0 - d0)) 65536) ≤ n0
     → n2 + min n1 (min (min (g1 - x1) (all1 - d1)) 65536) ≤ n1
-    → g1 ≡ v + x0 → all1 ≡ 65535 + d0 → g0 + owes ≡ v + x0 → owes ≤ left
-    → all0 + left ≤ 65535 + d0
+    → g1 ≡ v + x0 → all1 ≡ whole + d0 → g0 + owes ≡ v + x0 → owes ≤ left
+    → all0 + left ≤ whole + d0
     → n2 ≤ n0 - min 65535 v
-less_by x0 n0 g0 d0 all0 x1 n1 g1 d1 all1 n2 v owes left leaves within goes then on all was few
-    lacks =
-    omega (arith, leaves, within, goes, then, on, all, was, few, lacks)
+less_by whole x0 n0 g0 d0 all0 x1 n1 g1 d1 all1 n2 v owes left wide leaves within goes then on all
+    was few lacks =
+    omega (arith, wide, leaves, within, goes, then, on, all, was, few, lacks)
 
 -- So in two rounds one after another a window goes, or all.
 module _ (role other : Role) (values others : Values) (w0 r0 w1 r1 w2 r2 : EndLog)
@@ -358,11 +360,13 @@ module _ (role other : Role) (values others : Values) (w0 r0 w1 r1 w2 r2 : EndLo
       let is = (has_come role other values others w0 r0 w1 r1 a).value
       ∙ value_kept role other values others w0 r0 w1 r1 a in
       let few = owed_within r0.log i in
-      less_by (total (data_on i) w0.log.sent) (octets_among (tokens_waiting w0 i))
+      let wide = (r_to_moved role other values others w0 r0 w1 r1 a).drives.as_wide in
+      less_by (first_window + widened r0.log.calls) (total (data_on i) w0.log.sent)
+      (octets_among (tokens_waiting w0 i))
       (given_on i w0.log.received) (total data_of w0.log.sent)
       (given_on_connection w0.log.received) (total (data_on i) w1.log.sent)
       (octets_among (tokens_waiting w1 i)) (given_on i w1.log.received)
       (total data_of w1.log.sent) (given_on_connection w1.log.received)
       (octets_among (tokens_waiting w2 i)) (value_read 4 first_window r0.log.sent)
-      (owed r0.log i) (credit_left r0.log) first.leaves first.within first.goes then.goes
-      (omega (arith, on, is)) all (omega (arith, lacks.0, was)) few lacks.1
+      (owed r0.log i) (credit_left r0.log) (omega arith) first.leaves first.within first.goes
+      then.goes (omega (arith, on, is)) (omega (arith, all, wide)) (omega (arith, lacks.0, was)) few lacks.1

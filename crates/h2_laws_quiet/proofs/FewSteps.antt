@@ -40,15 +40,6 @@ module _ (role other : Role) (values others : Values) (w0 r0 w1 r1 : EndLog)
   abbrev r_out_end : EndLog
   r_out_end = r_moved role other values others w0 r0 w1 r1 t
 
-  -- The connection lets 65,535 octets through at most.
-  pub window_few : given_on_connection w0.log.received ≤ first_window + total data_of w0.log.sent
-  unfolding given_on_connection
-  window_few =
-      let credit = credit_between w0 r0 t.first in
-      let fewer = increments_between w0 r0 0 t.first in
-      let came = come.counts data_of data_counts in
-      omega (arith, credit, fewer, came)
-
   abbrev first_same : (f : Item → ℕ) → CountsNoAnswer f
       → total f t.w_released.log.sent ≡ total f w0.log.sent
   first_same f counts =
@@ -58,13 +49,7 @@ module _ (role other : Role) (values others : Values) (w0 r0 w1 r1 : EndLog)
   sends_few =
       let may = pump_is_ok t.w_released t.w_pumped t.writes.pump t.writes.pumps t.writes.pump_had
       t.writes.up_released in
-      let keeps = released_keeps role other values others w0 r0 w1 r1 t 0 data_of data_counts in
-      let given = ap given_on_connection keeps.received in
-      let sent = keeps.counted in
-      let within = (w_pump role other values others w0 r0 w1 r1 t 0).within in
-      let few = window_few in
       pump_few role values t.w_released t.w_pumped may.0 may.1 t.writes.log_released
-      (omega (arith, few, given, sent)) (omega (arith, within, few, given, sent))
 
   out_same : (f : Item → ℕ) → CountsNoAnswer f
       → total f w_out_end.log.sent ≡ total f t.w_pumped.log.sent
@@ -72,7 +57,7 @@ module _ (role other : Role) (values others : Values) (w0 r0 w1 r1 : EndLog)
       put_out_counts f counts t.w_pumped.log all_octets t.given t.writes.moves
 
   -- The reader reads few DATA, and nothing that is to be answered.
-  reads_few : total one_data r1.log.received ≤ total one_data r0.log.received + 1003
+  reads_few : total one_data r1.log.received ≤ total one_data r0.log.received + 1007
   reads_few =
       let came = ap (total one_data) t.came in
       let out = out_same one_data frames_counts in
@@ -92,7 +77,7 @@ module _ (role other : Role) (values others : Values) (w0 r0 w1 r1 : EndLog)
       omega (arith, came, out, pumped, first, was)
 
   -- So its output is longer by what these bring.
-  r_grows : with_owed r1.log ≤ with_owed r_out_end.log + 39117
+  r_grows : with_owed r1.log ≤ with_owed r_out_end.log + 39273
   r_grows =
       let same = r_received role other values others w0 r0 w1 r1 t in
       let fills = t.reads.takes.fills.fills
@@ -125,7 +110,7 @@ module _ (role other : Role) (values others : Values) (w0 r0 w1 r1 : EndLog)
       t.back t.reads.releases t.reads.release_had t.reads.up_first t.r_log t.reads.log_released
       t.reads.log_pumped room t.reads.pumps t.typed t.reads.moves
 
-  pub r_more_room : with_owed r0.log < full_output → with_owed r1.log ≤ 39117
+  pub r_more_room : with_owed r0.log < full_output → with_owed r1.log ≤ 39273
   r_more_room room =
       let grows = r_grows in
       let none = r_empty in
@@ -150,10 +135,10 @@ module _ (role other : Role) (values others : Values) (w0 r0 w1 r1 : EndLog)
       (none_unreturned_moved other others r0 t.r_released t.r_pumped t.reads.release t.reads.pump
       all_octets t.back t.reads.releases t.r_log t.reads.log_released t.reads.pumps owes.0 none)
 
-  -- A writer returns all in a round, or it sends trailers, or 17,392 octets.
-  pub w_returns : with_owed w0.log ≤ 39117 → with_owed w1.log < full_output
+  -- A writer returns all in a round, or it sends trailers, or 17,200 octets.
+  pub w_returns : with_owed w0.log ≤ 39273 → with_owed w1.log < full_output
       → (w1.log.unreturned ≡ 0)
-      ⊎ ((total data_of w0.log.sent + 17392 ≤ total data_of w1.log.sent)
+      ⊎ ((total data_of w0.log.sent + 17200 ≤ total data_of w1.log.sent)
       ⊎ ((id : ℕ) × (active t.w_released.log id ≡ true)
       × (others_among (tokens_waiting t.w_pumped id)
       < others_among (tokens_waiting t.w_released id))))

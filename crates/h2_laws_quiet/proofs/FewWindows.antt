@@ -1,5 +1,6 @@
 -- The windows after a round, and how much a pump sends in the next one of the lowest stream on
 -- which something waits.
+use Rattle.h2_laws_quiet.proofs.WorkOfLogs.{KeepsCredit}
 use Rattle.std.proofs.Common.{◌≡◌, ◌≢◌, inl, inr, ℕ, ◌+◌, ◌-◌, ◌≤◌, min, Bool, true}
 use Rattle.std.proofs.Common.{false, List, [], ◌∷◌, ◌++◌, length, refl, sym, ap, ap₂, ◌∙◌, arith}
 use Rattle.std.proofs.Common.{subst, pos, not, suc, ◌-ℤ◌, ◌+ℤ◌}
@@ -51,7 +52,7 @@ use Rattle.h2_laws_quiet.proofs.WorkOfLogs.{credit_is}
 
 -- What an end owes and has not returned, between two ends of a pair.
 pub credit_between : (w r : EndLog) → Between w r
-    → credit_left r.log + total (increment_on 0) r.log.sent ≡ total data_of r.log.received
+    → KeepsCredit r.log
 credit_between w r b =
     let ends = ends_of _ _ b.direction in
     credit_is ends.reader_role ends.reader_values r.log ends.reader_log b.up

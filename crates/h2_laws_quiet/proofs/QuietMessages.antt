@@ -14,7 +14,7 @@ use Rattle.h2_spec_log.specs.declared.role.Role.TheVariants as roles
 use Rattle.h2_spec_log.specs.Acts.{Values}
 use Rattle.h2_spec_log.specs.Histories.{IsLog}
 use Rattle.h2_spec_log.specs.Items.{ends}
-use Rattle.h2_spec_log.specs.Log.{Log, active}
+use Rattle.h2_spec_log.specs.Log.{Log, active, granted}
 use Rattle.h2_spec_log.specs.Settings.{is_server, value_read}
 use Rattle.h2_spec_log.specs.Windows.{first_window}
 use Rattle.h2_laws_end.proofs.ReceiveWindows.{active_unclosed}
@@ -68,29 +68,30 @@ goes_on_by role values log i (Some said) token others is waits =
 above_none : (n : ℕ) → 1 ≤ n → int_lt (pos 0) (pos n) ≡ true
 above_none n some = grind (arith, nat_tests, ints)
 
-could_go : (log : Log) (i : ℕ) (token : Token) → HasOpenWindows log → active log i ≡ true
+could_go : (log theirs : Log) (i : ℕ) (token : Token) → HasOpenWindows log theirs
+    → active log i ≡ true
     → list_any (ends i) log.sent ≡ false → CouldGo log i token
-could_go log i (OctetToken octet) wide alive goes = (
+could_go log theirs i (OctetToken octet) wide alive goes = (
   rw (wide.streams i alive goes) (above_none (value_read 4 first_window log.received) wide.some),
-  rw wide.connection refl,
+  rw wide.connection (above_none (granted theirs) (omega arith)),
 )
-could_go log i (FieldsToken list end) wide alive goes = tt
-could_go log i EndToken wide alive goes = tt
+could_go log theirs i (FieldsToken list end) wide alive goes = tt
+could_go log theirs i EndToken wide alive goes = tt
 
 -- So nothing waits on an active stream of a quiet end whose windows are all open.
-nothing_by : (end : EndLog) (i : ℕ) (role : Role) (values : Values) (waiting : List Token)
-    → IsLog role values end.log → HasOpenWindows end.log → active end.log i ≡ true
+nothing_by : (end : EndLog) (theirs : Log) (i : ℕ) (role : Role) (values : Values) (waiting : List Token)
+    → IsLog role values end.log → HasOpenWindows end.log theirs → active end.log i ≡ true
     → tokens_said end i ≡ tokens_out end i ++ waiting → IsStuck end.log i waiting → waiting ≡ []
-nothing_by end i role values [] is wide alive prefix stuck = refl
-nothing_by end i role values (token ∷ others) is wide alive prefix stuck =
-    absurd (stuck alive (could_go end.log i token wide alive
+nothing_by end theirs i role values [] is wide alive prefix stuck = refl
+nothing_by end theirs i role values (token ∷ others) is wide alive prefix stuck =
+    absurd (stuck alive (could_go end.log theirs i token wide alive
     (goes_on_by role values end.log i (said_for i end.accepted) token others is prefix)))
 
-nothing_waits : (end : EndLog) (i : ℕ) (role : Role) (values : Values)
-    → IsLog role values end.log → HasOpenWindows end.log → active end.log i ≡ true
+nothing_waits : (end : EndLog) (theirs : Log) (i : ℕ) (role : Role) (values : Values)
+    → IsLog role values end.log → HasOpenWindows end.log theirs → active end.log i ≡ true
     → (sends : SendsInOrder end i) → IsStuckOn end i → sends.waiting ≡ []
-nothing_waits end i role values is wide alive sends stuck =
-    nothing_by end i role values sends.waiting is wide alive sends.prefix
+nothing_waits end theirs i role values is wide alive sends stuck =
+    nothing_by end theirs i role values sends.waiting is wide alive sends.prefix
     (subst (λ (waiting : List Token). IsStuck end.log i waiting) (waiting_of end i sends) stuck)
 
 -- Where nothing waits, all was sent.
@@ -181,7 +182,7 @@ module _ (client_values server_values : Values) (made : List Made) (client serve
   -- Nothing waits at the client, and all was handed out at the server: on a stream that is active,
   client_active_none : active client.happened.log i ≡ true → (holds.order.sends i).waiting ≡ []
   client_active_none alive =
-      nothing_waits client.happened i roles.Client client_values
+      nothing_waits client.happened server.happened.log i roles.Client client_values
       (both_logs client_values server_values client_half server_half pair).client_log
       (client_open client_values server_values client_half server_half pair quiet.quiet_client.up
       quiet.quiet_server.up is_quiet) alive (holds.order.sends i) (quiet.quiet_client.stuck i)
@@ -221,7 +222,7 @@ module _ (client_values server_values : Values) (made : List Made) (client serve
   server_active_none : active server.happened.log i ≡ true
       → (holds.other_order.sends i).waiting ≡ []
   server_active_none alive =
-      nothing_waits server.happened i roles.Server server_values
+      nothing_waits server.happened client.happened.log i roles.Server server_values
       (both_logs client_values server_values client_half server_half pair).server_log
       (server_open client_values server_values client_half server_half pair quiet.quiet_client.up
       quiet.quiet_server.up is_quiet) alive (holds.other_order.sends i)

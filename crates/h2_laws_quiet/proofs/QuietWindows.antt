@@ -4,7 +4,7 @@ use Rattle.std.proofs.Common.{ap, ◌∙◌, arith, pos}
 use Rattle.std.specs.List.{list_any}
 use Rattle.h2_spec_log.specs.Acts.{Values}
 use Rattle.h2_spec_log.specs.Items.{ends, data_on, data_of, increment_on, greatest_block, total}
-use Rattle.h2_spec_log.specs.Log.{active, owed, send_window}
+use Rattle.h2_spec_log.specs.Log.{active, owed, granted, send_window}
 use Rattle.h2_spec_log.specs.Settings.{value_read}
 use Rattle.h2_spec_log.specs.States.{Active, ClosedByUs, openings}
 use Rattle.h2_spec_log.specs.Windows.{first_window, connection_send_window}
@@ -24,14 +24,15 @@ use Rattle.h2_laws_quiet.proofs.QuietStreams.{are_level, server_active, client_a
 module _ (writer reader : Half) (halves : AreEnds writer reader) (up : reader.log.failed ≡ None)
     (quiet : IsQuietTo writer reader) (way : AreUnderWay writer.log reader.log [])
     (back : AreUnderWay reader.log writer.log []) where
-  -- The writer may send 65,535 octets on the connection,
-  connection_open : connection_send_window writer.log.received writer.log.sent ≡ pos first_window
+  -- The writer may send on the connection all that the reader has granted,
+  connection_open : connection_send_window writer.log.received writer.log.sent
+      ≡ pos (granted reader.log)
   connection_open =
       let log = reader.log in
       let bound = greatest_block (openings log.role log.received log.sent) + 1 in
       let owes : sum_below bound (owed log) + log.unreturned ≡ 0 = omega
       (arith, none_sum bound (owed log) quiet.none_owed, quiet.none_unreturned) in
-      plain_window _ (total data_of []) (total (increment_on 0) []) _ first_window
+      plain_window _ (total data_of []) (total (increment_on 0) []) _ (granted reader.log)
       (total_none data_of) (total_none (increment_on 0)) owes
       (connection_conserved writer reader [] [] bound halves up way back (omega arith))
 
@@ -51,7 +52,7 @@ module _ (writer reader : Half) (halves : AreEnds writer reader) (up : reader.lo
 
   -- So all its windows are open.
   open_windows : ((i : ℕ) → active writer.log i ≡ true → active reader.log i ≡ true)
-      → HasOpenWindows writer.log
+      → HasOpenWindows writer.log reader.log
   open_windows level = record {
     connection = connection_open;
     streams = λ i alive goes_on. stream_open i alive (level i alive) goes_on;
@@ -64,7 +65,7 @@ module _ (client_values server_values : Values) (client server : Half)
     (pair : IsPair client_values server_values client server)
     (client_up : client.log.failed ≡ None)
     (server_up : server.log.failed ≡ None) (quiet : IsQuiet client server) where
-  pub client_open : HasOpenWindows client.log
+  pub client_open : HasOpenWindows client.log server.log
   client_open =
       let level = are_level client_values server_values client server pair client_up server_up
       quiet
@@ -73,7 +74,7 @@ module _ (client_values server_values : Values) (client server : Half)
       server_up quiet.to_server (sym level.to_server) (sym level.to_client)
       (λ i alive. server_active client.log server.log i level alive)
 
-  pub server_open : HasOpenWindows server.log
+  pub server_open : HasOpenWindows server.log client.log
   server_open =
       let level = are_level client_values server_values client server pair client_up server_up
       quiet

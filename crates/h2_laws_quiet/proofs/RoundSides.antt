@@ -1,5 +1,7 @@
 -- One end in a round: it releases all, pumps, gives out all, and takes what is delivered. Where
 -- nothing is sent or read in it, the end is quiet after it.
+unfoldable use Rattle.h2_spec_log.specs.Log.{widened}
+use Rattle.h2_laws_log.proofs.PartsStay.{call_calls}
 use Rattle.std.proofs.Common.{◌≡◌, ◌≢◌, inl, inr, ℕ, zero, suc, ◌≤◌, ◌<◌, true, false, List}
 use Rattle.std.proofs.Common.{[], ◌∷◌, ◌++◌, length, Option, None, Some, Result, Ok, Err, refl}
 use Rattle.std.proofs.Common.{sym, ap}
@@ -229,6 +231,7 @@ module _ (role : Role) (values : Values) (count given : ℕ)
 
   -- No credit is left.
   none_left : credit_left last.log ≡ 0
+  unfolding widened
   none_left =
       let unreturned = none_unreturned pumped.log count given path.up_pumped still.none_pumped
       still.sent_moved in
@@ -237,7 +240,9 @@ module _ (role : Role) (values : Values) (count given : ℕ)
       let is = credit_is role values last.log path.log_last path.up_last in
       let back = ap (total (increment_on 0)) still.sent_last in
       let came = ap (total data_of) still.received_last in
-      omega (arith, unreturned, sum, was, is, back, came)
+      let wide : widened last.log.calls ≡ widened pumped.log.calls = path.takes.ends.drives.as_wide
+      ∙ ap widened (call_calls pumped.log (PutOut count) (Count given)) in
+      omega (arith, unreturned, sum, was, is, back, came, wide)
 
   -- The role and what was reported.
   same_role : last.log.role ≡ pumped.log.role

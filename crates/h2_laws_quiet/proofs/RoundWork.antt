@@ -1,5 +1,6 @@
 -- Where a round leaves as much work as there was, nothing was read in it, and nothing written as
 -- octets were delivered; and where all that was sent was read then, nothing was sent.
+use Rattle.h2_laws_quiet.proofs.WorkOfLogs.{KeepsCredit}
 use Rattle.std.proofs.Common.{◌≡◌, ◌+◌, ◌≤◌, List, [], ◌∷◌, ◌++◌, length, refl, ap}
 use Rattle.std.proofs.Common.{◌∙◌, arith, length-append}
 use Rattle.h2_block.specs.Grouping.{Item}
@@ -107,14 +108,10 @@ sends_none first released pumped moved last way received stages under_way all =
 -- What two ends have done leaves no more work, by what each has read and returned.
 pub both_fall : (client server new_client new_server : EndLog)
     (one : EndDrives client new_client) (two : EndDrives server new_server)
-    → credit_left client.log + total (increment_on 0) client.log.sent
-    ≡ total data_of client.log.received
-    → credit_left new_client.log + total (increment_on 0) new_client.log.sent
-    ≡ total data_of new_client.log.received
-    → credit_left server.log + total (increment_on 0) server.log.sent
-    ≡ total data_of server.log.received
-    → credit_left new_server.log + total (increment_on 0) new_server.log.sent
-    ≡ total data_of new_server.log.received
+    → KeepsCredit client.log
+    → KeepsCredit new_client.log
+    → KeepsCredit server.log
+    → KeepsCredit new_server.log
     → total work_of_item server.log.received ≤ total work_of_item client.log.sent
     → total work_of_item client.log.received ≤ total work_of_item server.log.sent
     → total work_of_item new_server.log.received ≤ total work_of_item new_client.log.sent

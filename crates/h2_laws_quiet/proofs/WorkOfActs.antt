@@ -1,4 +1,5 @@
 -- An act that drives two joined ends leaves no more work, as long as neither has failed.
+use Rattle.h2_laws_quiet.proofs.WorkOfLogs.{KeepsCredit}
 use Rattle.std.proofs.Common.{◌≡◌, ◌≢◌, ℕ, ◌+◌, ◌-◌, ◌≤◌, List, ◌∷◌, ◌++◌, length}
 use Rattle.std.proofs.Common.{take, drop, None, refl, sym, ap, ◌∙◌}
 use Rattle.std.proofs.Common.{arith, subst, length-append, ◌==◌, false}
@@ -199,8 +200,8 @@ carried_work writer reader is =
 
 -- So the work that is left falls by what is read.
 work_falls : (one other new : EndLog) (drives : EndDrives one new)
-    → credit_left one.log + total (increment_on 0) one.log.sent ≡ total data_of one.log.received
-    → credit_left new.log + total (increment_on 0) new.log.sent ≡ total data_of new.log.received
+    → KeepsCredit one.log
+    → KeepsCredit new.log
     → total work_of_item other.log.received ≤ total work_of_item one.log.sent
     → total work_of_item new.log.received ≤ total work_of_item other.log.sent
     → work_left new other + (length new.log.received - length one.log.received)
@@ -223,10 +224,8 @@ work_turned one other = omega arith
 -- What is known of two joined ends that are up: what each owes and has not returned, and what of
 -- each was read.
 pub record AreKept (client server : EndLog) : Type 0 where
-  pub client_credit : credit_left client.log + total (increment_on 0) client.log.sent
-      ≡ total data_of client.log.received
-  pub server_credit : credit_left server.log + total (increment_on 0) server.log.sent
-      ≡ total data_of server.log.received
+  pub client_credit : KeepsCredit client.log
+  pub server_credit : KeepsCredit server.log
   pub to_server : total work_of_item server.log.received ≤ total work_of_item client.log.sent
   pub to_client : total work_of_item client.log.received ≤ total work_of_item server.log.sent
 
@@ -293,8 +292,8 @@ module _ (client_values server_values : Values) (made : List Made)
 
 -- The work that is left falls by what is read, in an act of one of the ends with the other.
 work_after : (one other new new_other : EndLog) → EndDrives one new → new_other ≡ other
-    → credit_left one.log + total (increment_on 0) one.log.sent ≡ total data_of one.log.received
-    → credit_left new.log + total (increment_on 0) new.log.sent ≡ total data_of new.log.received
+    → KeepsCredit one.log
+    → KeepsCredit new.log
     → total work_of_item other.log.received ≤ total work_of_item one.log.sent
     → total work_of_item new.log.received ≤ total work_of_item new_other.log.sent
     → work_left new new_other + (length new.log.received - length one.log.received)

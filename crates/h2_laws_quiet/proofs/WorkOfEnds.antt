@@ -63,6 +63,7 @@ drives_twice one two three g h a b = record {
   events = b.events ++ a.events;
   reported = b.reported ∙ ap (λ (events : List Event). b.events ++ events) a.reported
       ∙ sym (append_assoc b.events a.events one.reported);
+  as_wide = b.as_wide ∙ a.as_wide;
   margin = b.margin + a.margin;
   sent = b.sent ∙ ap (λ (items : List Item). b.written ++ items) a.sent
       ∙ sym (append_assoc b.written a.written one.sent);
@@ -92,7 +93,7 @@ ends_twice one two three a b = record {
 unfoldable pub ends_none : (end : EndLog) → EndDrives end end
 ends_none end = record {
   gone = 0;
-  drives = drives_none end.log end.log 0 refl refl refl;
+  drives = drives_none end.log end.log 0 refl refl refl refl;
   tokens = omega arith;
   each = λ i. omega arith;
   same = λ none i. refl;

@@ -1,6 +1,9 @@
 -- What an end writes in a step of driving counts no more than what it reads, returns and sends of
 -- what waits. And what it owes and has not returned is what it has read of DATA, without what it
 -- has returned.
+unfoldable use Rattle.h2_spec_log.specs.Log.{widened}
+use Rattle.h2_laws_log.proofs.InvariantCalls.{widened_refused}
+use Rattle.h2_laws_log.proofs.PartsStay.{call_calls}
 use Rattle.std.proofs.Common.{◌≡◌, ◌≢◌, ℕ, ◌+◌, ◌*◌, ◌≤◌, true, false, List, []}
 use Rattle.std.proofs.Common.{◌∷◌, ◌++◌, length, None, refl, sym, ap, ◌∙◌, arith, append_assoc}
 use Rattle.std.proofs.Common.{pos, ◌+ℤ◌, ◌-ℤ◌, subst, Bool, if◌then◌else◌}
@@ -54,23 +57,30 @@ some_updates role received _ (writes {sent = sent} item history allowed) =
     (one_update role item received sent allowed, some_updates role received sent history)
 
 -- What an end that is up owes and has not returned.
-credit_by : (given read back : ℕ) → (pos (first_window + back) -ℤ pos read) +ℤ pos given
-    ≡ pos first_window → given + back ≡ read
-credit_by given read back is = omega (arith, ints, is)
+credit_by : (given read back wide : ℕ) → (pos (first_window + back) -ℤ pos read) +ℤ pos given
+    ≡ pos (first_window + wide) → given + back ≡ read + wide
+credit_by given read back wide is = omega (arith, ints, is)
+
+-- What an end owes and has not returned, and what it has returned, is what it has read, and by what
+-- it has widened the window.
+abbrev pub KeepsCredit : Log → Type 0
+KeepsCredit log = credit_left log + total (increment_on 0) log.sent
+    ≡ total data_of log.received + widened log.calls
 
 pub credit_is : (role : Role) (values : Values) (log : Log) → IsLog role values log
     → log.failed ≡ None
-    → credit_left log + total (increment_on 0) log.sent ≡ total data_of log.received
+    → KeepsCredit log
 unfolding granted_on_connection
 credit_is role values log is up =
     let machine = every_log_has_machine role values log is in
     let same = machine.1.streams.highest in
     credit_by (credit_left log) (total data_of log.received) (total (increment_on 0) log.sent)
-    (window_of_a_log values machine.0 log (above_streams log) machine.1 (machine.1.failed ∙ up)
+    (widened log.calls) (window_of_a_log values machine.0 log (above_streams log) machine.1 (machine.1.failed ∙ up)
     (omega (arith, same)))
 
 -- An end goes on in a step of driving: it writes these items, reads those and reports these
--- events, and so many tokens are sent. What it writes counts no more than the credit that this
+-- events, so many tokens are sent, and it doesn't widen the connection's window. What it writes
+-- counts no more than the credit that this
 -- returns, the answers that what it reads has asked for, and what the tokens have counted; and
 -- less by a margin.
 pub record Drives (before after : Log) (gone : ℕ) : Type 0 where
@@ -80,6 +90,7 @@ pub record Drives (before after : Log) (gone : ℕ) : Type 0 where
   pub sent : after.sent ≡ written ++ before.sent
   pub received : after.received ≡ read ++ before.received
   pub reported : after.reported ≡ events ++ before.reported
+  pub as_wide : widened after.calls ≡ widened before.calls
   pub margin : ℕ
   pub cheap : total work_of_item written + margin
       ≤ 2 * total (increment_on 0) written + (total one_to_answer read + 3 * gone)
@@ -93,8 +104,8 @@ items_work (item ∷ items) = omega (arith, items_work items)
 
 -- So the step leaves no more work; and for each item that is read one less, and the margin.
 pub drives_work : (before after : Log) (gone : ℕ) (drives : Drives before after gone)
-    → credit_left before + total (increment_on 0) before.sent ≡ total data_of before.received
-    → credit_left after + total (increment_on 0) after.sent ≡ total data_of after.received
+    → KeepsCredit before
+    → KeepsCredit after
     → (drives.margin + length drives.read) + (total work_of_item after.sent
     + (2 * credit_left after + total work_of_item before.received))
     ≤ total work_of_item before.sent
@@ -117,21 +128,23 @@ drives_work before after gone drives was is =
       read_work,
       read_data,
       drives.cheap,
+      drives.as_wide,
       items_work drives.read,
     )
 
 -- A log that keeps its items drives nothing.
 unfoldable pub drives_none : (before after : Log) (gone : ℕ) → after.sent ≡ before.sent
     → after.received ≡ before.received → after.reported ≡ before.reported
-    → Drives before after gone
+    → widened after.calls ≡ widened before.calls → Drives before after gone
 unfolding total
-drives_none before after gone sent received reported = record {
+drives_none before after gone sent received reported wide = record {
   written = [];
   read = [];
   events = [];
   sent = sent;
   received = received;
   reported = reported;
+  as_wide = wide;
   margin = 0;
   cheap = omega arith;
 }
@@ -148,9 +161,10 @@ drives_call : (log : Log) (act : Act) (answer : Answer) (gone : ℕ)
     → AllByRecursion IsSomeUpdate (with_call log act answer).sent
     → total work_of_item (items_of (log_view log) act answer)
     ≤ 2 * total (increment_on 0) (items_of (log_view log) act answer) + 3 * gone
+    → widened ((act, answer) ∷ log.calls) ≡ widened log.calls
     → Drives log (with_call log act answer) gone
 unfolding total
-drives_call log act answer gone does some few =
+drives_call log act answer gone does some few wide =
     let items = items_of (log_view log) act answer in
     let credit = credit_work does.credit does.is_credit
     (first_all does.credit (items ++ log.sent) (subst (λ (sent : List Item).
@@ -160,6 +174,7 @@ drives_call log act answer gone does some few =
       read = [];
       events = [];
       reported = (grows_call log act answer).reported;
+      as_wide = ap widened (call_calls log act answer) ∙ wide;
       margin = 0;
       sent = does.sent ∙ sym (append_assoc does.credit items log.sent);
       received = (grows_call log act answer).received;
@@ -178,13 +193,14 @@ pub refused_drives : (log : Log) (act : Act) (refusal : Refusal) (gone : ℕ)
 unfolding with_call
 refused_drives log act refusal gone =
     drives_none log (with_call log act (Refused refusal)) gone refl refl refl
+    (widened_refused act refusal log.calls)
 
 -- Octets of a body that go.
 pub data_drives : (log : Log) (id : ℕ) (octets : List ℕ) (end : Bool) (n : ℕ)
     → length octets ≢ 0 → MayAnswer log (SendData id octets end) (Count n)
     → AllByRecursion IsSomeUpdate (with_call log (SendData id octets end) (Count n)).sent
     → Drives log (with_call log (SendData id octets end) (Count n)) n
-unfolding items_of
+unfolding items_of widened
 data_drives log id octets end n more may some =
     let least = (most_between log.received).0 in
     let few = body_work (max_payload_sent log) id octets end n (omega (arith, least)) more
@@ -192,18 +208,18 @@ data_drives log id octets end n more may some =
     drives_call log (SendData id octets end) (Count n) n
     (call_writes log (SendData id octets end) (Count n)
     (ap Count (data_accepted log id octets end n may).1) (λ other code wrong. cc)
-    (λ code wrong. cc)) some (omega (arith, few))
+    (λ code wrong. cc)) some (omega (arith, few)) refl
 
 -- Trailers that go.
 pub fields_drives : (log : Log) (id : ℕ) (list : List Field) (end : Bool)
     → MayAnswer log (SendFields id list end) Done
     → AllByRecursion IsSomeUpdate (with_call log (SendFields id list end) Done).sent
     → Drives log (with_call log (SendFields id list end) Done) 1
-unfolding items_of total one_settings one_ping data_of
+unfolding items_of total one_settings one_ping data_of widened
 fields_drives log id list end may some =
     drives_call log (SendFields id list end) Done 1
     (call_writes log (SendFields id list end) Done refl (λ other code wrong. cc)
-    (λ code wrong. cc)) some (omega arith)
+    (λ code wrong. cc)) some (omega arith) refl
 
 -- Credit that is released.
 updates_work : (id count : ℕ) (b : Bool) → count ≢ 0
@@ -219,21 +235,21 @@ pub release_drives : (log : Log) (id count : ℕ) → count ≢ 0
     → MayAnswer log (Release id count) Done
     → AllByRecursion IsSomeUpdate (with_call log (Release id count) Done).sent
     → Drives log (with_call log (Release id count) Done) 0
-unfolding items_of
+unfolding items_of widened
 release_drives log id count some_count may some =
     drives_call log (Release id count) Done 0
     (call_writes log (Release id count) Done refl (λ other code wrong. cc) (λ code wrong. cc)) some
-    (updates_work id count (ended_in ((log_view log).stream id)) some_count)
+    (updates_work id count (ended_in ((log_view log).stream id)) some_count) refl
 
 -- Output that is put out.
 pub put_out_drives : (log : Log) (count n : ℕ) → MayAnswer log (PutOut count) (Count n)
     → AllByRecursion IsSomeUpdate (with_call log (PutOut count) (Count n)).sent
     → Drives log (with_call log (PutOut count) (Count n)) 0
-unfolding items_of total
+unfolding items_of total widened
 put_out_drives log count n (accepts none is) some =
     drives_call log (PutOut count) (Count n) 0
     (call_writes log (PutOut count) (Count n) is (λ other code wrong. cc) (λ code wrong. cc)) some
-    (omega arith)
+    (omega arith) refl
 put_out_drives log count n (refuses refusal holds is) some = cc
 put_out_drives log count n (lacks none may is) some = cc
 put_out_drives log count n (fails none may is) some = cc

@@ -1,5 +1,8 @@
 -- A step that takes octets, or reports a stream as unprocessed, leaves no more work: what is
 -- written in it are answers that were asked for, and credit.
+use Rattle.h2_laws_log.proofs.GrowthBySteps.{holds_none, holds_unreturned}
+use Rattle.h2_laws_log.proofs.PartsStay.{SameCalls, calls_read, calls_written, sent_calls}
+use Rattle.h2_spec_log.specs.Log.{widened}
 use Rattle.std.proofs.Common.{◌≡◌, ◌≢◌, inl, inr, ℕ, ◌+◌, true, List, [], ◌∷◌, ◌++◌}
 use Rattle.std.proofs.Common.{Option, None, Some, refl, sym, ap, ◌∙◌, arith, append_assoc, subst}
 use Rattle.std.specs.List.{AllByRecursion, Contains}
@@ -80,9 +83,9 @@ replied : (before after : Log) (item : Item) (verdict : Verdict) (credit : List 
     → ((code : Code) → verdict ≢ StreamFault code)
     → after.sent ≡ credit ++ (replies_to verdict item ++ before.sent)
     → after.received ≡ item ∷ before.received → after.reported ≡ events ++ before.reported
-    → Takes before after
+    → widened after.calls ≡ widened before.calls → Takes before after
 unfolding total
-replied before after item verdict credit events is some sound sent received reported =
+replied before after item verdict credit events is some sound sent received reported wide =
     let replies = replies_to verdict item in
     let back = credit_work credit is (first_all credit (replies ++ before.sent)
     (subst (λ (items : List Item). AllByRecursion IsSomeUpdate items) sent some)) in
@@ -95,6 +98,7 @@ replied before after item verdict credit events is some sound sent received repo
         sent = sent ∙ sym (append_assoc credit replies before.sent);
         received = received;
         reported = reported;
+        as_wide = wide;
         margin = total (increment_on 0) (credit ++ replies);
         cheap = omega (
           arith,
@@ -112,11 +116,12 @@ replied before after item verdict credit events is some sound sent received repo
 
 -- Nothing is written or read.
 takes_none : (before after : Log) → after.sent ≡ before.sent → after.received ≡ before.received
-    → after.reported ≡ before.reported → Takes before after
+    → after.reported ≡ before.reported → widened after.calls ≡ widened before.calls
+    → Takes before after
 unfolding total drives_none
-takes_none before after sent received reported =
+takes_none before after sent received reported wide =
     record {
-      drives = drives_none before after 0 sent received reported;
+      drives = drives_none before after 0 sent received reported wide;
       returns = refl;
       answers = tt;
     }
@@ -150,7 +155,8 @@ frame_drives log octets decoded frame =
     (frame_step (log_view (used log octets [])) frame) (record {
       failed = λ begun code last by well.
           absurd (fails_down code last (record start { begun = begun }) well.up);
-      begun = λ begun is well. takes_none log (record start { begun = Some begun }) refl refl refl;
+      begun = λ begun is well. takes_none log (record start { begun = Some begun }) refl refl refl
+          refl;
       read = λ item verdict more completes is up well.
           let open_log = record start { begun = None } in
           let new = with_item open_log decoded item verdict more in
@@ -164,7 +170,10 @@ frame_drives log octets decoded frame =
           ∙ added.sent ∙ ap (λ (items : List Item). added.credit ++ items)
           (ap (λ (v : History). v.sent) (wrote_view (read open_log decoded item)
           (replies_to verdict item))))
-          has.received has.reported;
+          has.received has.reported
+          (ap (λ (v : History). widened v.calls) (reports_view (with_unreturned more sent) _)
+          ∙ ap widened (holds_unreturned SameCalls calls_written.writes more sent
+          ∙ sent_calls (read open_log decoded item) (replies_to verdict item)));
     })
 
 -- A stream that is reported as unprocessed.
@@ -183,6 +192,7 @@ none_drives log well =
         received = added.received;
         reported = ap (λ (events : List Event). UnprocessedEvent (next_unprocessed log) ∷ events)
             added.reported;
+        as_wide = ap widened (holds_none SameCalls calls_read log);
         margin = total (increment_on 0) added.credit;
         cheap = omega (arith, back);
       };
@@ -196,7 +206,7 @@ pub takes_drive : (log : Log) (step : MachineStep) → IsNoCall step
     → NoStreamFault (log_after log step) → Takes log (log_after log step)
 unfolding log_after used
 takes_drive log (uses_part octets unparsed) none up some sound =
-    takes_none log (used log octets unparsed) refl refl refl
+    takes_none log (used log octets unparsed) refl refl refl refl
 takes_drive log (ends_frame octets frame decoded) none up some sound =
     frame_drives log octets decoded frame (record { up = up; some = some; sound = sound })
 takes_drive log (meets_fault octets fault) none up some sound =

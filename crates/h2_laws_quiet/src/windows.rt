@@ -30,14 +30,16 @@ pub fn quiet_ends_have_the_same_streams()
 
 // contract: joined (own) Two ends that are driven get quiet, and all that was accepted arrives
 /// All windows are open, both ways, at a quiet pair of which neither end has failed: 65,535
-/// octets may go on the connection, and on each active stream that the end has not ended its
-/// initial window, which is at least 1 (RFC 9113, section 6.9). This holds whatever settings
-/// changed and whatever was reset before.
+/// octets, and what the other end widened its window by, may go on the connection, and on each
+/// active stream that the end has not ended its initial window, which is at least 1 (RFC 9113,
+/// section 6.9). This holds whatever settings changed and whatever was reset before.
 pub fn windows_of_a_quiet_pair()
     ensures at_client { (client_values server_values : Values) (client server : Half)
         → IsPair client_values server_values client server → client.log.failed ≡ None
-        → server.log.failed ≡ None → IsQuiet client server → HasOpenWindows client.log }
+        → server.log.failed ≡ None → IsQuiet client server
+        → HasOpenWindows client.log server.log }
     ensures at_server { (client_values server_values : Values) (client server : Half)
         → IsPair client_values server_values client server → client.log.failed ≡ None
-        → server.log.failed ≡ None → IsQuiet client server → HasOpenWindows server.log }
+        → server.log.failed ≡ None → IsQuiet client server
+        → HasOpenWindows server.log client.log }
 {}

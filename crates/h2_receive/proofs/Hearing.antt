@@ -10,6 +10,7 @@ use Rattle.h2_engines.proofs.MachineViews.{all_in_part}
 use Rattle.h2_engines.specs.Failures.{CutsOffAtEnd, failures_at_end}
 use Rattle.h2_engines.specs.Fetches.{IsNotAccepted}
 use Rattle.h2_fetch.specs.Comings.{AnswersNext, BeginsFetch, ComesSo, HasStopped, IsComing}
+use Rattle.h2_receive.specs.Heard.{FetchesBy, ReceivesBy}
 use Rattle.h2_fetch.specs.Parts.{handed_of, handed_on}
 use Rattle.h2_fetch.specs.declared.fetch.PartFetch.{PartFetch}
 use Rattle.h2_fetch.specs.declared.part.ResponsePart.{ResponsePart}
@@ -35,6 +36,15 @@ pub record IsHearing {H : Type 0}
   pub hands : HandsParts fetch end heard []
   pub turns : rounds ≤ length end.log.turns
 
+-- So it is for a fetch of which nothing had been handed out, whatever had happened at it.
+abbrev pub HearsOn : {H : Type 0}
+    (hears : H → ResponsePart → Result (Unit {0}) HandlerFault → H → Type 0) (first : PartFetch)
+    (before now : Traffic) (old new : H) (fetch : PartFetch) (rounds : ℕ) → Type 0
+HearsOn hears first before now old new fetch rounds =
+    (values : Values) (message : SentMessage) (start : Traffic) (end : EndLog)
+    → IsComing values message start before first end → handed_on first.id end.handed ≡ []
+    → IsHearing hears values message start now old new fetch rounds
+
 -- One more part has come, and wasn't heard yet.
 pub record HasPart {H : Type 0}
     (hears : H → ResponsePart → Result (Unit {0}) HandlerFault → H → Type 0) (values : Values)
@@ -51,15 +61,16 @@ pub record HasPart {H : Type 0}
 module _ {H : Type 0} {hears : H → ResponsePart → Result (Unit {0}) HandlerFault → H → Type 0}
     {values : Values} {message : SentMessage} {start : Traffic} {old : H} where
   -- At first none have come.
-  pub hears_first : (fetch : PartFetch) → BeginsFetch values message fetch
-      → IsHearing hears values message start start old old fetch 0
-  hears_first fetch begins = record {
-    end = begins.end;
+  pub hears_first : {now : Traffic} (fetch : PartFetch) (end : EndLog)
+      → IsComing values message start now fetch end → handed_on fetch.id end.handed ≡ []
+      → IsHearing hears values message start now old old fetch 0
+  hears_first fetch end coming none = record {
+    end = end;
     heard = [];
-    coming = begins.coming start;
+    coming = coming;
     goes = tt;
     has = none_heard;
-    hands = begins.none;
+    hands = none;
     turns = omega arith;
   }
 
@@ -155,6 +166,27 @@ module _ {H : Type 0} {hears : H → ResponsePart → Result (Unit {0}) HandlerF
   pub hears_none : (error : LinkError) → IsNotAccepted values message (Err error)
       → HearsAll hears values message start start old old (Err (faults.Link error))
   hears_none error refused = is_not_accepted error refused refl refl
+
+-- A fetch that has begun over a link is received so,
+pub receives_begun : {H : Type 0}
+    {hears : H → ResponsePart → Result (Unit {0}) HandlerFault → H → Type 0}
+    {ends : H → Result (Unit {0}) FetchError → H → Type 0} {values : Values}
+    {message : SentMessage} {before now : Traffic} {old new : H}
+    {result : Result (Unit {0}) FetchError} (fetch : PartFetch) → BeginsFetch values message fetch
+    → ReceivesBy hears ends fetch before now old new result
+    → FetchesBy hears ends values message before now old new result
+receives_begun {values = values} {message = message} {before = before} fetch begins receives =
+    receives values message before begins.end (begins.coming before) begins.none
+
+-- or its message was not accepted.
+pub not_begun : {H : Type 0}
+    {hears : H → ResponsePart → Result (Unit {0}) HandlerFault → H → Type 0}
+    {ends : H → Result (Unit {0}) FetchError → H → Type 0} {values : Values}
+    {message : SentMessage} {before : Traffic} {old new : H} (error : LinkError)
+    → IsNotAccepted values message (Err error) → ends old (Err (faults.Link error)) new
+    → FetchesBy hears ends values message before before old new (Err (faults.Link error))
+not_begun {old = old} error refused over =
+    record { mid = old; heard = hears_none error refused; over = over; }
 
 -- What an error of the fetch says of the link, it says as the end of the hearing.
 pub cuts_heard : (error : LinkError) (ended : Bool)

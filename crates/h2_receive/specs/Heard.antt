@@ -87,6 +87,28 @@ pub record FetchesBy {H : Type 0}
   pub heard : HearsAll hears values message start now old mid result
   pub over : ends mid result new
 
+-- The response to this fetch is heard, whatever has happened at it, if nothing was handed out of the
+-- response before.
+-- rule: engines (own) A handler hears a response part by part, as it comes
+abbrev pub HearsFetch : {H : Type 0}
+    (hears : H → ResponsePart → Result (Unit {0}) HandlerFault → H → Type 0) → PartFetch
+    → (before now : Traffic) → (old new : H) → Result (Unit {0}) FetchError → Type 0
+HearsFetch hears fetch before now old new result =
+    (values : Values) (message : SentMessage) (start : Traffic) (end : EndLog)
+    → IsComing values message start before fetch end → handed_on fetch.id end.handed ≡ []
+    → HearsAll hears values message start now old new result
+
+-- So it is, and then the handler has learned how that has ended.
+-- rule: engines (own) A handler hears a response part by part, as it comes
+abbrev pub ReceivesBy : {H : Type 0}
+    (hears : H → ResponsePart → Result (Unit {0}) HandlerFault → H → Type 0)
+    (ends : H → Result (Unit {0}) FetchError → H → Type 0) → PartFetch → (before now : Traffic)
+    → (old new : H) → Result (Unit {0}) FetchError → Type 0
+ReceivesBy hears ends fetch before now old new result =
+    (values : Values) (message : SentMessage) (start : Traffic) (end : EndLog)
+    → IsComing values message start before fetch end → handed_on fetch.id end.handed ≡ []
+    → FetchesBy hears ends values message start now old new result
+
 -- N4 is answered only where the link has met the end of its input.
 -- rule: engines (own) N4 comes only where the input ended early
 abbrev pub CutsOffHeard : Result (Unit {0}) FetchError → (ended : Bool) → Type 0

@@ -4,7 +4,8 @@ ghost use Rattle.std.specs.Prelude.{◌≡◌, ◌<◌, ◌-◌, ◌^◌};
 ghost use Rattle.h2_flow.specs.ConfigValues.{values_of};
 ghost use Rattle.h2_message.specs.Values.{message_value};
 ghost use Rattle.h2_engines.specs.Linked.{traffic};
-ghost use Rattle.h2_receive.specs.Heard.{CutsOffHeard, FetchesBy, HearsAll, ends_response, failures_heard};
+ghost use Rattle.h2_receive.specs.Heard.{CutsOffHeard, FetchesBy, HearsFetch, ReceivesBy};
+ghost use Rattle.h2_receive.specs.Heard.{ends_response, failures_heard};
 
 use crate::errors::FetchError;
 use crate::handler::ResponseHandler;
@@ -47,7 +48,40 @@ pub fn fetch_handler<H: ResponseHandler, L: Link>(
     ensures cut_off { CutsOffHeard result (L.ended link.new) }
     ensures failures { L.faults link.new ≡ failures_heard (L.faults link.old) result }
 {
-    let outcome = hear_all(alloc, link, config, message, handler);
+    match PartFetch::new(alloc, config, message) {
+        Ok(fetch) => receive(alloc, link, fetch, handler),
+        Err(error) => {
+            let outcome = Err(FetchError::Link(error));
+            handler.over(outcome);
+            outcome
+        }
+    }
+}
+
+// contract: engines (own) A handler hears a response part by part, as it comes
+// rule: engines (own) A handler hears a response part by part, as it comes
+/// Calls the handler with each part of the response to a fetch, as [`fetch_handler`] does, which
+/// makes the fetch itself. Call it before [`PartFetch::next`], for example once
+/// [`PartFetch::widen`] has let the server send more at once.
+///
+/// # Errors
+///
+/// Those of [`fetch_handler`] except N7.
+pub fn receive<H: ResponseHandler, L: Link>(
+    alloc: Global,
+    link: &mut L,
+    fetch: PartFetch,
+    handler: &mut H,
+) -> Result<(), FetchError>
+    requires { L.faults link.old < 2 ^ 64 - 1 }
+    ensures receives { ReceivesBy H.hears H.ends fetch
+        (traffic (L.given link.old) (L.taken link.old) (L.stalled link.old))
+        (traffic (L.given link.new) (L.taken link.new) (L.stalled link.new))
+        handler.old handler.new result }
+    ensures cut_off { CutsOffHeard result (L.ended link.new) }
+    ensures failures { L.faults link.new ≡ failures_heard (L.faults link.old) result }
+{
+    let outcome = hear_all(alloc, link, fetch, handler);
     handler.over(outcome);
     outcome
 }
@@ -57,19 +91,17 @@ pub fn fetch_handler<H: ResponseHandler, L: Link>(
 fn hear_all<H: ResponseHandler, L: Link>(
     alloc: Global,
     link: &mut L,
-    config: Config,
-    message: Message,
+    mut fetch: PartFetch,
     handler: &mut H,
 ) -> Result<(), FetchError>
     requires { L.faults link.old < 2 ^ 64 - 1 }
-    ensures hears { HearsAll H.hears (values_of config) (message_value message)
+    ensures hears { HearsFetch H.hears fetch
         (traffic (L.given link.old) (L.taken link.old) (L.stalled link.old))
         (traffic (L.given link.new) (L.taken link.new) (L.stalled link.new))
         handler.old handler.new result }
     ensures cut_off { CutsOffHeard result (L.ended link.new) }
     ensures failures { L.faults link.new ≡ failures_heard (L.faults link.old) result }
 {
-    let mut fetch = PartFetch::new(alloc, config, message)?;
     for _ in 0..u64::MAX {
         let part = fetch.next(link)?;
         let is_last = ends_response(&part);

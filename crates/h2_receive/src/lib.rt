@@ -1,8 +1,8 @@
 //! Makes a request over any link (RFC 9113); a handler receives the response part by part.
 //!
 //! [`fetch_handler`] makes the request, reads, and calls the handler with each part until the
-//! response is complete. To ask for the parts instead, use `PartFetch` of `h2_fetch`, on which
-//! this is built.
+//! response is complete; [`receive`] does the same for a [`PartFetch`] of the caller's. To ask for
+//! the parts instead, use [`PartFetch::next`].
 #![tactic(auto)]
 
 mod errors;
@@ -10,9 +10,9 @@ mod fetch;
 mod handler;
 
 pub use errors::FetchError;
-pub use fetch::fetch_handler;
+pub use fetch::{fetch_handler, receive};
 pub use h2_ends::{Config, Field, Message};
-pub use h2_fetch::ResponsePart;
+pub use h2_fetch::{PartFetch, ResponsePart};
 pub use h2_handlers::HandlerFault;
 pub use h2_link::{Link, LinkError};
 pub use handler::ResponseHandler;

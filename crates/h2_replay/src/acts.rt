@@ -42,6 +42,8 @@ pub enum Act {
         /// The number of octets that are released.
         count: u32,
     },
+    /// [`Conn::widen`](h2_conn::Conn::widen), by this number of octets.
+    Widen(u32),
     /// [`Conn::reset`](h2_conn::Conn::reset).
     Reset {
         /// The stream.

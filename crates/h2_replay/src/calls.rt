@@ -25,6 +25,7 @@ pub(crate) fn make_call(conn: &mut Conn, act: &Act, out: &mut Vec<u8>) -> Answer
         Act::Fields { id, fields, end } => done(conn.fields(*id, fields, *end)),
         Act::Data { id, octets, end } => counted(conn.data(*id, octets, *end)),
         Act::Release { id, count } => done(conn.release(*id, *count)),
+        Act::Widen(count) => done(conn.widen(*count)),
         Act::Reset { id, code } => done(conn.reset(*id, *code)),
         Act::Refuse { id, code } => done(conn.refuse(*id, *code)),
         Act::Ping(octets) => pinged(conn, *octets),

@@ -15,7 +15,7 @@ use Rattle.h2_frame.specs.Encoding.{kind_of_frame, stream_of, flags_of, has_good
 use Rattle.h2_block.specs.Grouping.{is_standalone, fault_inside}
 use Rattle.h2_block.specs.Spread.{spread_frames}
 use Rattle.h2_spec_log.specs.Log.{allowed_by, least_goaway, newest_ping, next_active, next_number}
-use Rattle.h2_spec_log.specs.Log.{owed, released, unreleased}
+use Rattle.h2_spec_log.specs.Log.{owed, released, unreleased, widened}
 use Rattle.h2_spec_log.specs.States.{any_block, count_below, is_above, is_active, is_closed_by_us}
 use Rattle.h2_spec_log.specs.States.{is_over, is_used, least_block}
 use Rattle.h2_spec_log.specs.Verdicts.{block_verdict, connection_update_verdict, data_verdict}
@@ -68,7 +68,7 @@ unfolding bits_of number_of_bits octets_of_bits groups code_in code huffman_bits
     processed_by refuse_fault refused_with released replies_to reported_total
     reports_unprocessed reset_verdict resets settings_count settings_fault settings_of stream_of_act
     stream_of_item takes takes_block total unreleased update_verdict used
-    value_after value_after_all value_fault value_read verdict_by_rules verdict_of waiting
+    value_after value_after_all value_fault value_read verdict_by_rules verdict_of waiting widened
     with_call with_frame with_items with_max_frame with_reported with_sent with_step
     with_unreturned with_verdict octets_after
 computing = tt

@@ -55,6 +55,8 @@ pub data Act : Type 0 where
   PutOut : (count : ℕ) → Act
   -- changes this end's settings
   ChangeSettings : (values : Values) → Act
+  -- lets the peer send so many octets more on the connection, for good
+  Widen : (count : ℕ) → Act
 
 pub data Answer : Type 0 where
   -- the number of the stream that was opened
@@ -68,8 +70,8 @@ pub data Answer : Type 0 where
   Refused : (refusal : Refusal) → Answer
 
 -- The arguments of a call are those that its types hold: octets are below 256, numbers of streams
--- and codes below 2^32, as is the count of `Release`, and that of `PutOut` below 2^64; a PING has
--- eight octets; values are within their bounds.
+-- and codes below 2^32, as are the counts of `Release` and `Widen`, and that of `PutOut` below
+-- 2^64; a PING has eight octets; values are within their bounds.
 unfoldable pub IsTypedAct : Act → Type 0
 IsTypedAct (Open fields end) = AreOctets fields
 IsTypedAct (SendFields id fields end) = (id < 2 ^ 32) × AreOctets fields
@@ -82,6 +84,7 @@ IsTypedAct SendGoAway = Unit {0}
 IsTypedAct (Fail code) = Unit {0}
 IsTypedAct (PutOut count) = count < 2 ^ 64
 IsTypedAct (ChangeSettings values) = AreInRange values
+IsTypedAct (Widen count) = count < 2 ^ 32
 
 -- the answer that a call shows
 abbrev pub shown : Answer → Answer

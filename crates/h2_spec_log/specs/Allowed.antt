@@ -17,7 +17,8 @@ use Rattle.h2_spec_log.specs.Acts.{Values, AreInRange}
 use Rattle.h2_spec_log.specs.Settings.{peer_of, value_read, settings_count, one_ack}
 use Rattle.h2_spec_log.specs.Events.{reports_unprocessed}
 use Rattle.h2_spec_log.specs.States.{is_active, is_used, count_below, greatest_number}
-use Rattle.h2_spec_log.specs.Windows.{given_on, given_on_connection}
+use Rattle.h2_spec_log.specs.Windows.{given_on, given_on_connection, granted_on_connection}
+use Rattle.h2_spec_log.specs.Windows.{greatest_window}
 use Rattle.h2_spec_log.specs.Log.{Log, acked, allowed_by, least_goaway, max_payload_sent_by}
 use Rattle.h2_spec_log.specs.CallRules.{opening_pairs, changed_pairs}
 
@@ -61,14 +62,16 @@ pub record MaySendData (role : Role) (i count : ℕ) (received sent : List Item)
   pub fits : count ≢ 0 → total (data_on i) sent + count ≤ given_on i received
   pub fits_connection : count ≢ 0 → total data_of sent + count ≤ given_on_connection received
 
--- No more is returned than was read, and never nothing (section 6.9).
+-- WINDOW_UPDATE is never of nothing. On a stream no more is returned than was read (section 6.9),
+-- and on the connection the window is at most the greatest (section 6.9.1).
 -- rule: 5.1 Each frame is sent only in states that allow it
 pub record MayUpdateWindow (role : Role) (i increment : ℕ)
     (received sent : List Item) : Type 0 where
   pub some : increment ≢ 0
   pub active : i ≢ 0 → active_by_items role i received sent ≡ true
   pub read : i ≢ 0 → total (increment_on i) sent + increment ≤ total (data_on i) received
-  pub read_at_all : i ≡ 0 → total (increment_on 0) sent + increment ≤ total data_of received
+  pub within : i ≡ 0 → granted_on_connection sent + increment
+      ≤ greatest_window + total data_of received
 
 -- The stream was active before the item that was read last, which is one of its own: with that item
 -- the peer may have ended it.

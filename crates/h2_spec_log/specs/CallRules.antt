@@ -17,11 +17,13 @@ use Rattle.h2_spec_log.specs.declared.refusal.Refusal.TheVariants.{TooManyStream
 use Rattle.h2_spec_log.specs.declared.refusal.Refusal.TheVariants.{GoingAway, OutputFull, PingWaits}
 use Rattle.h2_spec_log.specs.declared.refusal.Refusal.TheVariants.{TooManyResets, ListTooLarge}
 use Rattle.h2_spec_log.specs.declared.refusal.Refusal.TheVariants.{NotOwed, SettingsWait}
+use Rattle.h2_spec_log.specs.declared.refusal.Refusal.TheVariants.{WindowTooLarge}
 use Rattle.h2_spec_log.specs.Acts.{Values, Act, Answer, Open, SendFields, SendData, Release}
 use Rattle.h2_spec_log.specs.Acts.{ResetStream, Refuse, SendPing, SendGoAway, Fail, PutOut}
-use Rattle.h2_spec_log.specs.Acts.{ChangeSettings, Number, Count, Done}
+use Rattle.h2_spec_log.specs.Acts.{ChangeSettings, Widen, Number, Count, Done}
 use Rattle.h2_spec_log.specs.Settings.{is_server}
 use Rattle.h2_spec_log.specs.States.{greatest_number}
+use Rattle.h2_spec_log.specs.Windows.{greatest_window}
 use Rattle.h2_spec_log.specs.Limits.{max_list, full_output, max_output, max_resets, max_data}
 use Rattle.h2_spec_log.specs.View.{StreamView, View, ended_in, ended_out, owed_on}
 use Rattle.h2_frame.specs.Codes.{code_number}
@@ -71,6 +73,11 @@ is_too_large fields = nat_lt max_list (list_size fields)
 -- C11: no octets are released, or more than are owed on the stream.
 abbrev pub is_not_owed : View → ℕ → ℕ → Bool
 is_not_owed view id count = count == 0 || nat_lt (owed_on (view.stream id)) count
+
+-- C14: the connection's window is widened by nothing, or to more than the greatest (section 6.9.1).
+-- rule: 6.9.2 (own) The window of the connection is widened by a call, for good
+abbrev pub is_too_wide : View → ℕ → Bool
+is_too_wide view count = count == 0 || nat_lt greatest_window (view.granted + count)
 
 -- each condition with its refusal
 abbrev pub if_closed : View → Bool × Refusal
@@ -127,6 +134,8 @@ conditions view (Fail code) = if_closed view ∷ []
 conditions view (PutOut count) = []
 conditions view (ChangeSettings values) =
     if_closed view ∷ if_full view ∷ (view.settings_wait, SettingsWait) ∷ []
+conditions view (Widen count) =
+    if_closed view ∷ if_full view ∷ (is_too_wide view count, WindowTooLarge) ∷ []
 
 -- the refusal of a call, being out of memory put aside
 -- rule: 5.1.1 When the numbers of 31 bits are used up no stream is opened
@@ -188,6 +197,7 @@ answer_of view (Fail code) = Done
 answer_of view (PutOut count) = Count (min count (view.waiting +
     (if returns_before_put_out view then update_size else 0)))
 answer_of view (ChangeSettings values) = Done
+answer_of view (Widen count) = Done
 
 -- the greatest frame, where it isn't the one that was written last, and then these pairs
 -- rule: 6.5.2 (own) MAX_FRAME_SIZE is sent where it differs from the value sent last
@@ -264,6 +274,7 @@ items_of view (SendPing octets) Done = alone (Ping false octets) ∷ []
 items_of view SendGoAway Done = alone (GoAway view.last_processed 0 []) ∷ []
 items_of view (ChangeSettings values) Done = alone (Settings false
     (changed_pairs view.role view.max_frame_written values)) ∷ []
+items_of view (Widen count) Done = alone (WindowUpdate 0 count) ∷ []
 items_of view act answer = []
 
 -- the stream that a call may close, or 0
@@ -279,6 +290,7 @@ stream_of_act SendGoAway = 0
 stream_of_act (Fail code) = 0
 stream_of_act (PutOut count) = 0
 stream_of_act (ChangeSettings values) = 0
+stream_of_act (Widen count) = 0
 
 -- the own encoder after a call
 unfoldable pub encoder_after_call : EncoderState → Act → Answer → EncoderState
@@ -318,3 +330,6 @@ reader_owed view id = if has_failed view then 0 else owed_on (view.stream id)
 
 abbrev pub reader_due : View → ℕ
 reader_due view = if has_failed view then 0 else view.unreturned
+
+abbrev pub reader_granted : View → ℕ
+reader_granted view = if has_failed view then 0 else view.granted

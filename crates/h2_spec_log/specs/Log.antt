@@ -15,14 +15,14 @@ use Rattle.h2_spec_log.specs.Items.{data_on, data_of, one_reset, one_ping, is_go
 use Rattle.h2_spec_log.specs.Items.{greatest_block}
 use Rattle.h2_spec_log.specs.Events.{Event, flow_on, one_acked, one_pong, reported_total}
 use Rattle.h2_spec_log.specs.Events.{greatest_processed}
-use Rattle.h2_spec_log.specs.Acts.{Act, Answer, Turn, Release, Done}
+use Rattle.h2_spec_log.specs.Acts.{Act, Answer, Turn, Release, Widen, Done}
 use Rattle.h2_spec_log.specs.Settings.{is_server, value_read, settings_count, own_value}
 use Rattle.h2_spec_log.specs.States.{greatest_number, State, is_active, stream_state, openings}
 use Rattle.h2_spec_log.specs.States.{count_below}
 use Rattle.h2_spec_log.specs.States.{least_block}
 use Rattle.h2_spec_log.specs.Limits.{max_frame_size_sent}
 use Rattle.h2_spec_log.specs.Windows.{send_window_of, connection_send_window, recv_window_of}
-use Rattle.h2_spec_log.specs.Windows.{given_on, given_on_connection}
+use Rattle.h2_spec_log.specs.Windows.{first_window, given_on, given_on_connection}
 
 pub record Log : Type 0 where
   pub role : Role
@@ -153,6 +153,18 @@ unfoldable pub released : ℕ → List (Act × Answer) → ℕ
 released i [] = 0
 released i ((Release id count, Done) ∷ calls) = (if id == i then count else 0) + released i calls
 released i (_ ∷ calls) = released i calls
+
+-- by how much the window of the connection was widened
+unfoldable pub widened : List (Act × Answer) → ℕ
+widened [] = 0
+widened ((Widen count, Done) ∷ calls) = count + widened calls
+widened (_ ∷ calls) = widened calls
+
+-- how much the peer may send on the connection before any of it is returned: the first window, and
+-- what it was widened by (section 6.9.2)
+-- rule: 6.9.2 (own) The window of the connection is widened by a call, for good
+abbrev pub granted : Log → ℕ
+granted log = first_window + widened log.calls
 
 -- the flow of a stream that was reported and wasn't released
 unfoldable pub unreleased : Log → ℕ → ℕ

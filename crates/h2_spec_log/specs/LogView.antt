@@ -10,7 +10,7 @@ use Rattle.h2_spec_log.specs.Log.{Log, state, active, next_number, active_count,
 use Rattle.h2_spec_log.specs.Log.{streams_allowed, max_streams, goaway_written, goaway_read}
 use Rattle.h2_spec_log.specs.Log.{least_goaway, settings_wait, newest_ping, ping_waits, waiting}
 use Rattle.h2_spec_log.specs.Log.{resets_written, unreleased, send_window, recv_window}
-use Rattle.h2_spec_log.specs.Log.{max_payload_sent}
+use Rattle.h2_spec_log.specs.Log.{max_payload_sent, granted}
 use Rattle.h2_spec_log.specs.View.{StreamView, View}
 
 -- what a log says of a stream
@@ -51,6 +51,7 @@ log_view log =
       last_processed = last_processed log;
       send_window = connection_send_window log.received log.sent;
       recv_window = connection_recv_window log.received log.sent;
+      granted = granted log;
       unreturned = log.unreturned;
       goaway_sent = goaway_written log;
       goaway_received = when (goaway_read log) (least_goaway log.received);

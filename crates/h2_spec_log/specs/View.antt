@@ -45,6 +45,8 @@ pub record View : Type 0 where
   -- what this end may send on the connection, and what the peer may
   pub send_window : ℤ
   pub recv_window : ℤ
+  -- how much the peer may send on the connection before any of it is returned
+  pub granted : ℕ
   -- octets of discarded DATA and of closed streams that are still to be returned by WINDOW_UPDATE
   -- on stream 0 (section 6.9)
   pub unreturned : ℕ

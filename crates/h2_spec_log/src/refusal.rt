@@ -48,4 +48,8 @@ pub enum Refusal {
     /// C13: the last SETTINGS of this end are not acknowledged yet.
     #[error("C13 SettingsWait: the last SETTINGS are not acknowledged yet")]
     SettingsWait,
+    /// C14: the connection's window is widened by nothing, or to more than 2^31 - 1 octets (RFC
+    /// 9113, section 6.9.1).
+    #[error("C14 WindowTooLarge: a window is widened by 1 or more, to 2,147,483,647 at most")]
+    WindowTooLarge,
 }

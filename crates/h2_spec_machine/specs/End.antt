@@ -37,10 +37,12 @@ pub record Streams : Type 0 where
   -- how many streams this end has reset
   pub resets : ℕ
 
--- the connection's windows, and the octets that are still to be returned (RFC 9113, section 6.9)
+-- the connection's windows; what the peer may send before any of it is returned; and the octets that
+-- are still to be returned (RFC 9113, section 6.9)
 pub record ConnectionWindows : Type 0 where
   pub send : ℕ
   pub recv : ℕ
+  pub granted : ℕ
   pub unreturned : ℕ
 
 -- what the peer's SETTINGS say of streams, and of frames
@@ -176,6 +178,7 @@ end_view e =
       last_processed = e.streams.last_processed;
       send_window = pos e.windows.send;
       recv_window = pos e.windows.recv;
+      granted = e.windows.granted;
       unreturned = e.windows.unreturned;
       goaway_sent = is_some e.goaway.sent;
       goaway_received = e.goaway.received;

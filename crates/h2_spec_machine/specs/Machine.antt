@@ -16,7 +16,7 @@ use Rattle.h2_spec_log.specs.declared.role.Role.TheVariants.{Client, Server}
 use Rattle.h2_spec_log.specs.Items.{stream_of_item, encoding_of_items}
 use Rattle.h2_spec_log.specs.Acts.{Values, Act, Answer, Open, SendFields, SendData, Release}
 use Rattle.h2_spec_log.specs.Acts.{ResetStream, Refuse, SendPing, SendGoAway, PutOut}
-use Rattle.h2_spec_log.specs.Acts.{ChangeSettings, Fail}
+use Rattle.h2_spec_log.specs.Acts.{ChangeSettings, Widen, Fail}
 use Rattle.h2_spec_log.specs.Settings.{is_server, value_after}
 use Rattle.h2_spec_log.specs.Windows.{first_window}
 use Rattle.h2_spec_log.specs.View.{StreamView, ended_in}
@@ -453,6 +453,13 @@ after_call e (ChangeSettings values) =
     record (queue_call e (ChangeSettings values) (answer_of (end_view e) (ChangeSettings values))) {
       own = record e.own { awaited = Some values };
     }
+after_call e (Widen count) =
+    record (queue_call e (Widen count) (answer_of (end_view e) (Widen count))) {
+      windows = record e.windows {
+        recv = e.windows.recv + count;
+        granted = e.windows.granted + count;
+      };
+    }
 
 -- a new end
 unfoldable pub new_end : Role → Values → End
@@ -468,7 +475,12 @@ new_end role values =
         last_processed = 0;
         resets = 0;
       };
-      windows = record { send = first_window; recv = first_window; unreturned = 0 };
+      windows = record {
+        send = first_window;
+        recv = first_window;
+        granted = first_window;
+        unreturned = 0;
+      };
       peer = record { initial_window = first_window; max_streams = 100; max_frame = 16384 };
       own = record {
         in_force = record {

@@ -18,7 +18,7 @@ use Rattle.h2_spec_log.specs.Windows.{first_window, given_on_connection, granted
 use Rattle.h2_spec_log.specs.Windows.{send_window_of, recv_window_of}
 use Rattle.h2_spec_log.specs.View.{StreamView}
 use Rattle.h2_spec_log.specs.Log.{Log, acked, allowed_by, least_goaway, newest_ping, ping_waits}
-use Rattle.h2_spec_log.specs.Log.{released}
+use Rattle.h2_spec_log.specs.Log.{released, widened}
 use Rattle.h2_spec_log.specs.Histories.{IsLog}
 use Rattle.h2_spec_machine.specs.End.{StreamEntry, active_entry, reset_entry, StreamMap, Streams}
 use Rattle.h2_spec_machine.specs.End.{ConnectionWindows, PeerSettings, OwnSettings, GoAways}
@@ -37,10 +37,10 @@ goaway_sent_last (alone (GoAway last code debug) ∷ items) = last
 goaway_sent_last (_ ∷ items) = goaway_sent_last items
 
 -- The connection's receive window is conserved: what the peer may send, what is owed on all
--- streams, and what is unreturned, are what it was at first (RFC 9113, section 6.9).
+-- streams, and what is unreturned, are what it was made (RFC 9113, section 6.9).
 abbrev pub ConservesConnectionWindow : End → Type 0
 ConservesConnectionWindow e = e.windows.recv + (owed_total e.streams.entries + e.windows.unreturned)
-    ≡ first_window
+    ≡ e.windows.granted
 
 -- Nothing is kept of a number above the greatest that was used.
 abbrev pub NoneAboveHighest : End → Type 0
@@ -89,9 +89,10 @@ pub record RepresentsStreams (streams : Streams) (role : Role) (received sent : 
 
 -- the connection's windows: additive, since nothing is subtracted
 pub record RepresentsWindows (windows : ConnectionWindows) (received sent : List Item)
-    (log_unreturned : ℕ) : Type 0 where
+    (calls : List (Act × Answer)) (log_unreturned : ℕ) : Type 0 where
   pub send : windows.send + total data_of sent ≡ given_on_connection received
   pub recv : windows.recv + total data_of received ≡ granted_on_connection sent
+  pub granted : windows.granted ≡ first_window + widened calls
   pub unreturned : windows.unreturned ≡ log_unreturned
 
 -- the peer's settings
@@ -139,7 +140,7 @@ pub record RepresentsWhileUp (e : End) (log : Log) : Type 0 where
   pub started : e.reading.started ≡ not (length log.frames == 0)
   pub reading : RepresentsReading e.reading log.begun log.table
   pub encoder : e.output.encoder ≡ log.encoder
-  pub windows : RepresentsWindows e.windows log.received log.sent log.unreturned
+  pub windows : RepresentsWindows e.windows log.received log.sent log.calls log.unreturned
   pub peer : RepresentsPeer e.peer log.received
   pub own : RepresentsOwn e.own log.role (acked log) log.sent
   pub goaway : RepresentsGoAways e.goaway log.received log.sent

@@ -43,6 +43,8 @@ pub(crate) enum Call {
         id: u32,
         code: u32,
     },
+    /// [`Conn::widen`].
+    Widen(u32),
     Ping,
     GoAway,
     ChangeSettings,
@@ -162,6 +164,7 @@ fn pumped(answered: Result<usize, EndRefusal>) -> Answer {
 pub(crate) fn make(end: &mut End, call: Call, given: &mut Given, record: &mut Record) -> Answer {
     match call {
         Call::Reset { id, code } => end.reset(id, code),
+        Call::Widen(count) => end.widen(count),
         Call::Ping => end.ping(),
         Call::GoAway => end.go_away(),
         Call::ChangeSettings => end.change_settings(),

@@ -98,6 +98,14 @@ impl End {
         })
     }
 
+    pub(crate) fn widen(&mut self, count: u32) -> Answer {
+        done(match self {
+            End::Conn(conn) => conn.widen(count),
+            End::Client(client) => client.widen(count),
+            End::Server(server) => server.widen(count),
+        })
+    }
+
     pub(crate) fn ping(&mut self) -> Answer {
         let octets = *b"12345678";
         done(match self {

@@ -256,9 +256,13 @@ fn answer_second(alloc: Global, acts: &mut Vec<JointAct>) -> Result<(), AllocErr
     exchange(acts)
 }
 
-/// PING, other settings and GOAWAY, until all is quiet.
+/// A wider window, PING, other settings and GOAWAY, until all is quiet.
 fn end_both(acts: &mut Vec<JointAct>) -> Result<(), AllocError> {
     let (client, server) = (Side::Client, Side::Server);
+    acts.push(JointAct::Widen {
+        side: client,
+        count: 100_000,
+    })?;
     acts.push(JointAct::Ping {
         side: client,
         octets: *b"12345678",

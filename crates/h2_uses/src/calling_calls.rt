@@ -177,6 +177,25 @@ pub fn keep_alive(conn: &mut Conn) -> Result<bool, Refusal>
 const PING: [u8; 8] = *b"are you?";
 // end
 
+// calling: h2_conn widen
+ghost use Rattle.h2_spec_log.specs.Acts.{Widen, Refused};
+
+/// Lets the peer send `more` octets more on the connection, for good. Returns whether that is
+/// done: if the output is full, write it and make the call again. A window that would be larger
+/// than the greatest stays as it is.
+pub fn widen(conn: &mut Conn, more: u32) -> Result<bool, Refusal>
+    ensures widens { result ≡ Ok false → ConnAnswers conn.old (Widen more)
+        (Refused Refusal.OutputFull) conn.new }
+    ensures full { (result ≢ Err Refusal.OutputFull) × (result ≢ Err Refusal.WindowTooLarge) }
+{
+    match conn.widen(more) {
+        Ok(()) | Err(Refusal::WindowTooLarge) => Ok(true),
+        Err(Refusal::OutputFull) => Ok(false),
+        Err(refusal) => Err(refusal),
+    }
+}
+// end
+
 // calling: h2_conn settings
 ghost use Rattle.h2_spec_log.specs.Acts.{ChangeSettings};
 ghost use Rattle.h2_flow.specs.ConfigValues.{values_of};

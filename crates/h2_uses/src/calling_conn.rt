@@ -91,7 +91,7 @@ pub fn after_refusal(refusal: Refusal) -> Next {
         Refusal::Memory => Next::Retry,
         Refusal::TooManyResets => Next::GoAway,
         Refusal::Closed => Next::Close,
-        Refusal::ListTooLarge | Refusal::NotOwed => Next::Mend,
+        Refusal::ListTooLarge | Refusal::NotOwed | Refusal::WindowTooLarge => Next::Mend,
     }
 }
 // end

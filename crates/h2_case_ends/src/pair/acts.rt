@@ -100,6 +100,10 @@ fn read_call(alloc: Global, name: &str, words: &mut Words<'_>) -> Option<JointAc
             id: words.number(),
             count: words.number(),
         },
+        "widen" => JointAct::Widen {
+            side: read_side(words),
+            count: words.number(),
+        },
         "reset" => JointAct::Reset {
             side: read_side(words),
             id: words.number(),

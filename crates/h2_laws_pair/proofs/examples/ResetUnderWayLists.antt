@@ -4,7 +4,7 @@ use Rattle.h2_laws_pair.proofs.Names
 use Names.{◌≡◌, ℕ, ◌+◌, ◌-◌, Bool, true, false, if◌then◌else◌, List, [], ◌∷◌, ◌++◌, length, refl}
 use Names.{sym, ◌∙◌, replicate, Data, Reset, Settings, WindowUpdate, Item, alone, block, unreleased}
 use Names.{next_unprocessed, computing, get_block, sum_below, AreUnderWay, ConservesConnection}
-use Names.{ConservesStream, IsQuiet, None, ◌==◌}
+use Names.{ConservesStream, IsQuiet, None, ◌==◌, widened}
 use Rattle.h2_laws_pair.proofs.examples.Steps.{Pair}
 use Rattle.h2_laws_pair.proofs.examples.SmallPair.{client_opening, server_opening}
 use Rattle.h2_laws_end.proofs.OverRoom.{owed_none}
@@ -64,7 +64,7 @@ reset_under_way =
 windows_with_the_lists :
     ConservesConnection dropped_pair.client.log dropped_pair.server.log second_data way_of_reset 4
     × ConservesStream dropped_pair.client.log dropped_pair.server.log second_data way_of_reset 3
-unfolding computing after_moves after_move sum_below
+unfolding computing after_moves after_move sum_below widened
 windows_with_the_lists = (refl, refl)
 
 -- the octets that were reported on stream 3, less those that were released there

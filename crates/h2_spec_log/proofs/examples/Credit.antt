@@ -1,8 +1,12 @@
 -- Credit: what is released, and what is returned for octets that nobody will release.
 use Rattle.h2_spec_log.proofs.Names
 use Names.{None, [], codes, false, map, refl, true, ◌++◌, ◌∷◌, ◌≡◌, Data, GoAway, Reset, Count}
-use Names.{Done, PutOut, Refused, Release, DataEvent, FieldsEvent, Log, output, waiting, with_call}
+use Names.{Some, NoError, pos, Done, PutOut, Refused, Release, DataEvent, FieldsEvent, Log, output}
+use Names.{waiting, with_call}
 use Names.{took_none, log_view, takes, NotOwed, GoAwayEvent, UnprocessedEvent}
+use Rattle.h2_spec_log.specs.Acts.{Widen}
+use Rattle.h2_spec_log.specs.CallRules.{reader_granted}
+use Rattle.h2_spec_log.specs.declared.refusal.Refusal.TheVariants.{WindowTooLarge}
 use Rattle.h2_spec_log.proofs.Computing.{computing}
 use Rattle.h2_spec_log.proofs.examples.Ends.{active_octets, active_output, client_with_two}
 use Rattle.h2_spec_log.proofs.examples.Ends.{server_with_body, server_with_release}
@@ -46,6 +50,29 @@ releases_in_part = (refl, refl)
 releases_a_last_body : output (server_with_release true) ≡ active_output ++ increment_frame 0 4
 unfolding computing
 releases_a_last_body = refl
+
+-- the server after its window was widened twice, by 200 and by 1
+abbrev pub wide_server : Log
+wide_server = with_call (with_call (server_with_body false) (Widen 200) Done) (Widen 1) Done
+
+-- To widen the connection's window sends WINDOW_UPDATE on stream 0, and none on a stream. The peer
+-- may send so much more, which is granted for good: what is released comes on top of it (RFC 9113,
+-- sections 6.9 and 6.9.2).
+-- rule: 6.9.2 (own) The window of the connection is widened by a call, for good
+-- rule: 6.9 Nothing of the window of the connection is lost
+widens_the_window :
+    (output wide_server ≡ active_output ++ increment_frame 0 200 ++ increment_frame 0 1)
+    × (map (λ log. (log_view log).recv_window)
+    (server_with_body false ∷ wide_server ∷ with_call wide_server (Release 1 4) Done ∷ [])
+    ≡ pos 65531 ∷ pos 65732 ∷ pos 65736 ∷ [])
+    × (map (λ log. (log_view log).granted)
+    (server_with_body false ∷ wide_server ∷ with_call wide_server (Release 1 4) Done ∷ [])
+    ≡ 65535 ∷ 65736 ∷ 65736 ∷ [])
+    × ((log_view (with_call wide_server (Widen 1) (Refused WindowTooLarge))).granted ≡ 65736)
+    × (map (λ failed. reader_granted (record (log_view wide_server) { failed = failed }))
+    (None ∷ Some NoError ∷ []) ≡ 65736 ∷ 0 ∷ [])
+unfolding computing
+widens_the_window = (refl, refl, refl, refl, refl)
 
 -- DATA on a stream that a GOAWAY then leaves out
 abbrev pub client_with_unprocessed_body : Log

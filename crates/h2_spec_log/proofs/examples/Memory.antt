@@ -88,7 +88,7 @@ calls_that_fail_for_memory = (refl, refl)
 calls_refused_for_memory :
     (map (may_lack_memory active_view) (stream_calls 1 ++ connection_calls ++ Open [] true
     ∷ PutOut 1 ∷ Refuse 1 1 ∷ [])
-    ≡ replicate 9 true ++ false ∷ [])
+    ≡ replicate 10 true ++ false ∷ [])
     × (outcome (with_call active_server (SendPing one_to_eight) (Refused Memory))
     ≡ outcome active_server)
 unfolding computing

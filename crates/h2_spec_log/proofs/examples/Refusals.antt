@@ -8,6 +8,8 @@ use Names.{Settings, NoError, Act, ChangeSettings, Count, Done, Number, Open, Pu
 use Names.{Refused, Release, ResetStream, SendData, SendFields, SendGoAway, SendPing, active_count}
 use Names.{recv_window, send_window, waiting, with_call, log_view, View, takes, NotOwed, GoingAway}
 use Names.{NoSuchStream, OutputFull, PingWaits, SettingsWait}
+use Rattle.h2_spec_log.specs.Acts.{Widen}
+use Rattle.h2_spec_log.specs.declared.refusal.Refusal.TheVariants.{WindowTooLarge}
 use Rattle.h2_spec_log.proofs.Computing.{computing}
 use Rattle.h2_spec_log.proofs.examples.Blocks.{list_of_size}
 use Rattle.h2_spec_log.proofs.examples.Ends.{active_server, active_view, asking_view, new_client}
@@ -27,12 +29,13 @@ stream_calls =
 
 -- calls on the connection
 abbrev pub connection_calls : List Act
-connection_calls = SendPing one_to_eight ∷ SendGoAway ∷ ChangeSettings small_values ∷ []
+connection_calls =
+    SendPing one_to_eight ∷ SendGoAway ∷ ChangeSettings small_values ∷ Widen 1000 ∷ []
 
 -- Where no condition holds none is refused.
 calls_that_are_answered :
     (answers body_view (stream_calls 1) ≡ Done ∷ Count 4 ∷ Done ∷ Done ∷ [])
-    × (answers body_view connection_calls ≡ replicate 3 Done)
+    × (answers body_view connection_calls ≡ replicate 4 Done)
     × (answers body_view (Refuse 1 1 ∷ PutOut 10 ∷ []) ≡ Done ∷ Count 10 ∷ [])
 unfolding computing
 calls_that_are_answered = (refl, refl, refl)
@@ -41,7 +44,7 @@ calls_that_are_answered = (refl, refl, refl)
 refused_after_a_failure :
     (answers (record body_view { failed = Some NoError })
     (stream_calls 1 ++ connection_calls ++ Open short_request true ∷ Refuse 1 1 ∷ Refuse 1 2 ∷ [])
-    ≡ replicate 10 (Refused Closed))
+    ≡ replicate 11 (Refused Closed))
     × (answered (record body_view { failed = Some NoError }) (PutOut 10) ≡ Count 10)
 unfolding computing
 refused_after_a_failure = (refl, refl)
@@ -109,13 +112,13 @@ going_away = (refl, refl)
 -- C7: 65,536 octets of output wait. Refusing a stream and putting output out aren't refused for it.
 full_output :
     (answers (record body_view { waiting = 65536 }) (stream_calls 1 ++ connection_calls)
-    ≡ replicate 7 (Refused OutputFull))
+    ≡ replicate 8 (Refused OutputFull))
     × (answered (record asking_view { waiting = 65536 }) (Open short_request true)
     ≡ Refused OutputFull)
     × (answers (record body_view { waiting = 65536 }) (Refuse 1 1 ∷ PutOut 10 ∷ [])
     ≡ Done ∷ Count 10 ∷ [])
     × (answers (record body_view { waiting = 65535 }) (stream_calls 1 ++ connection_calls)
-    ≡ Done ∷ Count 4 ∷ replicate 5 Done)
+    ≡ Done ∷ Count 4 ∷ replicate 6 Done)
     × (answered (record asking_view { waiting = 65535 }) (Open short_request true) ≡ Number 3)
 unfolding computing
 full_output = (refl, refl, refl, refl, refl)
@@ -157,6 +160,18 @@ settings_wait :
     ≡ Refused SettingsWait
 unfolding computing
 settings_wait = refl
+
+-- C14: the connection's window is widened by nothing, or to more than 2^31 - 1 (section 6.9.1).
+-- rule: 6.9.2 (own) The window of the connection is widened by a call, for good
+window_too_large :
+    (answers body_view (map Widen (0 ∷ 1 ∷ 2147418112 ∷ 2147418113 ∷ []))
+    ≡ Refused WindowTooLarge ∷ Done ∷ Done ∷ Refused WindowTooLarge ∷ [])
+    × (answers (record body_view { granted = 2147483646 }) (map Widen (1 ∷ 2 ∷ []))
+    ≡ Done ∷ Refused WindowTooLarge ∷ [])
+    × (answered (record body_view { waiting = 65536 }) (Widen 0) ≡ Refused OutputFull)
+    × (answered (record body_view { failed = Some NoError }) (Widen 0) ≡ Refused Closed)
+unfolding computing
+window_too_large = (refl, refl, refl, refl)
 
 -- a view of which every condition of `Open` holds
 abbrev pub refusing_view : View

@@ -122,6 +122,7 @@ fn side_of(act: &JointAct) -> Side {
         | JointAct::PumpSome { side, .. }
         | JointAct::ReleaseAll(side)
         | JointAct::Release { side, .. }
+        | JointAct::Widen { side, .. }
         | JointAct::Reset { side, .. }
         | JointAct::Ping { side, .. }
         | JointAct::GoAway(side)

@@ -100,6 +100,10 @@ const REFUSALS: &[(Refusal, &str)] = &[
         Refusal::SettingsWait,
         "C13 SettingsWait: the last SETTINGS are not acknowledged yet",
     ),
+    (
+        Refusal::WindowTooLarge,
+        "C14 WindowTooLarge: a window is widened by 1 or more, to 2,147,483,647 at most",
+    ),
 ];
 
 // The place of the first refusal whose text is another.

@@ -11,8 +11,7 @@ returns c = record {
       (frame_holds e decoded frame (holds e whole));
   fault = λ e code whole. is_whole (fail code e.streams.last_processed e) (holds e whole);
   unprocessed = λ e i whole. is_whole (close_unprocessed e i)
-      (ended e i 0 (lacks_none e.windows.recv e.windows.unreturned e.streams.highest
-      e.streams.entries (holds e whole)));
+      (ended e i 0 (lacks_none e (holds e whole)));
   call = λ e act accepted whole. is_whole (after_call e act)
       (call_holds e act accepted (holds e whole));
 }

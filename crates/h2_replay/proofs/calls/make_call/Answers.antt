@@ -71,6 +71,16 @@ returns-in-Release-clause-makes c =
     (shows_itself (λ done. Done) c.release.result (λ id. refl)) tt c.requires.none
     c.release.ensures)
 
+pub returns-in-Widen-clause-typed : goal.returns-in-Widen-clause-typed
+unfolding IsTypedAct
+returns-in-Widen-clause-typed c = typed_as _ _ c.in-Widen.is (omega arith)
+
+pub returns-in-Widen-clause-makes : goal.returns-in-Widen-clause-makes
+returns-in-Widen-clause-makes c =
+    makes_as _ _ c.args.conn.now c.widen.new.self _ _ c.in-Widen.is
+    (answered_call c.args.conn.now c.widen.new.self _ _ _ _ c.done-in-Widen.ensures
+    (shows_itself (λ done. Done) c.widen.result (λ id. refl)) tt c.requires.none c.widen.ensures)
+
 pub returns-in-Reset-clause-typed : goal.returns-in-Reset-clause-typed
 unfolding IsTypedAct
 returns-in-Reset-clause-typed c = typed_as _ _ c.in-Reset.is (omega arith, omega arith)

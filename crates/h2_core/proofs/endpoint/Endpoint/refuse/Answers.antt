@@ -66,7 +66,7 @@ reset_stream-requires-clause-window c =
     let sound = c.requires.sound c.in_ok-check_up.ensures.ok in
     let e = end_of c.args.self.now in
     let stream = stream_view c.in-Some.stream in
-    let fits : e.windows.recv + (e.windows.unreturned + stream.owed) ≤ 65535 =
+    let fits : e.windows.recv + (e.windows.unreturned + stream.owed) ≤ 2147483647 =
     owed_fits e c.args.id stream sound (sym c.in-Some.ensures) in
     omega (arith, fits)
 

@@ -60,7 +60,7 @@ sound : (c : In-Some) → IsSoundEnd (end_of c.args.self.now)
 sound c = c.requires.sound c.in_ok-check_up.ensures.ok
 
 fits : (c : In-Some) → (end_of c.args.self.now).windows.recv
-    + ((end_of c.args.self.now).windows.unreturned + c.in-Some.stream.owed) ≤ 65535
+    + ((end_of c.args.self.now).windows.unreturned + c.in-Some.stream.owed) ≤ 2147483647
 fits c = owed_fits _ _ _ (sound c) (sym c.in-Some.ensures)
 
 near : (c : In-Some) → is_far c.in-Some.stream.recv_window ≡ false

@@ -12,7 +12,7 @@ returns-in-Interim c =
     rw c.in-Interim.is (list_event c.args.self.now c.keep_list.new.self c.in-Interim.list.now
     c.keep_list.result
     (handed c.in-Interim.list.now) (places.Interim c.in-Interim.id c.keep_list.result)
-    c.keep_list.ensures (λ fit. fit) (λ same. ap handed same) (λ within. within))
+    c.keep_list.ensures (λ body fit. fit) (λ same. ap handed same) (λ within. within))
 
 pub returns-in-Head : goal.returns-in-Head
 unfolding event_kept Fits IsEventPlace
@@ -21,7 +21,7 @@ returns-in-Head c =
     rw c.in-Head.is (list_event c.args.self.now c.keep_list-in-Head.new.self
     c.in-Head.list.now c.keep_list-in-Head.result
     (handed c.in-Head.list.now) (places.Head c.in-Head.id c.keep_list-in-Head.result c.in-Head.end)
-    c.keep_list-in-Head.ensures (λ fit. fit) (λ same. ap handed same) (λ within. within))
+    c.keep_list-in-Head.ensures (λ body fit. fit) (λ same. ap handed same) (λ within. within))
 
 pub returns-in-Trailers : goal.returns-in-Trailers
 unfolding event_kept Fits IsEventPlace
@@ -31,7 +31,7 @@ returns-in-Trailers c =
     c.in-Trailers.list.now c.keep_list-in-Trailers.result
     (handed c.in-Trailers.list.now)
     (places.Trailers c.in-Trailers.id c.keep_list-in-Trailers.result)
-    c.keep_list-in-Trailers.ensures (λ fit. fit) (λ same. ap handed same) (λ within. within))
+    c.keep_list-in-Trailers.ensures (λ body fit. fit) (λ same. ap handed same) (λ within. within))
 
 pub returns-in-Body : goal.returns-in-Body
 returns-in-Body c =
