@@ -16,8 +16,7 @@ last_frame : (limits others : Limits) (here there : ℕ) (frames : List Frame) (
 last_frame limits others here there [] frame body tail all none
     (first, following, split, sound, nothing) joined =
     let is : tail ≡ first = rw none at joined ∙ split
-    ∙ ap (λ (octets : List ℕ). first ++ octets) nothing ∙ append-nil first in
-    (
+    ∙ ap (λ (octets : List ℕ). first ++ octets) nothing ∙ append-nil first in (
       others (there + 9),
       subst (λ (octets : List ℕ). IsFrame (others (there + 9)) frame octets) (sym is) sound,
     )

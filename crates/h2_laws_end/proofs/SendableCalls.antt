@@ -226,9 +226,11 @@ accepted_sendable role log (ChangeSettings values) represents typed none up are 
 )
 accepted_sendable role log (Widen count) represents typed none up are =
     let narrow = or_parts (count == 0) _ (none_holds _ none).1.1.0 in
-    let low = ltb-false greatest_window _ narrow.1 in
-    (update_sendable (max_payload_sent log) 0 count (most_between log.received) (omega arith)
-    (omega (arith, low)), tt)
+    let low = ltb-false greatest_window _ narrow.1 in (
+      update_sendable (max_payload_sent log) 0 count (most_between log.received) (omega arith)
+          (omega (arith, low)),
+      tt,
+    )
 
 -- A new log.
 begins_fit : (role : Role) (values : Values) → AreInRange values → LogIsFit (opened role values)

@@ -186,7 +186,7 @@ pub not_begun : {H : Type 0}
     → IsNotAccepted values message (Err error) → ends old (Err (faults.Link error)) new
     → FetchesBy hears ends values message before before old new (Err (faults.Link error))
 not_begun {old = old} error refused over =
-    record { mid = old; heard = hears_none error refused; over = over; }
+    record { mid = old; heard = hears_none error refused; over = over }
 
 -- What an error of the fetch says of the link, it says as the end of the hearing.
 pub cuts_heard : (error : LinkError) (ended : Bool)

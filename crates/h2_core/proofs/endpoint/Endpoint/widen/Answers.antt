@@ -33,8 +33,12 @@ returns-then-count-eq0-clause-err c =
     let up = c.in_ok-check_up.ensures.ok in
     let room = c.in_ok-check_room.ensures.ok in
     let within = (c.requires.sound up).ranges.granted in
-    refused _ _ _ (rw (up, room, widen-test c.args.count e.windows.granted within
-    c.then-count-eq0.either))
+    refused _ _ _ (rw (
+      up,
+      room,
+      widen-test c.args.count e.windows.granted within
+          c.then-count-eq0.either,
+    ))
 
 pub returns-then-is_err-clause-err : goal.returns-then-is_err-clause-err
 unfolding conditions first_of
@@ -78,8 +82,12 @@ returns-clause-ok c =
     let room = c.in_ok-check_room.ensures.ok in
     let within = (c.requires.sound up).ranges.granted in
     record {
-      free = rw (up, room, widen-allowed c.args.count e.windows.granted (omega arith)
-          (omega (arith, within)));
+      free = rw (
+        up,
+        room,
+        widen-allowed c.args.count e.windows.granted (omega arith)
+            (omega (arith, within)),
+      );
       after =
           ap (λ (octets : List ℕ). widened (with_waiting e octets) c.args.count)
           (item-added (end_view e).max_payload (WindowUpdate 0 c.args.count) e.output.waiting
