@@ -65,57 +65,60 @@ pub get_is_alone : IsAlone get_app
 get_is_alone = record { ready = refl; leaves = refl; free = refl; negates = refl }
 
 -- the first argument of `get` alone is its URL
-only_url : (j : ℕ) (d : Rule) → j < 12
+url_at : (j : ℕ) (d : Rule) → j < 13
     → bytes_eq (slice_index_or get_app.top.rules j d).id (codes "URL") ≡ true → j ≡ 0
-only_url zero d lt same = refl
-only_url (suc zero) d lt same = cc
-only_url (suc (suc zero)) d lt same = cc
-only_url (suc (suc (suc zero))) d lt same = cc
-only_url (suc (suc (suc (suc zero)))) d lt same = cc
-only_url (suc (suc (suc (suc (suc zero))))) d lt same = cc
-only_url (suc (suc (suc (suc (suc (suc zero)))))) d lt same = cc
-only_url (suc (suc (suc (suc (suc (suc (suc zero))))))) d lt same = cc
-only_url (suc (suc (suc (suc (suc (suc (suc (suc zero)))))))) d lt same = cc
-only_url (suc (suc (suc (suc (suc (suc (suc (suc (suc zero))))))))) d lt same = cc
-only_url (suc (suc (suc (suc (suc (suc (suc (suc (suc (suc zero)))))))))) d lt same = cc
-only_url (suc (suc (suc (suc (suc (suc (suc (suc (suc (suc (suc zero))))))))))) d lt same = cc
-only_url (suc (suc (suc (suc (suc (suc (suc (suc (suc (suc (suc (suc j)))))))))))) d lt same =
+url_at zero d lt same = refl
+url_at (suc zero) d lt same = cc
+url_at (suc (suc zero)) d lt same = cc
+url_at (suc (suc (suc zero))) d lt same = cc
+url_at (suc (suc (suc (suc zero)))) d lt same = cc
+url_at (suc (suc (suc (suc (suc zero))))) d lt same = cc
+url_at (suc (suc (suc (suc (suc (suc zero)))))) d lt same = cc
+url_at (suc (suc (suc (suc (suc (suc (suc zero))))))) d lt same = cc
+url_at (suc (suc (suc (suc (suc (suc (suc (suc zero)))))))) d lt same = cc
+url_at (suc (suc (suc (suc (suc (suc (suc (suc (suc zero))))))))) d lt same = cc
+url_at (suc (suc (suc (suc (suc (suc (suc (suc (suc (suc zero)))))))))) d lt same = cc
+url_at (suc (suc (suc (suc (suc (suc (suc (suc (suc (suc (suc zero))))))))))) d lt same = cc
+url_at (suc (suc (suc (suc (suc (suc (suc (suc (suc (suc (suc (suc zero)))))))))))) d lt same = cc
+url_at (suc (suc (suc (suc (suc (suc (suc (suc (suc (suc (suc (suc (suc j))))))))))))) d lt same =
     absurd (omega arith)
 
 -- the seventh argument of `get` alone is its port
-only_get_port : (j : ℕ) (d : Rule) → j < 12
+port_at : (j : ℕ) (d : Rule) → j < 13
     → bytes_eq (slice_index_or get_app.top.rules j d).id (codes "port") ≡ true → j ≡ 6
-only_get_port zero d lt same = cc
-only_get_port (suc zero) d lt same = cc
-only_get_port (suc (suc zero)) d lt same = cc
-only_get_port (suc (suc (suc zero))) d lt same = cc
-only_get_port (suc (suc (suc (suc zero)))) d lt same = cc
-only_get_port (suc (suc (suc (suc (suc zero))))) d lt same = cc
-only_get_port (suc (suc (suc (suc (suc (suc zero)))))) d lt same = refl
-only_get_port (suc (suc (suc (suc (suc (suc (suc zero))))))) d lt same = cc
-only_get_port (suc (suc (suc (suc (suc (suc (suc (suc zero)))))))) d lt same = cc
-only_get_port (suc (suc (suc (suc (suc (suc (suc (suc (suc zero))))))))) d lt same = cc
-only_get_port (suc (suc (suc (suc (suc (suc (suc (suc (suc (suc zero)))))))))) d lt same = cc
-only_get_port (suc (suc (suc (suc (suc (suc (suc (suc (suc (suc (suc zero))))))))))) d lt same = cc
-only_get_port (suc (suc (suc (suc (suc (suc (suc (suc (suc (suc (suc (suc j)))))))))))) d lt same =
+port_at zero d lt same = cc
+port_at (suc zero) d lt same = cc
+port_at (suc (suc zero)) d lt same = cc
+port_at (suc (suc (suc zero))) d lt same = cc
+port_at (suc (suc (suc (suc zero)))) d lt same = cc
+port_at (suc (suc (suc (suc (suc zero))))) d lt same = cc
+port_at (suc (suc (suc (suc (suc (suc zero)))))) d lt same = refl
+port_at (suc (suc (suc (suc (suc (suc (suc zero))))))) d lt same = cc
+port_at (suc (suc (suc (suc (suc (suc (suc (suc zero)))))))) d lt same = cc
+port_at (suc (suc (suc (suc (suc (suc (suc (suc (suc zero))))))))) d lt same = cc
+port_at (suc (suc (suc (suc (suc (suc (suc (suc (suc (suc zero)))))))))) d lt same = cc
+port_at (suc (suc (suc (suc (suc (suc (suc (suc (suc (suc (suc zero))))))))))) d lt same = cc
+port_at (suc (suc (suc (suc (suc (suc (suc (suc (suc (suc (suc (suc zero)))))))))))) d lt same = cc
+port_at (suc (suc (suc (suc (suc (suc (suc (suc (suc (suc (suc (suc (suc j))))))))))))) d lt same =
     absurd (omega arith)
 
 -- the tenth argument of `get` alone is its time-out
-only_timeout : (j : ℕ) (d : Rule) → j < 12
+time_at : (j : ℕ) (d : Rule) → j < 13
     → bytes_eq (slice_index_or get_app.top.rules j d).id (codes "timeout") ≡ true → j ≡ 9
-only_timeout zero d lt same = cc
-only_timeout (suc zero) d lt same = cc
-only_timeout (suc (suc zero)) d lt same = cc
-only_timeout (suc (suc (suc zero))) d lt same = cc
-only_timeout (suc (suc (suc (suc zero)))) d lt same = cc
-only_timeout (suc (suc (suc (suc (suc zero))))) d lt same = cc
-only_timeout (suc (suc (suc (suc (suc (suc zero)))))) d lt same = cc
-only_timeout (suc (suc (suc (suc (suc (suc (suc zero))))))) d lt same = cc
-only_timeout (suc (suc (suc (suc (suc (suc (suc (suc zero)))))))) d lt same = cc
-only_timeout (suc (suc (suc (suc (suc (suc (suc (suc (suc zero))))))))) d lt same = refl
-only_timeout (suc (suc (suc (suc (suc (suc (suc (suc (suc (suc zero)))))))))) d lt same = cc
-only_timeout (suc (suc (suc (suc (suc (suc (suc (suc (suc (suc (suc zero))))))))))) d lt same = cc
-only_timeout (suc (suc (suc (suc (suc (suc (suc (suc (suc (suc (suc (suc j)))))))))))) d lt same =
+time_at zero d lt same = cc
+time_at (suc zero) d lt same = cc
+time_at (suc (suc zero)) d lt same = cc
+time_at (suc (suc (suc zero))) d lt same = cc
+time_at (suc (suc (suc (suc zero)))) d lt same = cc
+time_at (suc (suc (suc (suc (suc zero))))) d lt same = cc
+time_at (suc (suc (suc (suc (suc (suc zero)))))) d lt same = cc
+time_at (suc (suc (suc (suc (suc (suc (suc zero))))))) d lt same = cc
+time_at (suc (suc (suc (suc (suc (suc (suc (suc zero)))))))) d lt same = cc
+time_at (suc (suc (suc (suc (suc (suc (suc (suc (suc zero))))))))) d lt same = refl
+time_at (suc (suc (suc (suc (suc (suc (suc (suc (suc (suc zero)))))))))) d lt same = cc
+time_at (suc (suc (suc (suc (suc (suc (suc (suc (suc (suc (suc zero))))))))))) d lt same = cc
+time_at (suc (suc (suc (suc (suc (suc (suc (suc (suc (suc (suc (suc zero)))))))))))) d lt same = cc
+time_at (suc (suc (suc (suc (suc (suc (suc (suc (suc (suc (suc (suc (suc j))))))))))))) d lt same =
     absurd (omega arith)
 
 pub get_wants_url : IsRequiredAt get_app 0 (required_rule (codes "URL"))
@@ -126,7 +129,7 @@ get_wants_url = record {
   action = refl;
   range = refl;
   simple = refl;
-  unique = only_url;
+  unique = url_at;
   named = refl;
   own = refl;
 }
@@ -135,7 +138,7 @@ pub get_names_port : IsNamedAt get_app 6 (number_option_rule (codes "port") 1 65
 get_names_port = record {
   inside = lit< tt;
   at = λ d. refl;
-  unique = only_get_port;
+  unique = port_at;
   named = refl;
   own = refl;
 }
@@ -144,7 +147,7 @@ pub get_names_timeout : IsNamedAt get_app 9 (number_option_rule (codes "timeout"
 get_names_timeout = record {
   inside = lit< tt;
   at = λ d. refl;
-  unique = only_timeout;
+  unique = time_at;
   named = refl;
   own = refl;
 }
@@ -219,7 +222,7 @@ pub host_is_alone : IsAlone host_app
 host_is_alone = record { ready = refl; leaves = refl; free = refl; negates = refl }
 
 -- the first argument of `host` alone is its port
-only_host_port : (j : ℕ) (d : Rule) → j < 7
+only_host_port : (j : ℕ) (d : Rule) → j < 8
     → bytes_eq (slice_index_or host_app.top.rules j d).id (codes "PORT") ≡ true → j ≡ 0
 only_host_port zero d lt same = refl
 only_host_port (suc zero) d lt same = cc
@@ -228,10 +231,11 @@ only_host_port (suc (suc (suc zero))) d lt same = cc
 only_host_port (suc (suc (suc (suc zero)))) d lt same = cc
 only_host_port (suc (suc (suc (suc (suc zero))))) d lt same = cc
 only_host_port (suc (suc (suc (suc (suc (suc zero)))))) d lt same = cc
-only_host_port (suc (suc (suc (suc (suc (suc (suc j))))))) d lt same = absurd (omega arith)
+only_host_port (suc (suc (suc (suc (suc (suc (suc zero))))))) d lt same = cc
+only_host_port (suc (suc (suc (suc (suc (suc (suc (suc j)))))))) d lt same = absurd (omega arith)
 
 -- the fourth alone is the number of its connections
-only_connections : (j : ℕ) (d : Rule) → j < 7
+only_connections : (j : ℕ) (d : Rule) → j < 8
     → bytes_eq (slice_index_or host_app.top.rules j d).id (codes "connections") ≡ true → j ≡ 3
 only_connections zero d lt same = cc
 only_connections (suc zero) d lt same = cc
@@ -240,10 +244,11 @@ only_connections (suc (suc (suc zero))) d lt same = refl
 only_connections (suc (suc (suc (suc zero)))) d lt same = cc
 only_connections (suc (suc (suc (suc (suc zero))))) d lt same = cc
 only_connections (suc (suc (suc (suc (suc (suc zero)))))) d lt same = cc
-only_connections (suc (suc (suc (suc (suc (suc (suc j))))))) d lt same = absurd (omega arith)
+only_connections (suc (suc (suc (suc (suc (suc (suc zero))))))) d lt same = cc
+only_connections (suc (suc (suc (suc (suc (suc (suc (suc j)))))))) d lt same = absurd (omega arith)
 
 -- the fifth alone is the time of idle ones
-only_idle : (j : ℕ) (d : Rule) → j < 7
+only_idle : (j : ℕ) (d : Rule) → j < 8
     → bytes_eq (slice_index_or host_app.top.rules j d).id (codes "idle") ≡ true → j ≡ 4
 only_idle zero d lt same = cc
 only_idle (suc zero) d lt same = cc
@@ -252,7 +257,8 @@ only_idle (suc (suc (suc zero))) d lt same = cc
 only_idle (suc (suc (suc (suc zero)))) d lt same = refl
 only_idle (suc (suc (suc (suc (suc zero))))) d lt same = cc
 only_idle (suc (suc (suc (suc (suc (suc zero)))))) d lt same = cc
-only_idle (suc (suc (suc (suc (suc (suc (suc j))))))) d lt same = absurd (omega arith)
+only_idle (suc (suc (suc (suc (suc (suc (suc zero))))))) d lt same = cc
+only_idle (suc (suc (suc (suc (suc (suc (suc (suc j)))))))) d lt same = absurd (omega arith)
 
 pub host_wants_port : IsRequiredAt host_app 0 (number_rule (codes "PORT") 1 65535)
 host_wants_port = record {

@@ -230,12 +230,15 @@ verbose_rule = record (flag_rule (codes "verbose")) { short = Some 118 }
 abbrev pub others_rule : Rule
 others_rule = record (new_rule (codes "URLS")) { value_names = 1; action = Some Append }
 
--- the same with `[--timeout SECONDS] [-v]` and more URLs; the seconds are from 1 to 65,535
+-- the same with `[--timeout SECONDS] [-v] [--window SIZE]` and more URLs; the seconds are from 1 to
+-- 65,535
 -- rule: engines (own) serve, get and loop have their words
 abbrev pub get_app : App
 get_app = with_rule
+    (with_rule
     (with_rule (with_rule streaming_app (number_option_rule (codes "timeout") 1 65535))
-    verbose_rule) others_rule
+    verbose_rule) others_rule)
+    (path_rule (codes "window"))
 
 -- `loop N [--each-way]`; the number is from 0 to 1,048,576
 -- rule: engines (own) serve, get and loop have their words
@@ -251,15 +254,18 @@ served_app = with_rule
     (path_rule (codes "address"))
 
 -- `host PORT [--root DIR] [--address A] [--connections N] [--idle SECONDS] [--log]
--- [--until-closed]`; the number is from 1 to 1,048,576, and the seconds are from 0 to 86,400
+-- [--until-closed] [--window SIZE]`; the number is from 1 to 1,048,576, and the seconds are from 0 to
+-- 86,400
 -- rule: hosts (own) The words of host say what is served, where, and for how long
 abbrev pub host_app : App
 host_app = with_rule
     (with_rule
+    (with_rule
     (with_rule (with_rule served_app (number_option_rule (codes "connections") 1 1048576))
     (number_option_rule (codes "idle") 0 86400))
     (flag_rule (codes "log")))
-    (flag_rule (codes "until-closed"))
+    (flag_rule (codes "until-closed")))
+    (path_rule (codes "window"))
 
 -- `h2` with any words: it has a version
 abbrev pub named_program : App

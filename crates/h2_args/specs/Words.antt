@@ -224,8 +224,8 @@ serve_faults = fault_of serve_app
 -- What the words after `get` ask for: a URL; whether the response's fields are printed; the fields
 -- of the request, each as it was written; its method and its body, where they are given; whether a
 -- status of 400 or above is a failure; the port where the URL names none; the file that the body
--- goes into, if one is named; whether the body is printed as it comes; and in how many seconds all
--- is to be done, where that is given.
+-- goes into, if one is named; whether the body is printed as it comes; in how many seconds all is to
+-- be done, where that is given; and the size of the window, as it was written.
 -- rule: engines (own) serve, get and loop have their words
 pub record GetWords : Type 0 where
   pub url : Text
@@ -240,6 +240,7 @@ pub record GetWords : Type 0 where
   pub timeout : Option ℕ
   pub verbose : Bool
   pub others : List Text
+  pub window : Option Text
 
 -- the number that an option's value writes in decimal digits, where it is given
 abbrev pub number_if : Option Text → Option ℕ
@@ -260,6 +261,7 @@ get_words_in rows = record {
   timeout = number_if (one_of (codes "timeout") rows);
   verbose = is_set (one_of (codes "verbose") rows);
   others = unwrap_or (all_of (codes "URLS") rows) [];
+  window = first_of (codes "window") rows;
 }
 
 -- What the words after `get` ask for, if they have no fault.
@@ -282,6 +284,7 @@ asked_by options = record {
   timeout = options.timeout;
   verbose = options.verbose;
   others = map (λ url. url.now) options.others.items;
+  window = option_map (λ window. window.now) options.window;
 }
 
 -- the kinds of error that the words after `get` may have
@@ -307,7 +310,8 @@ loop_faults = fault_of loop_app
 
 -- What the words after `host` ask for: a port; a folder and an address, where they are given; how
 -- many connections, and after how many seconds an idle one ends, where that is given; whether a
--- line a request is printed; and whether the host ends with standard input.
+-- line a request is printed; whether the host ends with standard input; and the size of a window, as
+-- it was written.
 -- rule: hosts (own) The words of host say what is served, where, and for how long
 pub record HostAsked : Type 0 where
   pub port : ℕ
@@ -317,6 +321,7 @@ pub record HostAsked : Type 0 where
   pub idle : Option ℕ
   pub log : Bool
   pub until_closed : Bool
+  pub window : Option Text
 
 -- what the matches of `host` say
 abbrev pub host_words_in : List Row → HostAsked
@@ -328,6 +333,7 @@ host_words_in rows = record {
   idle = number_if (one_of (codes "idle") rows);
   log = is_set (one_of (codes "log") rows);
   until_closed = is_set (one_of (codes "until-closed") rows);
+  window = first_of (codes "window") rows;
 }
 
 -- What the words after `host` ask for, if they have no fault.
@@ -345,6 +351,7 @@ host_asked_by options = record {
   idle = options.idle;
   log = options.log;
   until_closed = options.until_closed;
+  window = option_map (λ window. window.now) options.window;
 }
 
 -- the kinds of error that the words after `host` may have

@@ -7,7 +7,7 @@ ghost use Rattle.h2_args.specs.Words.{asks_follow, follow_asked_by, follow_asked
 ghost use Rattle.h2_args.specs.Words.{follow_faults};
 
 use crate::options::{CommandText, has_word, named_command};
-use crate::show::{MAX_FRAME, max_frame_arg, path_arg};
+use crate::show::{MAX_FRAME, max_frame_arg};
 use clap::{Arg, ArgAction, Command, Error};
 use h2_follow::FollowOptions;
 use h2_frame::limits::LEAST_MAX_FRAME;
@@ -93,5 +93,5 @@ fn follow_command<'a>(alloc: Global) -> Result<Command<'a>, AllocError>
     named_command(alloc, "show", TEXT)?
         .arg(follow_arg(alloc))?
         .arg(max_frame_arg(alloc))?
-        .arg(path_arg(alloc, PAGE, PAGE_HELP))
+        .arg(valued_arg(alloc, PAGE, "FILE", PAGE_HELP))
 }

@@ -9,8 +9,9 @@ ghost use Rattle.h2_args.specs.Commands.{number_option_rule, streaming_app, text
 ghost use Rattle.h2_args.specs.Commands.{others_rule, url_and_print_app, verbose_rule};
 ghost use Rattle.h2_args.specs.Words.{asked_by, get_faults, get_words_in, get_words_of};
 
-use crate::options::{CommandText, flag_arg, is_set, named_command};
+use crate::options::{CommandText, flag_arg, is_set, named_command, valued_arg};
 use crate::sockets::required_arg;
+use crate::window::WINDOW;
 use clap::builder::ValueParser;
 use clap::{Arg, ArgAction, ArgMatches, Command, Error, value_parser};
 use std::alloc::{AllocError, Global};
@@ -42,6 +43,8 @@ pub struct GetOptions<'a> {
     pub verbose: bool,
     /// More URLs after the first one.
     pub others: Vec<&'a str>,
+    /// The size of the window, if given, not yet parsed: see [`crate::window_or`].
+    pub window: Option<&'a str>,
 }
 
 // contract: engines (own) serve, get and loop have their words
@@ -96,6 +99,7 @@ fn options_of<'a>(alloc: Global, matches: &ArgMatches<'a>) -> Result<GetOptions<
         timeout: matches.get_one::<u16>(TIMEOUT),
         verbose: is_set(matches, VERBOSE),
         others,
+        window: matches.get_str(WINDOW),
     })
 }
 
@@ -172,6 +176,10 @@ const VERBOSE_HELP: &str = r"Print the frames of both sides on standard error,
 in the format of show --follow, but check neither
 against the other's SETTINGS; the body is printed
 as with --stream";
+
+const WINDOW_HELP: &str = r"Octets that the server may send beyond what was read, of
+each response and of all together; k and m multiply by
+1024 and 1048576 [default: 4m]";
 
 /// What `get` prints, how it ends, and an example.
 const FETCHED_AND_STATUSES: &str =
@@ -362,5 +370,6 @@ pub(super) fn get_command<'a>(alloc: Global) -> Result<Command<'a>, AllocError>
     streaming_command(alloc)?
         .arg(number_option(alloc, TIMEOUT, "SECONDS", TIMEOUT_HELP))?
         .arg(verbose_arg(alloc))?
-        .arg(others_arg(alloc))
+        .arg(others_arg(alloc))?
+        .arg(valued_arg(alloc, WINDOW, "SIZE", WINDOW_HELP))
 }

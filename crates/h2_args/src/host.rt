@@ -6,8 +6,9 @@ ghost use Rattle.clap.specs.Words.{HasKind, app_of, rule_of};
 ghost use Rattle.h2_args.specs.Commands.{host_app, number_option_rule, path_rule, served_app};
 ghost use Rattle.h2_args.specs.Words.{host_asked_by, host_faults, host_words_of};
 
-use crate::options::{CommandText, flag_arg, is_set, named_command};
+use crate::options::{CommandText, flag_arg, is_set, named_command, valued_arg};
 use crate::sockets::{counts, number_arg};
+use crate::window::WINDOW;
 use clap::builder::ValueParser;
 use clap::{Arg, Command, Error, value_parser};
 use std::alloc::{AllocError, Global};
@@ -30,6 +31,8 @@ pub struct HostWords<'a> {
     pub log: bool,
     /// Whether the host shuts down once standard input is closed.
     pub until_closed: bool,
+    /// The size of a window, if given, not yet parsed: see [`crate::window_or`].
+    pub window: Option<&'a str>,
 }
 
 // contract: hosts (own) The words of host say what is served, where, and for how long
@@ -62,6 +65,7 @@ pub fn host_args<'a>(alloc: Global, words: &'a [String]) -> Result<HostWords<'a>
         idle: matches.get_one::<u32>(IDLE),
         log: is_set(&matches, LOG),
         until_closed: is_set(&matches, UNTIL_CLOSED),
+        window: matches.get_str(WINDOW),
     })
 }
 
@@ -95,6 +99,10 @@ const UNTIL_CLOSED: &str = "until-closed";
 
 const UNTIL_CLOSED_HELP: &str = r"Shut down gracefully once standard input, a pipe, is
 closed";
+
+const WINDOW_HELP: &str = r"Octets that a client may send beyond what was read, of
+each request and of all together; k and m multiply by
+1024 and 1048576 [default: 1m]";
 
 /// What `host` serves, how it ends, and an example.
 const HOSTED_AND_STATUSES: &str =
@@ -173,17 +181,6 @@ Example:
   $ h2 host 9001 --root examples &
   $ curl --http2-prior-knowledge http://127.0.0.1:9001/client-reset.hex";
 
-// An option whose value is any text, without a letter.
-fn valued_arg<'a>(alloc: Global, name: &'a str, value: &'a str, help: &'a str) -> Arg<'a>
-    ensures rule { rule_of result ≡ path_rule name.entry.now }
-    ensures local { result.global ≡ false }
-{
-    Arg::new(alloc, name)
-        .long(name)
-        .value_name(value)
-        .help(help)
-}
-
 // The option of a number.
 fn count_arg<'a>(
     alloc: Global,
@@ -244,5 +241,6 @@ pub(super) fn host_command<'a>(alloc: Global) -> Result<Command<'a>, AllocError>
         ))?
         .arg(count_arg(alloc, IDLE, "SECONDS", idle_seconds(), IDLE_HELP))?
         .arg(flag_arg(alloc, LOG, LOG_HELP))?
-        .arg(flag_arg(alloc, UNTIL_CLOSED, UNTIL_CLOSED_HELP))
+        .arg(flag_arg(alloc, UNTIL_CLOSED, UNTIL_CLOSED_HELP))?
+        .arg(valued_arg(alloc, WINDOW, "SIZE", WINDOW_HELP))
 }

@@ -2,7 +2,7 @@
 
 ghost use Rattle.std.specs.Prelude.{◌≡◌, IfOk, false, map, string_bytes};
 ghost use Rattle.clap.specs.Words.{app_of, first_of, found_of, one_of, rows_of, rule_of};
-ghost use Rattle.h2_args.specs.Commands.{IsSideRule, flag_rule, hex_rule, named_app};
+ghost use Rattle.h2_args.specs.Commands.{IsSideRule, flag_rule, hex_rule, named_app, path_rule};
 ghost use Rattle.h2_args.specs.Words.{has_value, has_word, is_set};
 
 use clap::{Arg, ArgAction, ArgMatches, Command};
@@ -70,6 +70,22 @@ pub(super) fn flag_arg<'a>(alloc: Global, name: &'a str, help: &'a str) -> Arg<'
     Arg::new(alloc, name)
         .long(name)
         .action(ArgAction::SetTrue)
+        .help(help)
+}
+
+/// An option whose value is any text, without a letter.
+pub(super) fn valued_arg<'a>(
+    alloc: Global,
+    name: &'a str,
+    value: &'a str,
+    help: &'a str,
+) -> Arg<'a>
+    ensures rule { rule_of result ≡ path_rule name.entry.now }
+    ensures local { result.global ≡ false }
+{
+    Arg::new(alloc, name)
+        .long(name)
+        .value_name(value)
         .help(help)
 }
 

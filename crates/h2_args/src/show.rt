@@ -299,17 +299,6 @@ pub(super) fn max_frame_arg<'a>(alloc: Global) -> Arg<'a>
         .help(MAX_FRAME_HELP)
 }
 
-/// An option of a file as clap has it.
-pub(super) fn path_arg<'a>(alloc: Global, name: &'a str, help: &'a str) -> Arg<'a>
-    ensures rule { rule_of result ≡ path_rule name.entry.now }
-    ensures local { result.global ≡ false }
-{
-    Arg::new(alloc, name)
-        .long(name)
-        .value_name("FILE")
-        .help(help)
-}
-
 // The option of colors as clap has it.
 fn color_arg<'a>(alloc: Global) -> Arg<'a>
     ensures rule { IsColorRule (rule_of result) }
@@ -346,7 +335,7 @@ fn styled_command<'a>(alloc: Global) -> Result<Command<'a>, AllocError>
     ensures { IfOk result (λ command. IsStyledCommand (app_of command)) }
 {
     shown_input_command(alloc)?
-        .arg(path_arg(alloc, FILE, FILE_HELP))?
+        .arg(valued_arg(alloc, FILE, "FILE", FILE_HELP))?
         .arg(flag_arg(alloc, NAMES, NAMES_HELP))?
         .arg(flag_arg(alloc, OFFSETS, OFFSETS_HELP))?
         .arg(color_arg(alloc))?
@@ -358,6 +347,6 @@ pub(super) fn show_command<'a>(alloc: Global) -> Result<Command<'a>, AllocError>
     ensures { IfOk result (λ command. IsShowCommand (app_of command)) }
 {
     styled_command(alloc)?
-        .arg(path_arg(alloc, CLIENT, CLIENT_HELP))?
-        .arg(path_arg(alloc, SERVER, SERVER_HELP))
+        .arg(valued_arg(alloc, CLIENT, "FILE", CLIENT_HELP))?
+        .arg(valued_arg(alloc, SERVER, "FILE", SERVER_HELP))
 }

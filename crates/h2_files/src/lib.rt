@@ -24,6 +24,6 @@ pub use laws::segments_are_names;
 pub use media::media_type;
 pub use methods::{ALLOW, Method};
 pub use names::{MAX_PATH, file_names, path_below};
-pub use range::{Ranged, content_range, range_of, unsatisfied_range};
+pub use range::{Ranged, content_range, number_of_digits, range_of, unsatisfied_range};
 pub use segments::MAX_NAME;
 pub use version::Version;

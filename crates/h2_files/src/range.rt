@@ -152,8 +152,9 @@ fn spec_of_texts(first: &[u8], last: &[u8]) -> Option<RangeSpec>
     Some(RangeSpec::Between(first, number_of_digits(last)?))
 }
 
-/// The number of one or more digits, if it is below 2^64.
-fn number_of_digits(digits: &[u8]) -> Option<u64>
+/// Returns the number that one or more decimal digits write, if it is below 2^64. `None` for any
+/// other text.
+pub fn number_of_digits(digits: &[u8]) -> Option<u64>
     ensures { result ≡ number_of_digits digits.now }
 {
     if !are_digits(digits) {

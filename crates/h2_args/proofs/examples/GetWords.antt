@@ -19,6 +19,7 @@ url_alone : get_words_of (codes "http://h:1/a" ∷ []) ≡ Some (record {
   timeout = None;
   verbose = false;
   others = [];
+  window = None;
 })
 unfolding clap_on_literals
 url_alone = refl
@@ -38,6 +39,7 @@ short_words : get_words_of (codes "-i" ∷ codes "-H" ∷ codes "A: b" ∷ codes
       timeout = None;
       verbose = false;
       others = [];
+      window = None;
     })
 unfolding clap_on_literals
 short_words = refl
@@ -57,6 +59,7 @@ long_words : get_words_of (codes "--include" ∷ codes "--header=a:b" ∷ codes 
       timeout = None;
       verbose = false;
       others = [];
+      window = None;
     })
 unfolding clap_on_literals
 long_words = refl
@@ -76,6 +79,7 @@ parts_words : get_words_of (codes "-o" ∷ codes "a" ∷ codes "--stream" ∷ co
       timeout = Some 20;
       verbose = true;
       others = codes "http://h/b" ∷ codes "http://h/c" ∷ [];
+      window = None;
     })
 unfolding clap_on_literals
 parts_words = refl

@@ -14,6 +14,7 @@ port_alone : host_words_of (codes "9001" ∷ []) ≡ Some (record {
   idle = None;
   log = false;
   until_closed = false;
+  window = None;
 })
 unfolding clap_on_literals
 port_alone = refl
@@ -29,6 +30,7 @@ all_words : host_words_of (codes "--root" ∷ codes "site" ∷ codes "--address=
       idle = Some 0;
       log = true;
       until_closed = true;
+      window = None;
     })
 unfolding clap_on_literals
 all_words = refl

@@ -29,10 +29,10 @@ same_words : {url url_now : Text} {include include_now : Bool} {fields fields_no
     {method method_now body body_now : Option Text} {fail fail_now : Bool}
     {port port_now : Option ℕ} {output output_now : Option Text} {stream stream_now : Bool}
     {timeout timeout_now : Option ℕ} {verbose verbose_now : Bool}
-    {others others_now : List Text} → url ≡ url_now → include ≡ include_now → fields ≡ fields_now
+    {others others_now : List Text} {window window_now : Option Text} → url ≡ url_now → include ≡ include_now → fields ≡ fields_now
     → method ≡ method_now → body ≡ body_now → fail ≡ fail_now → port ≡ port_now
     → output ≡ output_now → stream ≡ stream_now → timeout ≡ timeout_now
-    → verbose ≡ verbose_now → others ≡ others_now
+    → verbose ≡ verbose_now → others ≡ others_now → window ≡ window_now
     → ◌≡◌ {A = GetWords} (record {
       url = url;
       include = include;
@@ -46,6 +46,7 @@ same_words : {url url_now : Text} {include include_now : Bool} {fields fields_no
       timeout = timeout;
       verbose = verbose;
       others = others;
+      window = window;
     }) (record {
       url = url_now;
       include = include_now;
@@ -59,8 +60,9 @@ same_words : {url url_now : Text} {include include_now : Bool} {fields fields_no
       timeout = timeout_now;
       verbose = verbose_now;
       others = others_now;
+      window = window_now;
     })
-same_words a b c d e f g h k l m n = λ i. record {
+same_words a b c d e f g h k l m n o = λ i. record {
   url = a i;
   include = b i;
   fields = c i;
@@ -73,6 +75,7 @@ same_words a b c d e f g h k l m n = λ i. record {
   timeout = l i;
   verbose = m i;
   others = n i;
+  window = o i;
 }
 
 -- the port is the number that is given, if one is
@@ -124,7 +127,8 @@ returns-clause-ok c =
     let method = sym (first_value-rows found (codes "request")) ∙ sym c.get_str-2.ensures in
     let body = sym (first_value-rows found (codes "data")) ∙ sym c.get_str-3.ensures in
     let output = sym (first_value-rows found (codes "output")) ∙ sym c.get_str-4.ensures in
+    let window = sym (first_value-rows found (codes "window")) ∙ sym c.get_str-5.ensures in
     same_words url (sym c.is_set.ensures)
     (sym c.in_ok-fields.ensures) method body (sym c.is_set-2.ensures) (sym given.read) output
     (sym c.is_set-3.ensures) (sym time.read) (sym c.is_set-4.ensures)
-    (sym c.in_ok-others.ensures)
+    (sym c.in_ok-others.ensures) window

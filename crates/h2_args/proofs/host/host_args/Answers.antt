@@ -48,9 +48,9 @@ idle_of c = option_number_if host_app c.in_ok-command.command c.in_ok-command.en
 -- words that ask for equal things are equal
 same_host_words : {port port_now : ℕ} {root root_now address address_now : Option Text}
     {connections connections_now idle idle_now : Option ℕ}
-    {log log_now until_closed until_closed_now : Bool} → port ≡ port_now → root ≡ root_now
+    {log log_now until_closed until_closed_now : Bool} {window window_now : Option Text} → port ≡ port_now → root ≡ root_now
     → address ≡ address_now → connections ≡ connections_now → idle ≡ idle_now → log ≡ log_now
-    → until_closed ≡ until_closed_now
+    → until_closed ≡ until_closed_now → window ≡ window_now
     → ◌≡◌ {A = HostAsked} (record {
       port = port;
       root = root;
@@ -59,6 +59,7 @@ same_host_words : {port port_now : ℕ} {root root_now address address_now : Opt
       idle = idle;
       log = log;
       until_closed = until_closed;
+      window = window;
     }) (record {
       port = port_now;
       root = root_now;
@@ -67,8 +68,9 @@ same_host_words : {port port_now : ℕ} {root root_now address address_now : Opt
       idle = idle_now;
       log = log_now;
       until_closed = until_closed_now;
+      window = window_now;
     })
-same_host_words a b c d e f g = λ i. record {
+same_host_words a b c d e f g h = λ i. record {
   port = a i;
   root = b i;
   address = c i;
@@ -76,6 +78,7 @@ same_host_words a b c d e f g = λ i. record {
   idle = e i;
   log = f i;
   until_closed = g i;
+  window = h i;
 }
 
 pub unreachable-requires : goal.unreachable-requires
@@ -116,11 +119,12 @@ returns-clause-ok c =
     let idle = idle_of at.After-get_one-3 in
     let root = sym (first_value-rows found (codes "root")) ∙ sym c.get_str.ensures in
     let address = sym (first_value-rows found (codes "address")) ∙ sym c.get_str-2.ensures in
+    let window = sym (first_value-rows found (codes "window")) ∙ sym c.get_str-3.ensures in
     given_by-Ok host_app host_words_in _ c.in_ok-command.command c.in_ok-matches.matches
     c.in_ok-command.ensures refl refl c.in_ok-matches.ensures.matches
     c.in_ok-matches.ensures.kinds ∙ ap Some (same_host_words (sym (same_port ∙ port.read)) root
     address (sym connections.read) (sym idle.read) (sym c.is_set.ensures)
-    (sym c.is_set-2.ensures))
+    (sym c.is_set-2.ensures) window)
 
 pub returns-in_err-matches-clause-err : goal.returns-in_err-matches-clause-err
 returns-in_err-matches-clause-err c =
