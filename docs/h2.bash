@@ -17,9 +17,9 @@ _h2() {
             'replay '*) words='--hex --as --messages --help' ;;
             'serve '*) words='--help' ;;
             'get -o'|'get --output') words= ;;
-            'get '*) words='--include --header --request --data --fail --port --output --stream --timeout --verbose --help' ;;
+            'get '*) words='--include --header --request --data --fail --port --output --stream --timeout --verbose --window --help' ;;
             'loop '*) words='--each-way --help' ;;
-            'host '*) words='--root --address --connections --idle --log --until-closed --help' ;;
+            'host '*) words='--root --address --connections --idle --log --until-closed --window --help' ;;
         esac
     fi
     COMPREPLY=($(compgen -W "$words" -- "$word"))

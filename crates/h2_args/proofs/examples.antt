@@ -4,5 +4,6 @@ pub mod ShowWords
 pub mod SocketWords
 pub mod GetWords
 pub mod HostWords
+pub mod WindowSizes
 pub mod ReplayWords
 pub mod ProgramWords

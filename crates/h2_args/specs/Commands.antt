@@ -253,18 +253,19 @@ served_app = with_rule
     (path_rule (codes "root")))
     (path_rule (codes "address"))
 
--- `host PORT [--root DIR] [--address A] [--connections N] [--idle SECONDS] [--log]
--- [--until-closed] [--window SIZE]`; the number is from 1 to 1,048,576, and the seconds are from 0 to
--- 86,400
+-- `host PORT [--root DIR] [--address A] [--connections N] [--idle SECONDS] [--log]`; the number is
+-- from 1 to 1,048,576, and the seconds are from 0 to 86,400
 -- rule: hosts (own) The words of host say what is served, where, and for how long
-abbrev pub host_app : App
-host_app = with_rule
-    (with_rule
-    (with_rule
+abbrev pub limited_app : App
+limited_app = with_rule
     (with_rule (with_rule served_app (number_option_rule (codes "connections") 1 1048576))
     (number_option_rule (codes "idle") 0 86400))
-    (flag_rule (codes "log")))
-    (flag_rule (codes "until-closed")))
+    (flag_rule (codes "log"))
+
+-- the same with `[--until-closed] [--window SIZE]`
+-- rule: hosts (own) The words of host say what is served, where, and for how long
+abbrev pub host_app : App
+host_app = with_rule (with_rule limited_app (flag_rule (codes "until-closed")))
     (path_rule (codes "window"))
 
 -- `h2` with any words: it has a version

@@ -6,7 +6,7 @@ ghost use Rattle.h2_args.specs.Commands.{follow_app, follow_rule};
 ghost use Rattle.h2_args.specs.Words.{asks_follow, follow_asked_by, follow_asked_of};
 ghost use Rattle.h2_args.specs.Words.{follow_faults};
 
-use crate::options::{CommandText, has_word, named_command};
+use crate::options::{CommandText, has_word, named_command, valued_arg};
 use crate::show::{MAX_FRAME, max_frame_arg};
 use clap::{Arg, ArgAction, Command, Error};
 use h2_follow::FollowOptions;

@@ -177,9 +177,9 @@ in the format of show --follow, but check neither
 against the other's SETTINGS; the body is printed
 as with --stream";
 
-const WINDOW_HELP: &str = r"Octets that the server may send beyond what was read, of
-each response and of all together; k and m multiply by
-1024 and 1048576 [default: 4m]";
+const WINDOW_HELP: &str = r"Octets of bodies that may be sent before they are
+read, of each response and in all; k and m multiply
+by 1024 and 1048576 [default: 4m]";
 
 /// What `get` prints, how it ends, and an example.
 const FETCHED_AND_STATUSES: &str =
@@ -194,12 +194,16 @@ to connect (name resolution, and a write to a pipe, are not interrupted).
 Several URLs are requested at once, each with the same fields and the same body.
 The responses are printed in the order of the URLs, with a newline between them.
 The current one is printed as it arrives, as with --stream; what arrives of
-later ones in the meantime is kept. That is little: the windows of all streams
-are 65535 octets together, so each of N responses has a window of 65535 divided
-by N, and a long body takes N times the round trips. A response that is reset,
-or fails by --fail, does not end the others, and a hint names its URL; the exit
-status is that of the first failure. At most 100 URLs are accepted, all of the
-same host and port.
+later ones in the meantime is kept. That is at most the size of --window: each
+of N responses has a window of that size divided by N, which opens again only
+for the current one. A response that is reset, or fails by --fail, does not end
+the others, and a hint names its URL; the exit status is that of the first
+failure. At most 100 URLs are accepted, all of the same host and port.
+
+The server may send as many octets of bodies as --window says before they are
+read: so a window divided by the round-trip time is the most that arrives per
+second. Below 65535 it limits each response alone, since a connection has a
+window of 65535 octets at least.
 
 With one URL and none of --output, --stream and --verbose, the body is kept
 until the response is complete, and nothing is printed of an incomplete one.
@@ -207,8 +211,9 @@ Otherwise the body is printed, or written to the --output file, as it arrives,
 and little of it is kept: if the response is reset or cut off, what arrived
 before is already there. The file is created or truncated once the head of the
 response has arrived. If --fail makes the response a failure, the file is left
-alone, and no more of the response is fetched. `--output -` writes a file of
-that name. --output cannot be used with several URLs.
+alone, and no more of the response is fetched; with several URLs, no more of
+its body arrives than its window allows. `--output -` writes a file of that
+name. --output cannot be used with several URLs.
 
 With --verbose, each frame is printed on standard error when it is sent, after
 `> `, or received, after `< `, in the format of h2 show --follow. With --output

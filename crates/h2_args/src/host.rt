@@ -3,7 +3,8 @@
 ghost use Rattle.std.specs.Prelude.{◌≡◌, ◌≤◌, IfErr, IfOk, IfSome, Some, codes, false, map, pos};
 ghost use Rattle.std.specs.Prelude.{string_bytes};
 ghost use Rattle.clap.specs.Words.{HasKind, app_of, rule_of};
-ghost use Rattle.h2_args.specs.Commands.{host_app, number_option_rule, path_rule, served_app};
+ghost use Rattle.h2_args.specs.Commands.{host_app, limited_app, number_option_rule, path_rule};
+ghost use Rattle.h2_args.specs.Commands.{served_app};
 ghost use Rattle.h2_args.specs.Words.{host_asked_by, host_faults, host_words_of};
 
 use crate::options::{CommandText, flag_arg, is_set, named_command, valued_arg};
@@ -100,9 +101,9 @@ const UNTIL_CLOSED: &str = "until-closed";
 const UNTIL_CLOSED_HELP: &str = r"Shut down gracefully once standard input, a pipe, is
 closed";
 
-const WINDOW_HELP: &str = r"Octets that a client may send beyond what was read, of
-each request and of all together; k and m multiply by
-1024 and 1048576 [default: 1m]";
+const WINDOW_HELP: &str = r"Octets of bodies that may be sent before they are used,
+of each request and of a connection; k and m multiply
+by 1024 and 1048576 [default: 1m]";
 
 /// What `host` serves, how it ends, and an example.
 const HOSTED_AND_STATUSES: &str =
@@ -137,18 +138,24 @@ A connection is closed with code 4 if the preface and the first frame take more
 than 10 seconds, and with code 11
 - if a later frame, a field block of several frames, or the next 1024 octets of
   request bodies (of all streams together) take more than 30 seconds;
-- if output is queued and none of it is written for 60 seconds, or some open
-  request has a response and no octet of any response body is sent for 60;
+- if output is queued and none of it is written for 60 seconds, or if some
+  request has been given a response, its exchange is not over, and no octet of
+  any response body is sent for 60 seconds;
 - if, in one of the periods of 10 seconds that follow one another,
   - the client sends more than 500 RST_STREAM frames or more than 500 empty
     frames;
   - the host resets more than 50 streams for stream errors (malformed requests,
     for example) or because of its limits of streams and fields; or
   - the replies to PING and SETTINGS are more than 32768 octets;
-- if it holds more than 16 MiB, or if all together hold more than 256 MiB and it
-  holds most.
+- if it holds more than 16 MiB (or than twice --window, if that is more), or if
+  all together hold more than 256 MiB and it holds most.
   Header tables, field blocks, entries of streams and the spare capacity of
   buffers are not counted.
+
+A client may send as many octets of bodies as --window says before they are
+read, of each request and of all together. The connection's window, 65535 octets
+at first, is widened to that size once a body arrives of which more is to come,
+but all are widened by at most 128 MiB together.
 
 With --until-closed, GOAWAY is sent on all connections once standard input is
 closed, and pending requests are answered. A connection that takes longer than 5
@@ -168,7 +175,8 @@ no line.
 Exit status (lines in backquotes go to standard error):
   0  with --until-closed, standard input was closed, and all connections have
      ended
-  2  invalid arguments, or `error: not an IP address: ADDR`
+  2  invalid arguments, `error: not an IP address: ADDR`, or an `error:` line
+     for --window
   3  `N1 Device`: the port or the folder is not available, standard input
      cannot be polled (a file, for example), or waiting or writing the log
      failed
@@ -227,9 +235,9 @@ fn served_command<'a>(alloc: Global) -> Result<Command<'a>, AllocError>
         .arg(valued_arg(alloc, ADDRESS, "ADDR", ADDRESS_HELP))
 }
 
-/// The command as clap has it.
-pub(super) fn host_command<'a>(alloc: Global) -> Result<Command<'a>, AllocError>
-    ensures { IfOk result (λ command. app_of command ≡ host_app) }
+// The command with its limits and its log.
+fn limited_command<'a>(alloc: Global) -> Result<Command<'a>, AllocError>
+    ensures { IfOk result (λ command. app_of command ≡ limited_app) }
 {
     served_command(alloc)?
         .arg(count_arg(
@@ -240,7 +248,14 @@ pub(super) fn host_command<'a>(alloc: Global) -> Result<Command<'a>, AllocError>
             CONNECTIONS_HELP,
         ))?
         .arg(count_arg(alloc, IDLE, "SECONDS", idle_seconds(), IDLE_HELP))?
-        .arg(flag_arg(alloc, LOG, LOG_HELP))?
+        .arg(flag_arg(alloc, LOG, LOG_HELP))
+}
+
+/// The command as clap has it.
+pub(super) fn host_command<'a>(alloc: Global) -> Result<Command<'a>, AllocError>
+    ensures { IfOk result (λ command. app_of command ≡ host_app) }
+{
+    limited_command(alloc)?
         .arg(flag_arg(alloc, UNTIL_CLOSED, UNTIL_CLOSED_HELP))?
         .arg(valued_arg(alloc, WINDOW, "SIZE", WINDOW_HELP))
 }

@@ -74,12 +74,7 @@ pub(super) fn flag_arg<'a>(alloc: Global, name: &'a str, help: &'a str) -> Arg<'
 }
 
 /// An option whose value is any text, without a letter.
-pub(super) fn valued_arg<'a>(
-    alloc: Global,
-    name: &'a str,
-    value: &'a str,
-    help: &'a str,
-) -> Arg<'a>
+pub(super) fn valued_arg<'a>(alloc: Global, name: &'a str, value: &'a str, help: &'a str) -> Arg<'a>
     ensures rule { rule_of result ≡ path_rule name.entry.now }
     ensures local { result.global ≡ false }
 {

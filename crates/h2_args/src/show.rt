@@ -4,13 +4,13 @@ ghost use Rattle.std.specs.Prelude.{◌≡◌, ◌≤◌, IfErr, IfOk, codes, fa
 ghost use Rattle.std.specs.Prelude.{Some, option_map};
 ghost use Rattle.clap.specs.Words.{app_of, first_of, found_of, rows_of, rule_of};
 ghost use Rattle.h2_args.specs.Commands.{IsColorRule, IsShowCommand, IsShownInputCommand};
-ghost use Rattle.h2_args.specs.Commands.{IsStyledCommand, number_option_rule, path_rule};
+ghost use Rattle.h2_args.specs.Commands.{IsStyledCommand, number_option_rule};
 ghost use Rattle.h2_args.specs.Words.{ShowWordsAsk, ShowWordsFail, colors_of, file_of};
 ghost use Rattle.h2_args.specs.Words.{show_asked_by, show_options_in, style_in, style_of};
 
 use crate::follow::follow_arg;
 use crate::options::{
-    CommandText, HEX, flag_arg, hex_arg, is_named, is_set, named_command, side_arg,
+    CommandText, HEX, flag_arg, hex_arg, is_named, is_set, named_command, side_arg, valued_arg,
 };
 use clap::builder::ValueParser;
 use clap::{Arg, ArgMatches, Command, Error, value_parser};

@@ -27,10 +27,12 @@ pub fn window_or(text: Option<&str>, usual: u32) -> Option<u32>
 
 // rule: engines (own) The size of --window is a number of octets, with k or m for more
 /// The size that a text writes.
+#[tactic(auto, unfolding(crate::specs::Windows::window_size))]
 fn window_size(text: &[u8]) -> Option<u32>
     ensures { result ≡ window_size text.now }
 {
-    window_times(number_of_digits(digits_of(text))?, unit_of(text))
+    let number = number_of_digits(digits_of(text))?;
+    window_times(number, unit_of(text))
 }
 
 /// The digits before the letter, if there is one.
@@ -56,11 +58,13 @@ fn unit_of(text: &[u8]) -> u64
 }
 
 /// So many times this many octets, if that is a window.
+#[tactic(auto, unfolding(crate::specs::Windows::window_times))]
 fn window_times(number: u64, unit: u64) -> Option<u32>
     ensures { result ≡ window_times number unit }
 {
-    match number.checked_mul(unit) {
-        Some(octets) if octets > 0 && octets <= MOST => Some(octets as u32),
-        _ => None,
+    let octets = number.checked_mul(unit)?;
+    if octets < 1 || octets > MOST {
+        return None;
     }
+    Some(octets as u32)
 }

@@ -19,7 +19,6 @@ use Rattle.h2_fetch.specs.declared.several.SeveralFetch.{SeveralFetch}
 use Rattle.h2_fetch.specs.Parts.{handed_of}
 use Rattle.h2_fetch.specs.Several.{AnsweredOn, AreComing, AskedOn, DropOn, HaveStopped, OnStream}
 use Rattle.h2_fetch.specs.Several.{PartOn, RefusesOne}
-use Rattle.h2_net.specs.Fetching.{default_values}
 use Rattle.h2_args.specs.Words.{GetWords}
 use Rattle.h2_get.specs.declared.pass_error.PassError.{PassError}
 use Rattle.h2_get.specs.declared.pass_error.PassError.TheVariants as passes
@@ -31,6 +30,7 @@ use Rattle.h2_get.specs.declared.pass_error.StreamError.TheVariants as streams
 use Rattle.h2_get.specs.Receives.{EndsBody, HasNoHead, HeadCame, body_handed, fields_in_trailers}
 use Rattle.h2_get.specs.Responses.{fails_as_asked}
 use Rattle.h2_get.specs.Streams.{ShowsFailure, ShowsSoFar, ShowsWhole}
+use Rattle.h2_get.specs.Windows.{BeginsSeveralWith, several_values, window_of}
 
 -- what was answered of each stream, with what was answered of one since
 abbrev pub answered_more : AnsweredOn → (id : ℕ) → (more : List OnStream) → AnsweredOn
@@ -252,32 +252,25 @@ abbrev pub results_of : Result SeveralStreamed StreamEnding
 results_of (Ok several) = Ok several.results.items
 results_of (Err ending) = Err ending.error
 
--- the window of each of so many streams: its share of the connection's (RFC 9113, section 6.9.2),
--- so that what comes of one that nobody waits for never takes what another needs
--- rule: engines (own) A response that is waited for has its window, and no other
-abbrev pub window_among : (streams : ℕ) → ℕ
-window_among streams = if streams == 0 then 65535 else max 1 (65535 / streams)
-
--- the values of a client that makes so many requests
--- rule: engines (own) A response that is waited for has its window, and no other
-abbrev pub several_values : (requests : ℕ) → Values
-several_values requests = record default_values { initial_window = window_among requests }
-
--- The requests were made at once over a new connection, and their responses were printed one after
--- another, however that has ended; or no connection could be made, or one of the requests was not
--- accepted, and nothing was printed. Out of memory for what came of them says nothing.
+-- The requests were made at once over a new connection with the window that
+-- the words ask for, and their responses were
+-- printed one after another, however that has ended; or no connection could be made, or one of the
+-- requests was not accepted, and nothing was printed. Out of memory for what came of them says
+-- nothing.
 -- rule: engines (own) Several responses are printed in the order of their URLs
+-- rule: engines (own) get has the window of --window, for the connection and for each stream
 pub data StreamsRequests (words : GetWords) (messages : List SentMessage)
     (before after : Option (List ℕ)) : Result (List (Result Fetched StreamError)) StreamError
     → Type 0 where
   none_connected : (error : LinkError) → (error ≡ errors.Device) ⊎ (error ≡ errors.Memory)
-      → after ≡ before → StreamsRequests words messages before after (Err (streams.Link error))
-  one_refused : (error : LinkError) → RefusesOne (several_values (length messages)) messages error
-      → after ≡ before
+      → after ≡ before → StreamsRequests words messages before after
+      (Err (streams.Link error))
+  one_refused : (error : LinkError)
+      → RefusesOne (several_values (window_of words) (length messages)) messages error → after ≡ before
       → StreamsRequests words messages before after (Err (streams.Link error))
-  are_streamed : (asked : List AskedOn) (start now : Traffic) (fetch : SeveralFetch)
-      (results : List (Result Fetched StreamError)) → map (λ one. one.1) asked ≡ messages
-      → StreamedSeveral words (several_values (length messages)) start now asked fetch before after
-      results
+  are_streamed : (begun fetch : SeveralFetch) (results : List (Result Fetched StreamError))
+      → BeginsSeveralWith (window_of words) messages begun
+      → SeveralOver words begun fetch before after results
       → StreamsRequests words messages before after (Ok results)
-  results_lost : StreamsRequests words messages before after (Err (streams.Link errors.Memory))
+  results_lost : StreamsRequests words messages before after
+      (Err (streams.Link errors.Memory))

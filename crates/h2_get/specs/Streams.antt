@@ -18,7 +18,6 @@ use Rattle.h2_engines.specs.declared.fetcher.Fetched.{Fetched}
 use Rattle.h2_fetch.specs.declared.fetch.PartFetch.{PartFetch}
 use Rattle.h2_fetch.specs.Comings.{HandsSince, HasStopped, IsComing}
 use Rattle.h2_fetch.specs.Parts.{handed_on}
-use Rattle.h2_net.specs.Fetching.{default_values}
 use Rattle.h2_net.specs.Printing.{IsPhraseOf, status_line}
 use Rattle.h2_args.specs.Words.{GetWords}
 use Rattle.h2_get.specs.declared.pass_error.ResponseHead.{ResponseHead}
@@ -28,6 +27,7 @@ use Rattle.h2_get.specs.declared.pass_error.StreamError.TheVariants as streams
 use Rattle.h2_get.specs.Receives.{EndsBody, HasNoHead, HeadCame, body_handed}
 use Rattle.h2_get.specs.Receives.{fields_in_trailers}
 use Rattle.h2_get.specs.Responses.{fails_as_asked, response_lines, trailers_shown}
+use Rattle.h2_get.specs.Windows.{BeginsWith, fetch_values, window_of}
 
 -- what is printed of a head: the line of its status, and its fields where they are asked for
 -- rule: engines (own) get -o and --stream write the body as it comes, in order
@@ -155,19 +155,20 @@ abbrev pub StreamsOver : GetWords → (old new : PartFetch) → (written written
 StreamsOver words old new written written_now result =
     (before now : Traffic) × StreamsResponse words before now old new written written_now result
 
--- The request was made over a new connection, and its response was printed as it came, however that
--- has ended; or no connection could be made, or the request was not accepted, and nothing was
--- printed.
+-- The request was made over a new connection with the window that
+-- the words ask for, and its response was printed as it
+-- came, however that has ended; or no connection could be made, or the request was not accepted, and
+-- nothing was printed.
 -- rule: engines (own) get -o and --stream write the body as it comes, in order
-pub data StreamsRequest (words : GetWords) (message : SentMessage) (before after : Option (List ℕ))
-    : Result Fetched StreamError → Type 0 where
+-- rule: engines (own) get has the window of --window, for the connection and for each stream
+pub data StreamsRequest (words : GetWords) (message : SentMessage)
+    (before after : Option (List ℕ)) : Result Fetched StreamError → Type 0 where
   not_connected : (error : LinkError) → (error ≡ errors.Device) ⊎ (error ≡ errors.Memory)
       → after ≡ before → StreamsRequest words message before after (Err (streams.Link error))
-  not_accepted : (error : LinkError) → IsNotAccepted default_values message (Err error)
+  not_accepted : (error : LinkError) → IsNotAccepted (fetch_values (window_of words)) message (Err error)
       → after ≡ before → StreamsRequest words message before after (Err (streams.Link error))
-  is_streamed : (id : ℕ) (start now : Traffic) (fetch : PartFetch) (end : EndLog)
-      (result : Result Fetched StreamError)
-      → StreamedSo words id default_values message start now fetch end before after result
+  is_streamed : (begun fetch : PartFetch) (result : Result Fetched StreamError)
+      → BeginsWith (window_of words) message begun → StreamsOver words begun fetch before after result
       → StreamsRequest words message before after result
 
 -- the result, without a hint

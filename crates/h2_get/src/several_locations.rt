@@ -1,24 +1,22 @@
 //! Fetches several locations of one host and port at once over one connection, and prints them
 //! one after another.
 
-ghost use Rattle.std.specs.Prelude.{◌≡◌, ◌⊎◌, IfErr, IfOk, None, length, map};
+ghost use Rattle.std.specs.Prelude.{◌≡◌, ◌⊎◌, IfOk, None, map};
 ghost use Rattle.h2_spec_log.specs.Acts.{Values};
 ghost use Rattle.h2_spec_log.specs.Log.{Log};
 ghost use Rattle.h2_conn.specs.Conn.{ConnRepresents};
 ghost use Rattle.h2_conn.specs.Why.{IsWhy};
 ghost use Rattle.h2_message.specs.Values.{message_value};
-ghost use Rattle.h2_fetch.specs.Several.{BeginsSeveral, RefusesOne};
 ghost use Rattle.h2_args.specs.Words.{asked_by};
 ghost use Rattle.h2_get.specs.Several.{SeveralOver, StreamsRequests, results_of};
-ghost use Rattle.h2_get.specs.Several.{several_values, window_among};
 
+use crate::begin::{begin_several, window_of};
 use crate::connect::{connect_to, end_fetch, send_held};
 use crate::pass_error::{SeveralStreamed, StreamEnding, StreamError};
 use crate::several::stream_several;
 use h2_args::GetOptions;
-use h2_engines::{Config, Message};
+use h2_engines::Message;
 use h2_fetch::SeveralFetch;
-use h2_frame::limits::{FIRST_TABLE, FIRST_WINDOW, LEAST_MAX_STREAMS};
 use h2_net::{Fetched, LinkError, Location, StreamLink, WriteParts};
 use h2_watch::WatchedLink;
 use std::alloc::{AllocError, Global};
@@ -30,7 +28,8 @@ use std::net::{Net, OpenStream};
 // rule: engines (own) get -v shows the frames of both sides as they come
 /// Makes several requests at once over a new connection to the host and the port of a location,
 /// and prints their responses as [`stream_several`] does, and with `--verbose` the frames of
-/// both sides on `err`. The options must not name a file.
+/// both sides on `err`. The connection has the window that the options ask for, and each
+/// stream its share of it. The options must not name a file.
 ///
 /// # Errors
 ///
@@ -56,7 +55,7 @@ where
         Ok(link) => link,
         Err(ending) => return Err(StreamEnding::of_link(ending)),
     };
-    let mut fetch = match begin_several(alloc, messages) {
+    let mut fetch = match begin_several(alloc, window_of(options), messages) {
         Ok(fetch) => fetch,
         Err(error) => return Err(StreamEnding::of_error(StreamError::Link(error))),
     };
@@ -64,34 +63,6 @@ where
         Ok(results) => Ok(end_several(&fetch, &mut link, results)),
         Err(_) => Err(StreamEnding::of_error(StreamError::Link(LinkError::Memory))),
     }
-}
-
-// rule: engines (own) A response that is waited for has its window, and no other
-/// Begins a fetch of several responses, each with its share of the connection's window.
-fn begin_several(alloc: Global, messages: Vec<Message>) -> Result<SeveralFetch, LinkError>
-    ensures ok { IfOk result (BeginsSeveral (several_values (length messages.items))
-        (map message_value messages.items)) }
-    ensures refused { IfErr result (RefusesOne (several_values (length messages.items))
-        (map message_value messages.items)) }
-{
-    let Ok(config) = Config::new(FIRST_TABLE, window_among(messages.len()), LEAST_MAX_STREAMS)
-    else {
-        return Err(LinkError::Memory);
-    };
-    SeveralFetch::new(alloc, config, messages)
-}
-
-// rule: engines (own) A response that is waited for has its window, and no other
-/// The window of each of `streams` streams: its share of the connection's window, so that a
-/// response that waits never takes what another one needs.
-fn window_among(streams: usize) -> u32
-    ensures { result ≡ window_among streams }
-{
-    let share = match streams {
-        0 => FIRST_WINDOW as usize,
-        streams => FIRST_WINDOW as usize / streams,
-    };
-    u32::try_from(share.max(1)).unwrap_or(FIRST_WINDOW)
 }
 
 // rule: engines (own) get -v shows the frames of both sides as they come

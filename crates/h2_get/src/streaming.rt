@@ -1,22 +1,20 @@
 //! Fetches a location, and prints it as it arrives.
 
-ghost use Rattle.std.specs.Prelude.{◌≡◌, ◌⊎◌, Err, IfErr, IfOk, None};
+ghost use Rattle.std.specs.Prelude.{◌≡◌, ◌⊎◌, IfErr, None};
 ghost use Rattle.h2_spec_log.specs.Acts.{Values};
 ghost use Rattle.h2_spec_log.specs.Log.{Log};
 ghost use Rattle.h2_conn.specs.Conn.{ConnRepresents};
 ghost use Rattle.h2_conn.specs.Why.{IsWhy};
 ghost use Rattle.h2_message.specs.Values.{message_value};
-ghost use Rattle.h2_engines.specs.Fetches.{IsNotAccepted};
-ghost use Rattle.h2_fetch.specs.Comings.{BeginsFetch};
-ghost use Rattle.h2_net.specs.Fetching.{default_values};
 ghost use Rattle.h2_args.specs.Words.{asked_by};
 ghost use Rattle.h2_get.specs.Streams.{StreamsOver, StreamsRequest, without_stream_hint};
 
+use crate::begin::{begin_fetch, window_of};
 use crate::connect::{connect_to, end_fetch, send_held};
 use crate::pass_error::{StreamEnding, StreamError};
 use crate::stream::stream_response;
 use h2_args::GetOptions;
-use h2_engines::{Config, Message};
+use h2_engines::Message;
 use h2_fetch::PartFetch;
 use h2_net::{Fetched, LinkError, Location, StreamLink, WriteParts};
 use h2_watch::WatchedLink;
@@ -31,6 +29,7 @@ use std::time::Clock;
 // rule: engines (own) get -v shows the frames of both sides as they come
 /// Makes a request over a new connection to the host and the port of a location, and prints its
 /// response as [`stream_response`] does, and with `--verbose` the frames of both sides on `err`.
+/// The stream and the connection have the window that the options ask for.
 ///
 /// # Errors
 ///
@@ -57,7 +56,7 @@ where
         Ok(link) => link,
         Err(ending) => return Err(StreamEnding::of_link(ending)),
     };
-    let mut fetch = match begin_fetch(alloc, message) {
+    let mut fetch = match begin_fetch(alloc, window_of(options), message) {
         Ok(fetch) => fetch,
         Err(error) => return Err(StreamEnding::of_error(StreamError::Link(error))),
     };
@@ -71,15 +70,6 @@ where
         out,
         err,
     )
-}
-
-/// Begins a fetch with the default configuration.
-fn begin_fetch(alloc: Global, message: Message) -> Result<PartFetch, LinkError>
-    ensures ok { IfOk result (BeginsFetch default_values (message_value message)) }
-    ensures refused { IfErr result (λ error. IsNotAccepted default_values
-        (message_value message) (Err error)) }
-{
-    PartFetch::new(alloc, Config::default(), message)
 }
 
 /// Prints the response of a fetch as it arrives, and flushes the link. If it ends early, the

@@ -1,8 +1,10 @@
-//! A connection that shuts down gracefully once its host is asked to end.
+//! A connection that shuts down gracefully once its host is asked to end, and whose window is
+//! widened as a body comes.
 
 ghost use Rattle.std.specs.Prelude.{◌≡◌, ⊤, IfOk, false, true};
-ghost use Rattle.h2_hosting.specs.Guests.{IsTimeStep};
+ghost use Rattle.h2_hosting.specs.Guests.{IsTimeStep, WidensAfter};
 
+use crate::window::{Widened, Windows};
 use h2_handlers::Handler;
 use h2_host::{Answer, Own, Party};
 use h2_seat::Seat;
@@ -33,7 +35,38 @@ impl<W: Drop, H: Handler<Work = W>> Leaves for Seat<H, W> {
     }
 }
 
-/// A connection that shuts down at the next tick of its host's clock once `leaving` is set.
+/// A connection whose window can be widened.
+pub trait Widens {
+    /// Relates the states before and after [`Widens::widen`].
+    ghost widens: { Self → Self → Type 0 } = { λ _ _. ⊤ };
+
+    /// Whether a body is being received, of which more is to come.
+    fn is_receiving(&self) -> bool;
+
+    /// Lets the peer send `count` octets more on the connection, for good. Returns whether it may
+    /// now.
+    fn widen(&mut self, count: u32) -> bool
+        ensures { widens self.old self.new };
+}
+
+impl<W: Drop, H: Handler<Work = W>> Widens for Seat<H, W> {
+    ghost use Rattle.h2_handlers.specs.Exchanges.{relations};
+    ghost use Rattle.h2_hosting.specs.Guests.{SeatWidens};
+
+    ghost widens = { λ old new.
+        SeatWidens (relations H.heads H.bodies H.trails H.gives H.ends) old new };
+
+    fn is_receiving(&self) -> bool {
+        Seat::is_receiving(self)
+    }
+
+    fn widen(&mut self, count: u32) -> bool {
+        Seat::widen(self, count)
+    }
+}
+
+/// A connection that shuts down at the next tick of its host's clock once `leaving` is set, and
+/// whose window is widened once, as the first body comes.
 #[derive(Drop)]
 pub struct Guest<'a, P> {
     /// The connection, in a box, since a host moves its connections at each step.
@@ -42,15 +75,25 @@ pub struct Guest<'a, P> {
     leaving: &'a Cell<bool>,
     /// Whether this one was asked to.
     asked: bool,
+    /// The windows of all connections.
+    windows: &'a Windows,
+    /// By what this one is widened, once it was asked for.
+    widened: Option<Widened<'a>>,
 }
 
 impl<'a, P: Drop> Guest<'a, P> {
-    /// Wraps a connection, which shuts down once the cell is set.
+    /// Wraps a connection, which shuts down once the cell is set, and is widened by what `windows`
+    /// has for it.
     ///
     /// # Errors
     ///
     /// [`AllocError`] if an allocation was refused.
-    pub fn new(alloc: Global, party: P, leaving: &'a Cell<bool>) -> Result<Guest<'a, P>, AllocError>
+    pub fn new(
+        alloc: Global,
+        party: P,
+        leaving: &'a Cell<bool>,
+        windows: &'a Windows,
+    ) -> Result<Guest<'a, P>, AllocError>
         ensures party { IfOk result (λ guest. guest.party.value ≡ party) }
         ensures asked { IfOk result (λ guest. guest.asked ≡ false) }
     {
@@ -58,6 +101,8 @@ impl<'a, P: Drop> Guest<'a, P> {
             party: Box::new(alloc, party)?,
             leaving,
             asked: false,
+            windows,
+            widened: None,
         })
     }
 
@@ -73,11 +118,34 @@ impl<'a, P: Drop> Guest<'a, P> {
     }
 }
 
-impl<'a, P: Party + Leaves> Party for Guest<'a, P> {
+impl<'a, P: Party + Widens> Guest<'a, P> {
+    // rule: hosts (own) A connection is widened once, as a body comes, by what is left
+    /// After octets have come: if they are of a body of which more is to come, widens the
+    /// connection by what is left for it, unless that was done before. If it cannot be widened
+    /// now, what was left for it stays for others.
+    fn widen_after(&mut self, own: Own)
+        ensures asked { self.new.asked ≡ self.old.asked }
+        ensures widened { WidensAfter P.widens own self.old.party.value self.new.party.value }
+    {
+        let Own::Came = own else {
+            return;
+        };
+        if self.widened.is_some() || !self.party.is_receiving() {
+            return;
+        }
+        let widened = self.windows.take();
+        let count = widened.count();
+        if count > 0 && self.party.widen(count) {
+            self.widened = Some(widened);
+        }
+    }
+}
+
+impl<'a, P: Party + Leaves + Widens> Party for Guest<'a, P> {
     ghost use Rattle.h2_hosting.specs.Guests.{GuestSteps};
 
     ghost steps = { λ old own octets answer new.
-        GuestSteps P.leaves P.steps old own octets answer new };
+        GuestSteps P.leaves P.steps P.widens old own octets answer new };
 
     ghost held_of = { λ guest. P.held_of guest.party.value };
 
@@ -91,7 +159,9 @@ impl<'a, P: Party + Leaves> Party for Guest<'a, P> {
     // rule: hosts (own) A connection is asked once to end in order, as time passes
     fn step(&mut self, own: Own, octets: &[u8], room: &mut [u8]) -> Answer {
         if !self.is_to_leave(own) {
-            return self.party.step(own, octets, room);
+            let answer = self.party.step(own, octets, room);
+            self.widen_after(own);
+            return answer;
         }
         self.asked = true;
         self.party.leave();

@@ -2,6 +2,7 @@
 
 use crate::guest::Guest;
 use crate::journal::Journal;
+use crate::window::Windows;
 use h2_handlers::{Config, Handler};
 use h2_mio::Opens;
 use h2_seat::{Seat, SeatLimits};
@@ -32,6 +33,8 @@ pub struct Guests<'a, M, W> {
     pub limits: SeatLimits,
     /// Whether all connections are to shut down.
     pub leaving: &'a Cell<bool>,
+    /// The windows of all connections.
+    pub windows: &'a Windows,
     /// The log lines of the handlers.
     pub journal: &'a Journal,
     /// Where the log is written.
@@ -44,7 +47,7 @@ impl<'a, H: Handler<Work = V>, V: Drop, M: Makes<H>, W: Write> Opens<Guest<'a, S
         let handler = self.makes.make(peer);
         // Out of memory: the peer may try again.
         let seat = Seat::new(alloc, self.config, self.limits, now, handler).ok()?;
-        Guest::new(alloc, seat, self.leaving).ok()
+        Guest::new(alloc, seat, self.leaving, self.windows).ok()
     }
 
     fn leave(&mut self) {

@@ -1,6 +1,6 @@
 //! Serves a port to many connections.
 
-ghost use Rattle.std.specs.Prelude.{◌≡◌, is_some};
+ghost use Rattle.std.specs.Prelude.{◌≡◌, ◌≤◌, ◌*◌, is_some};
 ghost use Rattle.std.specs.Net.Socket.{socket_ip, socket_port};
 ghost use Rattle.h2_hosting.specs.Ending.{EndsHosting, IsFailedHost, in_milliseconds, port_hint};
 
@@ -11,6 +11,7 @@ use crate::serving::{HostSettings, serve};
 use crate::site::Site;
 use h2_cli::{Failure, Hint, Status, write_hint};
 use h2_folder::{Folder, Recent};
+use h2_frame::limits::{FIRST_TABLE, LEAST_MAX_STREAMS};
 use h2_handlers::{Config, Echo, Gather};
 use h2_host::Limits;
 use h2_mio::Place;
@@ -44,6 +45,9 @@ pub struct HostOptions<'a> {
     pub log: bool,
     /// Whether the host shuts down gracefully once standard input is closed.
     pub until_closed: bool,
+    /// The window of each stream, and of a connection once a body comes, in octets, from 1 to
+    /// 2,147,483,647: see [`HostSettings::config`].
+    pub window: u32,
 }
 
 /// Makes handlers that echo requests.
@@ -154,7 +158,7 @@ fn serve_asked<'x, R: Net + Files + Clock, W: Write>(
     let recent = Recent::new(alloc);
     let settings = HostSettings {
         place: place_of(options),
-        config: Config::default(),
+        config: config_of(options.window),
         limits: seat_limits(options.idle),
     };
     match options.root {
@@ -202,7 +206,7 @@ fn place_of(options: HostOptions<'_>) -> Place
 {
     Place {
         address: SocketAddr::new(options.address, options.port),
-        limits: host_limits(options.connections),
+        limits: host_limits(options.connections, options.window),
         until_closed: options.until_closed,
     }
 }

@@ -13,8 +13,9 @@ mod logged;
 mod note;
 mod serving;
 mod site;
+mod window;
 
-pub use guest::{Guest, Leaves};
+pub use guest::{Guest, Leaves, Widens};
 pub use guests::{Guests, Makes};
 pub use h2_handlers::Config;
 pub use h2_host::Limits;
@@ -26,3 +27,4 @@ pub use journal::{Journal, TakesLines};
 pub use logged::{Logged, Note};
 pub use serving::{HostSettings, host_handlers};
 pub use site::Site;
+pub use window::Windows;

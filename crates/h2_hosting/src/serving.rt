@@ -3,6 +3,7 @@
 use crate::guest::Guest;
 use crate::guests::{Guests, Makes};
 use crate::journal::Journal;
+use crate::window::Windows;
 use h2_handlers::{Config, Handler};
 use h2_mio::{Driver, Place};
 use h2_seat::{Seat, SeatLimits};
@@ -18,7 +19,10 @@ pub struct HostSettings {
     /// The address, the limits of connections and memory, and whether the host shuts down
     /// gracefully once standard input, a pipe, is closed.
     pub place: Place,
-    /// The settings of each connection.
+    /// The settings of each connection. An initial window of streams above 65,535 octets is also
+    /// that of the connection, once a body comes of which more is to come: the window is widened
+    /// then, to at most half of what the connection may hold. All are widened by at most half of
+    /// what all may hold.
     pub config: Config,
     /// The time limits and flood limits of each connection; one that exceeds them is ended.
     pub limits: SeatLimits,
@@ -54,6 +58,18 @@ where
     serve(rt, alloc, settings, makes, &journal, &mut out)
 }
 
+// rule: hosts (own) A connection is widened once, as a body comes, by what is left
+/// The window of a connection is that of its streams, but at most half of what it may hold, and
+/// all are widened by at most half of what all may hold.
+fn windows_of(settings: &HostSettings) -> Windows {
+    let limits = settings.place.limits;
+    let most = u32::try_from(limits.held / 2).unwrap_or(u32::MAX);
+    Windows::new(
+        settings.config.initial_window().min(most),
+        (limits.held_in_all / 2) as u64,
+    )
+}
+
 /// As [`host_handlers`], and writes the lines of a journal.
 pub(crate) fn serve<R, V, H, M, W>(
     rt: &R,
@@ -71,12 +87,14 @@ where
     W: Write,
 {
     let leaving = Cell::new(false);
+    let windows = windows_of(&settings);
     let mut guests = Guests {
         alloc,
         makes,
         config: settings.config,
         limits: settings.limits,
         leaving: &leaving,
+        windows: &windows,
         journal,
         out,
     };

@@ -120,6 +120,25 @@ impl<W: Drop, H: Handler<Work = W>> Seat<H, W> {
         self.go_away(Why::Asked);
     }
 
+    /// Whether it is up, and a body is being received of which more is to come.
+    pub fn is_receiving(&self) -> bool {
+        let is_up = matches!(self.phase, Phase::Up);
+        is_up && self.handled.body() > 0 && self.handled.is_reading()
+    }
+
+    // contract: 6.9.2 (own) The window of the connection is widened by a call, for good
+    /// Lets the client send `count` octets more on the connection, for good; see
+    /// [`Handled::widen`]. Returns whether it may now.
+    pub fn widen(&mut self, count: u32) -> bool
+        ensures handles { SeatHandles (relations H.heads H.bodies H.trails H.gives H.ends) self.old
+            self.new }
+        ensures phase { self.new.phase ≡ self.old.phase }
+    {
+        let widened = self.handled.widen(count);
+        self.count();
+        widened.is_ok()
+    }
+
     /// Whether it is closed.
     pub(crate) fn is_over(&self) -> bool
         ensures { result ≡ is_phase_over self.now.phase }

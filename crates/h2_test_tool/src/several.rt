@@ -3,4 +3,4 @@
 //! Tests are proved as well: small functions return whether a case holds.
 
 mod printing;
-mod windows;
+pub(crate) mod windows;

@@ -11,7 +11,6 @@ use Rattle.h2_net.specs.declared.location.Location.{Location}
 use Rattle.h2_net.specs.declared.location.TargetFault.{TargetFault}
 use Rattle.h2_net.specs.declared.location.TargetFault.TheVariants as faults
 use Rattle.h2_net.specs.Endings.{status_with}
-use Rattle.h2_net.specs.Fetching.{FetchesRequest}
 use Rattle.h2_args.specs.Words.{GetWords}
 use Rattle.h2_get.specs.declared.body.BodyFault.{BodyFault}
 use Rattle.h2_get.specs.declared.body.BodyFault.TheVariants as bodies
@@ -19,6 +18,7 @@ use Rattle.h2_get.specs.declared.pass_error.StreamError.{StreamError}
 use Rattle.h2_get.specs.declared.pass_error.StreamError.TheVariants as streams
 use Rattle.h2_get.specs.declared.request.RequestFault.{RequestFault}
 use Rattle.h2_get.specs.declared.request.RequestFault.TheVariants as requests
+use Rattle.h2_get.specs.Gathers.{GathersRequest}
 use Rattle.h2_get.specs.Ports.{NamesAtPort, IsRefusedAtPort}
 use Rattle.h2_get.specs.Requests.{IsAskable, IsBodyAsked, IsRefusedRequest, IsUnread}
 use Rattle.h2_get.specs.Requests.{request_asked}
@@ -229,7 +229,7 @@ module _ (words : GetWords) (remaining before after : Option (List ℕ)) (status
       → MatchBool parts
       ((got : Result Fetched StreamError) × StreamsRequest words request before after got
       × EndsWithStream words got status)
-      ((got : Result Fetched LinkError) × FetchesRequest request got
+      ((got : Result Fetched LinkError) × GathersRequest words request got
       × EndsWithFetch words got before after status)
       → MatchBool parts (StreamsSo words remaining before after status)
       (GetsSo words remaining before after status)

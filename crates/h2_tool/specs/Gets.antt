@@ -11,13 +11,13 @@ use Rattle.h2_net.specs.declared.location.Location.{Location}
 use Rattle.h2_net.specs.declared.location.TargetFault.{TargetFault}
 use Rattle.h2_net.specs.declared.location.TargetFault.TheVariants as faults
 use Rattle.h2_net.specs.Endings.{status_with}
-use Rattle.h2_net.specs.Fetching.{FetchesRequest}
 use Rattle.h2_get.specs.declared.body.BodyFault.{BodyFault}
 use Rattle.h2_get.specs.declared.body.BodyFault.TheVariants as bodies
 use Rattle.h2_get.specs.declared.pass_error.StreamError.{StreamError}
 use Rattle.h2_get.specs.declared.pass_error.StreamError.TheVariants as streams
 use Rattle.h2_get.specs.declared.request.RequestFault.{RequestFault}
 use Rattle.h2_get.specs.declared.request.RequestFault.TheVariants as requests
+use Rattle.h2_get.specs.Gathers.{GathersRequest}
 use Rattle.h2_get.specs.Ports.{NamesAtPort, IsRefusedAtPort}
 use Rattle.h2_get.specs.Requests.{IsAskable, IsBodyAsked, IsRefusedRequest, begins_with_at}
 use Rattle.h2_get.specs.Requests.{body_word, request_asked}
@@ -34,7 +34,7 @@ pub record GetsAsked (words : GetWords) (remaining : Option (List ℕ))
   pub body : List ℕ
   pub is : IsBodyAsked words remaining body
   pub asked : IsAskable words body location
-  pub fetches : FetchesRequest (request_asked words body location) result
+  pub fetches : GathersRequest words (request_asked words body location) result
 
 -- The fetch has ended early, with an error of this status, and nothing was printed.
 pub record FailsToGet (words : GetWords) (remaining before after : Option (List ℕ))
@@ -212,7 +212,7 @@ abbrev pub AsksSo : GetWords → SentMessage → (before after : Option (List �
 AsksSo words message before after status = MatchBool (is_in_parts words)
     ((got : Result Fetched StreamError) × StreamsRequest words message before after got
     × EndsWithStream words got status)
-    ((got : Result Fetched LinkError) × FetchesRequest message got
+    ((got : Result Fetched LinkError) × GathersRequest words message got
     × EndsWithFetch words got before after status)
 
 -- How words that have no fault and name one URL end, by whether they ask for the body as it comes.

@@ -1,12 +1,12 @@
 -- How `h2 get` ends with several URLs, which it asks for at once over one connection.
 use Rattle.std.specs.Prelude.{◌≡◌, ◌⊎◌, ◌==◌, ◌&&◌, ℕ, Bool, true, false, List, [], ◌∷◌, map}
 use Rattle.std.specs.Prelude.{Option, Some, None, Result, Ok, Err, MatchBool, if◌then◌else◌}
-use Rattle.std.specs.Prelude.{is_some, length, nat_lt, string_bytes}
+use Rattle.std.specs.Prelude.{is_none, is_some, length, nat_lt, string_bytes}
 use Rattle.std.specs.Char.{to_ascii_lowercase}
 use Rattle.std.specs.List.{AllByRecursion, Contains}
 use Rattle.std.specs.Str.{bytes_eq}
 use Rattle.h2_cli.specs.declared.status.Status.{Status}
-use Rattle.h2_cli.specs.declared.status.Status.TheVariants.{Good, Fault, Device}
+use Rattle.h2_cli.specs.declared.status.Status.TheVariants.{Good, Fault, Usage, Device}
 use Rattle.h2_args.specs.Words.{GetWords, get_words_of, get_faults}
 use Rattle.h2_message.specs.Messages.{SentMessage}
 use Rattle.h2_engines.specs.declared.fetcher.Fetched.{Fetched}
@@ -19,6 +19,7 @@ use Rattle.h2_get.specs.Ports.{IsRefusedAtPort, NamesAtPort}
 use Rattle.h2_get.specs.Requests.{IsAskable, IsBodyAsked, IsRefusedRequest, request_asked}
 use Rattle.h2_get.specs.Responses.{fails_as_asked}
 use Rattle.h2_get.specs.Several.{StreamsRequests}
+use Rattle.h2_get.specs.Windows.{window_asked}
 use Rattle.h2_tool.specs.Commands.{EndsByWords}
 use Rattle.h2_tool.specs.declared.get_several.LocationsFault.{LocationsFault}
 use Rattle.h2_tool.specs.declared.get_several.LocationsFault.TheVariants as unfits
@@ -182,11 +183,19 @@ GetsOneOrSeveral words remaining before after status =
     MatchBool (has_others words) (SeveralSo words remaining before after status)
     (GetsOrStreams words remaining before after status)
 
+-- How words that have no fault end: by a line on standard error, where the window has no size.
+-- rule: engines (own) get has the window of --window, for the connection and for each stream
+-- rule: engines (own) The size of --window is a number of octets, with k or m for more
+abbrev pub GetsAsAsked : GetWords → (remaining before after : Option (List ℕ)) → Status → Type 0
+GetsAsAsked words remaining before after status = MatchBool (is_none (window_asked words))
+    ((status ≡ Usage) × (after ≡ before))
+    (GetsOneOrSeveral words remaining before after status)
+
 -- How `h2 get` ends.
 -- rule: engines (own) serve, get and loop have their words
 abbrev pub EndsGet : (words : List (List ℕ)) → (remaining before after : Option (List ℕ)) → Status
     → Type 0
 EndsGet words remaining before after status =
     ((asked : GetWords) × (get_words_of words ≡ Some asked)
-    × GetsOneOrSeveral asked remaining before after status)
+    × GetsAsAsked asked remaining before after status)
     ⊎ EndsByWords (get_faults words) before after status

@@ -20,12 +20,11 @@ use h2_args::{GetOptions, get_args};
 use h2_cli::{Failure, Status, hint_at_client, write_hint};
 use h2_engines::Message;
 use h2_get::{
-    BodyFault, Deadline, RequestFault, StreamEnding, StreamError, TimedNet, body_of, is_failure,
-    location_at, print_asked, request_of, stream_location, write_failure,
+    BodyFault, Deadline, RequestFault, StreamEnding, StreamError, TimedNet, body_of,
+    gather_location, is_failure, location_at, print_asked, request_of, stream_location,
+    window_asked, write_failure,
 };
-use h2_net::{
-    Ending, Fetched, LinkError, Location, TargetFault, WriteParts, fetch_location, report,
-};
+use h2_net::{Ending, Fetched, LinkError, Location, TargetFault, WriteParts, report};
 use std::alloc::Global;
 use std::fs::Files;
 use std::io::{self, Read, Write};
@@ -33,6 +32,7 @@ use std::net::Net;
 use std::time::Clock;
 
 // contract: engines (own) The words of get make its request and say what is printed
+// contract: engines (own) get has the window of --window, for the connection and for each stream
 // rule: engines (own) The words of get make its request and say what is printed
 /// Runs `h2 get` with the words after `get`: fetches a URL, and prints the status with its phrase,
 /// with `--include` the fields, and the body, or writes the body to a file. `input` is standard
@@ -65,6 +65,9 @@ where
         Ok(options) => options,
         Err(error) => return answer(&error, out, err),
     };
+    if window_asked(&options).is_none() {
+        return refuse_window(err);
+    }
     if has_others(&options) {
         return get_several(net, alloc, &options, input, out, err);
     }
@@ -189,9 +192,22 @@ where
         );
         return end_stream(options, got, is_over(files, limits.deadline), err);
     }
-    let got = fetch_location(net, alloc, location, message);
+    let got = gather_location(net, alloc, options, location, message);
     let is_late = is_over(files, limits.deadline);
     end_get(options, got, is_late, out, err)
+}
+
+// rule: engines (own) The size of --window is a number of octets, with k or m for more
+// Prints on standard error that the value of `--window` is not a size, and returns the status.
+pub(crate) fn refuse_window<E: Write>(err: &mut E) -> Status
+    ensures { result ≡ Usage }
+{
+    // There is no place left to report that this write fails.
+    let _ = writeln!(
+        err,
+        "error: --window must be 1 to 2147483647 octets, such as 65535, 64k or 4m"
+    );
+    Status::Usage
 }
 
 // Whether there is a deadline, and it is over.

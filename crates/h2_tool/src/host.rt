@@ -4,8 +4,9 @@ ghost use Rattle.std.specs.Prelude.{◌≡◌, map, string_bytes, unwrap_or};
 ghost use Rattle.h2_cli.specs.declared.status.Status.TheVariants.{Usage};
 ghost use Rattle.h2_tool.specs.Commands.{EndsHost, EndsHostAsked};
 
+use crate::get::refuse_window;
 use crate::program::answer;
-use h2_args::{HostWords, host_args};
+use h2_args::{HostWords, host_args, window_or};
 use h2_cli::Status;
 use h2_hosting::{HostOptions, host_port};
 use std::alloc::Global;
@@ -17,6 +18,9 @@ use std::time::Clock;
 /// The default maximum number of connections.
 const CONNECTIONS: usize = 10_000;
 
+/// The window without `--window`, 1 MiB.
+const WINDOW: u32 = 1_048_576;
+
 /// The default number of seconds without a request after which a connection is closed.
 const IDLE: u64 = 75;
 
@@ -26,7 +30,7 @@ const IDLE: u64 = 75;
 /// connections at once. Standard output gets help, or with `--log` a line for each request.
 ///
 /// The status is that of [`host_port`]; for help it is [`Status::Good`], and for wrong words or
-/// an invalid address [`Status::Usage`].
+/// an invalid address or size of a window [`Status::Usage`].
 pub fn cmd_host<N: Net + Files + Clock, W: Write, E: Write>(
     net: &N,
     alloc: Global,
@@ -60,7 +64,10 @@ fn serve_asked<'x, N: Net + Files + Clock, W: Write, E: Write>(
         },
         None => IpAddr::V4(Ipv4Addr::LOCALHOST),
     };
-    host_port(net, alloc, options_of(asked, address), out, err)
+    let Some(window) = window_or(asked.window, WINDOW) else {
+        return refuse_window(err);
+    };
+    host_port(net, alloc, options_of(asked, address, window), out, err)
 }
 
 // Prints on standard error that a text is not an IP address, and returns the status.
@@ -75,7 +82,7 @@ fn no_address<E: Write>(text: &str, err: &mut E) -> Status
 // contract: hosts (own) The words of host say what is served, where, and for how long
 // rule: hosts (own) The words of host say what is served, where, and for how long
 // What is served, where and how; by default 10,000 connections, and 75 seconds without a request.
-fn options_of<'a>(asked: HostWords<'a>, address: IpAddr) -> HostOptions<'a>
+fn options_of<'a>(asked: HostWords<'a>, address: IpAddr, window: u32) -> HostOptions<'a>
     ensures port { result.port ≡ asked.entry.port }
     ensures address { result.address ≡ address }
     ensures root { result.root ≡ asked.entry.root }
@@ -83,6 +90,7 @@ fn options_of<'a>(asked: HostWords<'a>, address: IpAddr) -> HostOptions<'a>
     ensures idle { result.idle ≡ unwrap_or asked.entry.idle 75 }
     ensures log { result.log ≡ asked.entry.log }
     ensures until { result.until_closed ≡ asked.entry.until_closed }
+    ensures window { result.window ≡ window }
 {
     let connections = match asked.connections {
         Some(count) => count as usize,
@@ -100,5 +108,6 @@ fn options_of<'a>(asked: HostWords<'a>, address: IpAddr) -> HostOptions<'a>
         idle,
         log: asked.log,
         until_closed: asked.until_closed,
+        window,
     }
 }

@@ -109,3 +109,22 @@ port_zero = refl
 help : get_faults (codes "-h" ∷ []) ≡ DisplayHelp ∷ []
 unfolding clap_on_literals
 help = refl
+
+-- the size stays as it was written
+window_word : get_words_of (codes "--window=64k" ∷ codes "http://h/" ∷ []) ≡ Some (record {
+  url = codes "http://h/";
+  include = false;
+  fields = [];
+  method = None;
+  body = None;
+  fail = false;
+  port = None;
+  output = None;
+  stream = false;
+  timeout = None;
+  verbose = false;
+  others = [];
+  window = Some (codes "64k");
+})
+unfolding clap_on_literals
+window_word = refl

@@ -60,3 +60,16 @@ idle_for_more_than_a_day = refl
 two_ports : host_faults (codes "9001" ∷ codes "9002" ∷ []) ≡ UnknownArgument ∷ []
 unfolding clap_on_literals
 two_ports = refl
+
+window_word : host_words_of (codes "--window" ∷ codes "16m" ∷ codes "9001" ∷ []) ≡ Some (record {
+  port = 9001;
+  root = None;
+  address = None;
+  connections = None;
+  idle = None;
+  log = false;
+  until_closed = false;
+  window = Some (codes "16m");
+})
+unfolding clap_on_literals
+window_word = refl

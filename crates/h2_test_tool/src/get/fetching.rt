@@ -3,10 +3,11 @@
 use h2_cli::Status;
 use h2_engines::{Field, Link, MemoryLink, Why};
 use h2_frame::Code;
+use h2_get::gather;
 use h2_net::{
     Ending, Fetched, Hint, LinkError, get_over, phrase, print_response, report, status_of, target,
 };
-use h2_test_kit::RESPONSE;
+use h2_test_kit::{RESPONSE, fetch_of};
 use std::alloc::{AllocError, Global};
 use std::test::Fail;
 
@@ -97,6 +98,32 @@ fn responses_are_printed(rt: HostRuntime) -> Result<(), Fail> {
         let fetched = response_of(rt.alloc(), status)?;
         assert!(rt; prints(rt.alloc(), &fetched, text), "{status}");
     }
+    Ok(())
+}
+
+/// Whether a fetch over a link gathers this body.
+fn gathers(alloc: Global, link: &mut MemoryLink, body: &[u8]) -> bool {
+    if link.failures() != 0 {
+        return false;
+    }
+    match fetch_of(alloc) {
+        Some(mut fetch) => match gather(alloc, &mut fetch, link) {
+            Ok(fetched) => fetched.body.as_slice() == body,
+            Err(_) => false,
+        },
+        None => false,
+    }
+}
+
+// rule: engines (own) get without -o and --stream prints a response once it is whole
+#[test]
+fn responses_are_gathered(rt: HostRuntime) -> Result<(), Fail> {
+    let whole = Vec::from_slice(rt.alloc(), RESPONSE)?;
+    let less = Vec::from_slice(rt.alloc(), &RESPONSE[..RESPONSE.len() - 1])?;
+    let mut link = MemoryLink::new(rt.alloc(), whole);
+    assert!(rt; gathers(rt.alloc(), &mut link, b"GET /\n"));
+    let mut link = MemoryLink::new(rt.alloc(), less);
+    assert!(rt; !gathers(rt.alloc(), &mut link, b"GET /"));
     Ok(())
 }
 

@@ -1,12 +1,14 @@
 //! The commands over sockets where no connection can be made, or no line printed.
 
 use super::words::{NO_TERMINAL, words_of};
+use crate::several::windows::contains;
 use h2_cli::Status;
 use h2_net::{LinkError, WriteParts, get_location, serve_port, target};
 use h2_test_kit::Failing;
 use h2_tool::run;
 use std::alloc::Global;
 use std::fs::Files;
+use std::io::Read;
 use std::net::{Ipv4Addr, Net, OpenListener, SocketAddr, TcpListener};
 use std::test::Fail;
 use std::time::Clock;
@@ -99,6 +101,51 @@ fn get_that_is_not_answered(rt: HostRuntime) -> Result<(), Fail> {
     for word in ["", "--stream "] {
         let line = format!(in rt.alloc(); "get {word}--timeout 1 http://127.0.0.1:{port}/")?;
         assert!(rt; fails(&rt, rt.alloc(), &line, "N1 Device\nhint: timed out\n")?);
+    }
+    Ok(())
+}
+
+/// What a line sends to a port at which nothing is answered, until it gives up.
+fn sent_by<R: Net + Files + Clock + Copy>(
+    rt: &R,
+    alloc: Global,
+    words: &str,
+) -> Result<Vec<u8>, Fail>
+where
+    R::Stream: WriteParts,
+{
+    let listener = TcpListener::bind(rt, SocketAddr::from((Ipv4Addr::LOCALHOST, 0)))?;
+    let port = listener.local_addr()?.port();
+    let line = format!(in alloc; "get --timeout 1 {words} http://127.0.0.1:{port}/")?;
+    fails(rt, alloc, &line, "N1 Device\nhint: timed out\n")?;
+    let (mut stream, _) = listener.accept()?;
+    let mut sent = Vec::new(alloc);
+    stream.read_to_end(&mut sent)?;
+    Ok(sent)
+}
+
+/// Whether the windows that are sent are these: that of a stream, in SETTINGS (RFC 9113, section
+/// 6.5.2), and what the connection's is widened by, if it is, in WINDOW_UPDATE (section 6.9).
+fn has_windows(sent: &[u8], stream: u32, by: u32) -> bool {
+    let [a, b, c, d] = stream.to_be_bytes();
+    let [e, f, g, h] = by.to_be_bytes();
+    let update = [0, 0, 4, 8, 0, 0, 0, 0, 0, e, f, g, h];
+    contains(sent, &[0, 4, a, b, c, d]) && contains(sent, &update) == (by > 0)
+}
+
+// rule: engines (own) get has the window of --window, for the connection and for each stream
+// rule: engines (own) The size of --window is a number of octets, with k or m for more
+#[test]
+fn windows_of_get(rt: HostRuntime) -> Result<(), Fail> {
+    let cases = [
+        ("", 4_194_304, 4_128_769),
+        ("--stream", 4_194_304, 4_128_769),
+        ("--window 64k", 65_536, 1),
+        ("--window 300", 300, 0),
+    ];
+    for (words, stream, by) in cases {
+        let sent = sent_by(&rt, rt.alloc(), words)?;
+        assert!(rt; has_windows(&sent, stream, by), "{words}");
     }
     Ok(())
 }

@@ -20,7 +20,7 @@ const UPDATE_OF_FIRST: &[u8] = b"\x00\x00\x04\x08\x00\x00\x00\x00\x01\x00\x00\x0
 const UPDATE_OF_SECOND: &[u8] = b"\x00\x00\x04\x08\x00\x00\x00\x00\x03\x00\x00\x00\x02";
 
 /// Whether some octets lie in others.
-fn contains(octets: &[u8], some: &[u8]) -> bool {
+pub(crate) fn contains(octets: &[u8], some: &[u8]) -> bool {
     for place in 0..octets.len() {
         if octets[place..].starts_with(some) {
             return true;

@@ -14,10 +14,10 @@ added old arg new before rule adds local is ruled = adds.shape local ∙ ap₂ w
 pub returns : goal.returns
 returns c =
     let styled = c.in_ok-styled_command.ensures in
-    let client = added _ _ _ _ _ c.in_ok-arg.ensures c.path_arg.ensures.local styled.2
-    c.path_arg.ensures.rule in
+    let client = added _ _ _ _ _ c.in_ok-arg.ensures c.valued_arg.ensures.local styled.2
+    c.valued_arg.ensures.rule in
     IfOk-weaker c.arg-2.result _ _ (λ r adds. (
       styled.0,
       styled.1,
-      added _ _ r _ _ adds c.path_arg-2.ensures.local client c.path_arg-2.ensures.rule,
+      added _ _ r _ _ adds c.valued_arg-2.ensures.local client c.valued_arg-2.ensures.rule,
     )) c.arg-2.ensures

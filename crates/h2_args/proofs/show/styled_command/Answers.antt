@@ -15,8 +15,8 @@ pub returns : goal.returns
 returns c =
     let shown = c.in_ok-shown_input_command.ensures in
     let colors = c.color_arg.ensures.rule in
-    let file = added _ _ _ _ _ c.in_ok-arg.ensures c.path_arg.ensures.local shown.2
-    c.path_arg.ensures.rule in
+    let file = added _ _ _ _ _ c.in_ok-arg.ensures c.valued_arg.ensures.local shown.2
+    c.valued_arg.ensures.rule in
     let named = added _ _ _ _ _ c.in_ok-arg-2.ensures c.flag_arg.ensures.local file
     c.flag_arg.ensures.rule in
     let placed = added _ _ _ _ _ c.in_ok-arg-3.ensures c.flag_arg-2.ensures.local named

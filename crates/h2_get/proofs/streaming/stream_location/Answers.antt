@@ -14,8 +14,5 @@ returns-in-Err-begin_fetch g c =
 
 pub returns : goal.returns
 returns g c =
-    let fetch = c.in-Ok-begin_fetch.fetch in
-    let begins = c.in-Ok-begin_fetch.ensures.ok in
-    let over = c.stream_with_hint.ensures.streams in
-    let so = over.2 _ _ over.0 begins.end (begins.coming over.0) begins.none in
-    is_streamed fetch.id over.0 over.1 _ so.0 _ so.1
+    is_streamed c.in-Ok-begin_fetch.fetch _ _ c.in-Ok-begin_fetch.ensures.ok
+    c.stream_with_hint.ensures.streams

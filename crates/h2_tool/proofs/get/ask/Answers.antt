@@ -15,7 +15,7 @@ returns-then-is_in_parts g c =
 pub returns : goal.returns
 returns g c =
     rw (sym c.is_in_parts.ensures ∙ c.if-is_in_parts.false) (
-      without_hint c.fetch_location-got.result,
-      c.fetch_location-got.ensures.fetches,
+      without_hint c.gather_location-got.result,
+      c.gather_location-got.ensures,
       c.end_get.ensures,
     )

@@ -8,12 +8,28 @@ pub returns-in-Err-clause-ends : goal.returns-in-Err-clause-ends
 returns-in-Err-clause-ends g c =
     inr (ends_by_words c.in-Err.error _ _ _ c.answer.result c.in-Err.ensures.err c.answer.ensures)
 
+-- the window has a size, or none
+sized : (words : GetWords) (remaining before after : Option (List ℕ)) (status : Status)
+    → is_none (window_asked words) ≡ false → GetsOneOrSeveral words remaining before after status
+    → GetsAsAsked words remaining before after status
+sized words remaining before after status some so = rw some so
+
+pub returns-then-is_none-clause-ends : goal.returns-then-is_none-clause-ends
+returns-then-is_none-clause-ends g c =
+    inl (
+      asked_by c.in-Ok.options,
+      c.in-Ok.ensures.ok,
+      rw (sym (ap (λ (o : Option ℕ). is_none o) c.window_asked.ensures) ∙ sym c.is_none.ensures
+          ∙ c.if-is_none.true) (c.refuse_window.ensures, refl),
+    )
+
 pub returns-then-has_others-clause-ends : goal.returns-then-has_others-clause-ends
 returns-then-has_others-clause-ends g c =
     inl (
       asked_by c.in-Ok.options,
       c.in-Ok.ensures.ok,
-      rw (sym c.has_others.ensures ∙ c.if-has_others.true) c.get_several.ensures.ends,
+      sized _ _ _ _ _ (with_size c)
+          (rw (sym c.has_others.ensures ∙ c.if-has_others.true) c.get_several.ensures.ends),
     )
 
 pub returns-then-has_others-clause-unread : goal.returns-then-has_others-clause-unread

@@ -1,0 +1,138 @@
+//! Fetches that begin with a window.
+
+ghost use Rattle.std.specs.Prelude.{◌≡◌, IfErr, IfOk, length, map};
+ghost use Rattle.h2_message.specs.Values.{message_value};
+ghost use Rattle.h2_args.specs.Words.{asked_by};
+ghost use Rattle.h2_engines.specs.Fetches.{IsNotAccepted};
+ghost use Rattle.h2_fetch.specs.Several.{RefusesOne};
+ghost use Rattle.h2_get.specs.Windows.{BeginsSeveralWith, BeginsWith, WidensSeveralTo, WidensTo};
+ghost use Rattle.h2_get.specs.Windows.{fetch_values, several_values, window_among, window_asked};
+ghost use Rattle.h2_get.specs.Windows.{window_of};
+
+use h2_args::{GetOptions, window_or};
+use h2_ends::Refusal;
+use h2_engines::{Config, Message};
+use h2_fetch::{PartFetch, SeveralFetch};
+use h2_frame::limits::{FIRST_TABLE, FIRST_WINDOW, LEAST_MAX_STREAMS};
+use h2_net::LinkError;
+use std::alloc::Global;
+
+/// The window without `--window`, 4 MiB.
+const WINDOW: u32 = 4_194_304;
+
+// contract: engines (own) get has the window of --window, for the connection and for each stream
+// rule: engines (own) get has the window of --window, for the connection and for each stream
+/// Returns the window that the options ask for, by default 4 MiB. `None` if the value of
+/// `--window` is not the size of one: see [`window_or`].
+pub fn window_asked(options: &GetOptions<'_>) -> Option<u32>
+    ensures { result ≡ window_asked (asked_by options.now) }
+{
+    window_or(options.window, WINDOW)
+}
+
+/// The window that the options ask for, or the default if the value is not a size.
+pub(crate) fn window_of(options: &GetOptions<'_>) -> u32
+    ensures { result ≡ window_of (asked_by options.now) }
+{
+    window_asked(options).unwrap_or(WINDOW)
+}
+
+// contract: engines (own) get has the window of --window, for the connection and for each stream
+// rule: engines (own) get has the window of --window, for the connection and for each stream
+/// Begins a fetch whose stream and connection have this window.
+pub(crate) fn begin_fetch(
+    alloc: Global,
+    window: u32,
+    message: Message,
+) -> Result<PartFetch, LinkError>
+    ensures ok { IfOk result (BeginsWith window (message_value message)) }
+    ensures refused { IfErr result (λ error. IsNotAccepted (fetch_values window)
+        (message_value message) (Err error)) }
+{
+    let Ok(config) = Config::new(FIRST_TABLE, window, LEAST_MAX_STREAMS) else {
+        return Err(LinkError::Memory);
+    };
+    let mut fetch = match PartFetch::new(alloc, config, message) {
+        Ok(fetch) => fetch,
+        Err(error) => return Err(error),
+    };
+    match widen_fetch(&mut fetch, window) {
+        Ok(()) => Ok(fetch),
+        Err(_) => Err(LinkError::Memory),
+    }
+}
+
+// rule: engines (own) A response that is waited for has its window, and no other
+// rule: engines (own) get has the window of --window, for the connection and for each stream
+/// Begins a fetch of several responses. The connection has this window, and each stream its share
+/// of it.
+pub(crate) fn begin_several(
+    alloc: Global,
+    window: u32,
+    messages: Vec<Message>,
+) -> Result<SeveralFetch, LinkError>
+    ensures ok { IfOk result (BeginsSeveralWith window (map message_value messages.items)) }
+    ensures refused { IfErr result (RefusesOne (several_values window (length messages.items))
+        (map message_value messages.items)) }
+{
+    let share = window_among(window, messages.len());
+    let Ok(config) = Config::new(FIRST_TABLE, share, LEAST_MAX_STREAMS) else {
+        return Err(LinkError::Memory);
+    };
+    let mut fetch = match SeveralFetch::new(alloc, config, messages) {
+        Ok(fetch) => fetch,
+        Err(error) => return Err(error),
+    };
+    match widen_several(&mut fetch, window) {
+        Ok(()) => Ok(fetch),
+        Err(_) => Err(LinkError::Memory),
+    }
+}
+
+// rule: engines (own) A response that is waited for has its window, and no other
+/// The window of each of `streams` streams: its share, so that a response that waits never takes
+/// what another one needs.
+fn window_among(window: u32, streams: usize) -> u32
+    ensures { result ≡ window_among window streams }
+{
+    match u32::try_from(streams) {
+        Ok(streams) if streams > 0 => (window / streams).max(1),
+        Ok(_) => window,
+        Err(_) => 1,
+    }
+}
+
+/// Widens the connection to a window, which has 65,535 octets without it (RFC 9113,
+/// section 6.9.2). If its output is full, it is left as it is.
+///
+/// # Errors
+///
+/// [`LinkError::Memory`] if an allocation was refused.
+fn widen_fetch(fetch: &mut PartFetch, window: u32) -> Result<(), LinkError>
+    ensures { WidensTo window fetch.old fetch.new }
+{
+    let count = window.saturating_sub(FIRST_WINDOW);
+    if count == 0 {
+        return Ok(());
+    }
+    unless_memory(fetch.widen(count))
+}
+
+/// As [`widen_fetch`], for several responses.
+fn widen_several(fetch: &mut SeveralFetch, window: u32) -> Result<(), LinkError>
+    ensures { WidensSeveralTo window fetch.old fetch.new }
+{
+    let count = window.saturating_sub(FIRST_WINDOW);
+    if count == 0 {
+        return Ok(());
+    }
+    unless_memory(fetch.widen(count))
+}
+
+/// Fails if an allocation was refused. After any other refusal the window is as it was.
+fn unless_memory(widened: Result<(), Refusal>) -> Result<(), LinkError> {
+    match widened {
+        Err(Refusal::Memory) => Err(LinkError::Memory),
+        _ => Ok(()),
+    }
+}

@@ -1,0 +1,56 @@
+//! The windows of the connections of a host.
+
+use std::cell::Cell;
+
+/// The window that each connection has at first (RFC 9113, section 6.9.2).
+const FIRST: u32 = 65_535;
+
+/// To which window a host widens each of its connections as a body comes, and how many octets
+/// all of them may still be widened by.
+#[derive(Drop)]
+pub struct Windows {
+    window: u32,
+    left: Cell<u64>,
+}
+
+impl Windows {
+    /// Creates one that widens each connection to this window, and all by at most this many octets.
+    pub fn new(window: u32, most: u64) -> Windows {
+        Windows {
+            window,
+            left: Cell::new(most),
+        }
+    }
+
+    /// Takes the octets by which one connection is widened, as far as any are left.
+    pub(crate) fn take(&self) -> Widened<'_> {
+        let left = self.left.get();
+        let wanted = u64::from(self.window.saturating_sub(FIRST));
+        let count = wanted.min(left);
+        self.left.set(left - count);
+        Widened {
+            windows: self,
+            count,
+        }
+    }
+}
+
+/// The octets by which a connection is widened. Dropped with it, they are left for others.
+pub(crate) struct Widened<'a> {
+    windows: &'a Windows,
+    count: u64,
+}
+
+impl Widened<'_> {
+    /// The number of octets.
+    pub(crate) fn count(&self) -> u32 {
+        u32::try_from(self.count).unwrap_or(u32::MAX)
+    }
+}
+
+impl Drop for Widened<'_> {
+    fn drop(self) {
+        let Widened { windows, count } = self;
+        windows.left.set(windows.left.get().saturating_add(count));
+    }
+}
