@@ -14,12 +14,12 @@ use Rattle.h2_fetch.specs.Parts.{handed_on}
 use Rattle.h2_args.specs.Words.{GetWords}
 use Rattle.h2_get.specs.Receives.{HeadCame, body_handed, fields_in_trailers}
 use Rattle.h2_get.specs.Streams.{IsWholeWith}
-use Rattle.h2_get.specs.Windows.{BeginsWith, fetch_values, window_of}
+use Rattle.h2_get.specs.Windows.{BeginsWithWindow, fetch_values, window_of}
 
 -- The response is all that was handed out: a head, after interim ones that are dropped, then the
 -- octets of the body, in order, and the trailers.
 -- rule: engines (own) get without -o and --stream prints a response once it is whole
-pub record IsWhole (id : ℕ) (handed : List Handed) (fetched : Fetched) : Type 0 where
+pub record IsWholeResponse (id : ℕ) (handed : List Handed) (fetched : Fetched) : Type 0 where
   pub came : List Handed
   pub rest : List Handed
   pub end : Bool
@@ -35,7 +35,7 @@ unfoldable pub GatheredSo : Values → SentMessage → (start now : Traffic) →
     → Result Fetched LinkError → Type 0
 GatheredSo values message start now fetch end (Ok fetched) =
     IsComing values message start now fetch end
-    × IsWhole fetch.id (handed_on fetch.id end.handed) fetched
+    × IsWholeResponse fetch.id (handed_on fetch.id end.handed) fetched
 GatheredSo values message start now fetch end (Err error) =
     HasStopped values message start now fetch end error
     ⊎ ((error ≡ errors.Memory) × IsComing values message start now fetch end)
@@ -66,5 +66,5 @@ pub data GathersRequest (words : GetWords) (message : SentMessage) : Result Fetc
     not_accepted : (error : LinkError) → IsNotAccepted (fetch_values (window_of words)) message (Err error)
         → GathersRequest words message (Err error)
     is_gathered : (begun fetch : PartFetch) (result : Result Fetched LinkError)
-        → BeginsWith (window_of words) message begun → GathersOver begun fetch result
+        → BeginsWithWindow (window_of words) message begun → GathersOver begun fetch result
         → GathersRequest words message result

@@ -45,7 +45,7 @@ pub data WidensSeveralTo (window : ℕ) (old : SeveralFetch) : (new : SeveralFet
 -- A new client has made its request, and nothing has come; its stream and the connection have this
 -- window.
 -- rule: engines (own) get has the window of --window, for the connection and for each stream
-pub record BeginsWith (window : ℕ) (message : SentMessage) (fetch : PartFetch) : Type 0 where
+pub record BeginsWithWindow (window : ℕ) (message : SentMessage) (fetch : PartFetch) : Type 0 where
   pub begun : PartFetch
   pub begins : BeginsFetch (fetch_values window) message begun
   pub widened : WidensTo window begun fetch
@@ -63,7 +63,7 @@ several_values window requests = fetch_values (window_among window requests)
 
 -- A new client has made its requests, and nothing has come; the connection has this window.
 -- rule: engines (own) get has the window of --window, for the connection and for each stream
-pub record BeginsSeveralWith (window : ℕ) (messages : List SentMessage) (fetch : SeveralFetch)
+pub record BeginsSeveralWithWindow (window : ℕ) (messages : List SentMessage) (fetch : SeveralFetch)
     : Type 0 where
   pub begun : SeveralFetch
   pub begins : BeginsSeveral (several_values window (length messages)) messages begun

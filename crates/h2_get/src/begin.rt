@@ -5,7 +5,7 @@ ghost use Rattle.h2_message.specs.Values.{message_value};
 ghost use Rattle.h2_args.specs.Words.{asked_by};
 ghost use Rattle.h2_engines.specs.Fetches.{IsNotAccepted};
 ghost use Rattle.h2_fetch.specs.Several.{RefusesOne};
-ghost use Rattle.h2_get.specs.Windows.{BeginsSeveralWith, BeginsWith, WidensSeveralTo, WidensTo};
+ghost use Rattle.h2_get.specs.Windows.{BeginsSeveralWithWindow, BeginsWithWindow, WidensSeveralTo, WidensTo};
 ghost use Rattle.h2_get.specs.Windows.{fetch_values, several_values, window_among, window_asked};
 ghost use Rattle.h2_get.specs.Windows.{window_of};
 
@@ -45,7 +45,7 @@ pub(crate) fn begin_fetch(
     window: u32,
     message: Message,
 ) -> Result<PartFetch, LinkError>
-    ensures ok { IfOk result (BeginsWith window (message_value message)) }
+    ensures ok { IfOk result (BeginsWithWindow window (message_value message)) }
     ensures refused { IfErr result (λ error. IsNotAccepted (fetch_values window)
         (message_value message) (Err error)) }
 {
@@ -71,7 +71,7 @@ pub(crate) fn begin_several(
     window: u32,
     messages: Vec<Message>,
 ) -> Result<SeveralFetch, LinkError>
-    ensures ok { IfOk result (BeginsSeveralWith window (map message_value messages.items)) }
+    ensures ok { IfOk result (BeginsSeveralWithWindow window (map message_value messages.items)) }
     ensures refused { IfErr result (RefusesOne (several_values window (length messages.items))
         (map message_value messages.items)) }
 {
