@@ -1,6 +1,6 @@
 -- The size of a window, as words write it.
-use Rattle.std.specs.Prelude.{◌≡◌, ◌==◌, ◌*◌, ◌-◌, ◌&&◌, ℕ, nat_le, if◌then◌else◌, List, length, take}
-use Rattle.std.specs.Prelude.{slice_index, Option, Some, None, option_and_then}
+use Rattle.std.specs.Prelude.{◌≡◌, ◌==◌, ◌*◌, ◌-◌, ◌&&◌, ℕ, nat_le, if◌then◌else◌, List, length}
+use Rattle.std.specs.Prelude.{take, slice_index, Option, Some, None, option_and_then}
 use Rattle.h2_files.specs.Ranges.{number_of_digits}
 
 -- what a last octet multiplies by: `k` by 1,024, `m` by 1,048,576

@@ -177,9 +177,9 @@ in the format of show --follow, but check neither
 against the other's SETTINGS; the body is printed
 as with --stream";
 
-const WINDOW_HELP: &str = r"Octets of bodies that may be sent before they are
-read, of each response and in all; k and m multiply
-by 1024 and 1048576 [default: 4m]";
+const GET_WINDOW_HELP: &str = r"Octets of bodies that may be sent before they are
+read, of all responses together; k and m multiply by
+1024 and 1048576 [default: 4m]";
 
 /// What `get` prints, how it ends, and an example.
 const FETCHED_AND_STATUSES: &str =
@@ -202,8 +202,8 @@ failure. At most 100 URLs are accepted, all of the same host and port.
 
 The server may send as many octets of bodies as --window says before they are
 read: so a window divided by the round-trip time is the most that arrives per
-second. Below 65535 it limits each response alone, since a connection has a
-window of 65535 octets at least.
+second. A size below 65535 limits only the responses, not the connection, which
+has a window of 65535 octets at least.
 
 With one URL and none of --output, --stream and --verbose, the body is kept
 until the response is complete, and nothing is printed of an incomplete one.
@@ -376,5 +376,5 @@ pub(super) fn get_command<'a>(alloc: Global) -> Result<Command<'a>, AllocError>
         .arg(number_option(alloc, TIMEOUT, "SECONDS", TIMEOUT_HELP))?
         .arg(verbose_arg(alloc))?
         .arg(others_arg(alloc))?
-        .arg(valued_arg(alloc, WINDOW, "SIZE", WINDOW_HELP))
+        .arg(valued_arg(alloc, WINDOW, "SIZE", GET_WINDOW_HELP))
 }

@@ -101,9 +101,9 @@ const UNTIL_CLOSED: &str = "until-closed";
 const UNTIL_CLOSED_HELP: &str = r"Shut down gracefully once standard input, a pipe, is
 closed";
 
-const WINDOW_HELP: &str = r"Octets of bodies that may be sent before they are used,
-of each request and of a connection; k and m multiply
-by 1024 and 1048576 [default: 1m]";
+const HOST_WINDOW_HELP: &str = r"Octets of bodies that may be sent before they are used,
+in all requests of a connection; k and m multiply by
+1024 and 1048576 [default: 1m]";
 
 /// What `host` serves, how it ends, and an example.
 const HOSTED_AND_STATUSES: &str =
@@ -138,10 +138,10 @@ A connection is closed with code 4 if the preface and the first frame take more
 than 10 seconds, and with code 11
 - if a later frame, a field block of several frames, or the next 1024 octets of
   request bodies (of all streams together) take more than 30 seconds;
-- if output is queued and none of it is written for 60 seconds, or if some
-  request has been given a response, its exchange is not over, and no octet of
-  any response body is sent for 60 seconds;
-- if, in one of the periods of 10 seconds that follow one another,
+- if output is queued and none of it is written for 60 seconds, or if no octet
+  of any response body is sent for 60 seconds while some request has a response
+  and is not finished (request and response not both complete);
+- if, within one of consecutive periods of 10 seconds,
   - the client sends more than 500 RST_STREAM frames or more than 500 empty
     frames;
   - the host resets more than 50 streams for stream errors (malformed requests,
@@ -153,9 +153,10 @@ than 10 seconds, and with code 11
   buffers are not counted.
 
 A client may send as many octets of bodies as --window says before they are
-read, of each request and of all together. The connection's window, 65535 octets
-at first, is widened to that size once a body arrives of which more is to come,
-but all are widened by at most 128 MiB together.
+used, in one request, and in all requests of a connection together. A
+connection's window is 65535 octets at first. Once part of a body has arrived
+and more is to come, it is widened to that size. All connections together are
+widened by at most 128 MiB. A size below 65535 limits only each request.
 
 With --until-closed, GOAWAY is sent on all connections once standard input is
 closed, and pending requests are answered. A connection that takes longer than 5
@@ -169,8 +170,8 @@ double quotes, the status, and the number of octets of the body. In the request
 line, quotes, backslashes and octets outside printable ASCII are escaped, a
 quote as `\x22`. Requests that are reset before they are handled (with a head
 that is malformed or too large, or above the limit of streams), those whose
-authority names a user, and those for whose head or line memory was refused have
-no line.
+authority names a user, and those for which memory was refused, for the head or
+for the line, have no line.
 
 Exit status (lines in backquotes go to standard error):
   0  with --until-closed, standard input was closed, and all connections have
@@ -257,5 +258,5 @@ pub(super) fn host_command<'a>(alloc: Global) -> Result<Command<'a>, AllocError>
 {
     limited_command(alloc)?
         .arg(flag_arg(alloc, UNTIL_CLOSED, UNTIL_CLOSED_HELP))?
-        .arg(valued_arg(alloc, WINDOW, "SIZE", WINDOW_HELP))
+        .arg(valued_arg(alloc, WINDOW, "SIZE", HOST_WINDOW_HELP))
 }

@@ -1,5 +1,6 @@
 pub mod Appending
 mod Bodies
+mod GatherLemmas
 mod Receiving
 mod SeveralInOrder
 mod SeveralParts

@@ -252,11 +252,10 @@ abbrev pub results_of : Result SeveralStreamed StreamEnding
 results_of (Ok several) = Ok several.results.items
 results_of (Err ending) = Err ending.error
 
--- The requests were made at once over a new connection with the window that
--- the words ask for, and their responses were
--- printed one after another, however that has ended; or no connection could be made, or one of the
--- requests was not accepted, and nothing was printed. Out of memory for what came of them says
--- nothing.
+-- The requests were made at once over a new connection with the window that the words ask for, and
+-- their responses were printed one after another, however that has ended; or no connection could be
+-- made, or one of the requests was not accepted, and nothing was printed. Out of memory for what came
+-- of them says nothing.
 -- rule: engines (own) Several responses are printed in the order of their URLs
 -- rule: engines (own) get has the window of --window, for the connection and for each stream
 pub data StreamsRequests (words : GetWords) (messages : List SentMessage)
@@ -266,8 +265,8 @@ pub data StreamsRequests (words : GetWords) (messages : List SentMessage)
       → after ≡ before → StreamsRequests words messages before after
       (Err (streams.Link error))
   one_refused : (error : LinkError)
-      → RefusesOne (several_values (window_of words) (length messages)) messages error → after ≡ before
-      → StreamsRequests words messages before after (Err (streams.Link error))
+      → RefusesOne (several_values (window_of words) (length messages)) messages error
+      → after ≡ before → StreamsRequests words messages before after (Err (streams.Link error))
   are_streamed : (begun fetch : SeveralFetch) (results : List (Result Fetched StreamError))
       → BeginsSeveralWithWindow (window_of words) messages begun
       → SeveralOver words begun fetch before after results

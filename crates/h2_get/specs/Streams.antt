@@ -155,20 +155,21 @@ abbrev pub StreamsOver : GetWords → (old new : PartFetch) → (written written
 StreamsOver words old new written written_now result =
     (before now : Traffic) × StreamsResponse words before now old new written written_now result
 
--- The request was made over a new connection with the window that
--- the words ask for, and its response was printed as it
--- came, however that has ended; or no connection could be made, or the request was not accepted, and
--- nothing was printed.
+-- The request was made over a new connection with the window that the words ask for, and its
+-- response was printed as it came, however that has ended; or no connection could be made, or the
+-- request was not accepted, and nothing was printed.
 -- rule: engines (own) get -o and --stream write the body as it comes, in order
 -- rule: engines (own) get has the window of --window, for the connection and for each stream
 pub data StreamsRequest (words : GetWords) (message : SentMessage)
     (before after : Option (List ℕ)) : Result Fetched StreamError → Type 0 where
   not_connected : (error : LinkError) → (error ≡ errors.Device) ⊎ (error ≡ errors.Memory)
       → after ≡ before → StreamsRequest words message before after (Err (streams.Link error))
-  not_accepted : (error : LinkError) → IsNotAccepted (fetch_values (window_of words)) message (Err error)
-      → after ≡ before → StreamsRequest words message before after (Err (streams.Link error))
+  not_accepted : (error : LinkError)
+      → IsNotAccepted (fetch_values (window_of words)) message (Err error) → after ≡ before
+      → StreamsRequest words message before after (Err (streams.Link error))
   is_streamed : (begun fetch : PartFetch) (result : Result Fetched StreamError)
-      → BeginsWithWindow (window_of words) message begun → StreamsOver words begun fetch before after result
+      → BeginsWithWindow (window_of words) message begun
+      → StreamsOver words begun fetch before after result
       → StreamsRequest words message before after result
 
 -- the result, without a hint

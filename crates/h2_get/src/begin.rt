@@ -5,7 +5,8 @@ ghost use Rattle.h2_message.specs.Values.{message_value};
 ghost use Rattle.h2_args.specs.Words.{asked_by};
 ghost use Rattle.h2_engines.specs.Fetches.{IsNotAccepted};
 ghost use Rattle.h2_fetch.specs.Several.{RefusesOne};
-ghost use Rattle.h2_get.specs.Windows.{BeginsSeveralWithWindow, BeginsWithWindow, WidensSeveralTo, WidensTo};
+ghost use Rattle.h2_get.specs.Windows.{BeginsSeveralWithWindow, BeginsWithWindow, WidensSeveralTo};
+ghost use Rattle.h2_get.specs.Windows.{WidensTo};
 ghost use Rattle.h2_get.specs.Windows.{fetch_values, several_values, window_among, window_asked};
 ghost use Rattle.h2_get.specs.Windows.{window_of};
 

@@ -4,7 +4,8 @@
 //! body, and [`request_of`] makes the request from it and the options. [`print_asked`] prints
 //! the response, and [`is_failure`] says whether `--fail` makes it a failure.
 //! [`gather_location`] fetches a response whole; [`stream_location`] fetches one and prints it as
-//! it arrives, with the frames of both sides for `--verbose`; [`stream_locations`] does so for several at once over one connection.
+//! it arrives, with the frames of both sides for `--verbose`; [`stream_locations`] does so for
+//! several at once over one connection.
 //! [`TimedNet`] is a network whose connections end at a deadline.
 #![tactic(auto)]
 
@@ -12,7 +13,7 @@ mod begin;
 mod body;
 mod connect;
 mod counted;
-mod gather;
+mod gathering;
 mod pass_error;
 mod port;
 mod receive;
@@ -26,7 +27,7 @@ mod timed;
 
 pub use begin::window_asked;
 pub use body::{BodyFault, body_of};
-pub use gather::{gather, gather_location};
+pub use gathering::{gather, gather_location};
 pub use pass_error::{PassError, ResponseHead, SeveralStreamed, StreamEnding, StreamError};
 pub use port::location_at;
 pub use receive::{bodies_are_in_order, next_head, pass_body};

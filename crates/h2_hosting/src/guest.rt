@@ -66,7 +66,7 @@ impl<W: Drop, H: Handler<Work = W>> Widens for Seat<H, W> {
 }
 
 /// A connection that shuts down at the next tick of its host's clock once `leaving` is set, and
-/// whose window is widened once, as the first body comes.
+/// whose window is widened once, when part of a body has arrived and more is to come.
 #[derive(Drop)]
 pub struct Guest<'a, P> {
     /// The connection, in a box, since a host moves its connections at each step.

@@ -221,13 +221,29 @@ fn seat_limits(idle: u64) -> SeatLimits
     limits
 }
 
-/// The default limits of a host, with this maximum number of connections.
-fn host_limits(connections: usize) -> Limits
-    ensures { result.connections ≡ connections }
+// contract: hosts (own) The options of a host say what is served, where, and for how long
+/// The default limits of a host, with this maximum number of connections. A connection may hold
+/// twice the window at least, so that none is ended for what it was let send.
+fn host_limits(connections: usize, window: u32) -> Limits
+    ensures connections { result.connections ≡ connections }
+    ensures held { window * 2 ≤ result.held }
 {
     let mut limits = Limits::default();
     limits.connections = connections;
+    limits.held = limits.held.max(window as usize * 2);
     limits
+}
+
+// contract: hosts (own) The options of a host say what is served, where, and for how long
+// rule: hosts (own) The options of a host say what is served, where, and for how long
+/// The default settings, with this window for each stream.
+fn config_of(window: u32) -> Config
+    ensures { (1 ≤ window) × (window ≤ 2147483647) → result.initial_window ≡ window }
+{
+    match Config::new(FIRST_TABLE, window, LEAST_MAX_STREAMS) {
+        Ok(config) => config,
+        Err(_) => Config::default(),
+    }
 }
 
 // rule (tested): hosts (own) A host says which folder, address or input it can't have

@@ -20,9 +20,9 @@ pub struct HostSettings {
     /// gracefully once standard input, a pipe, is closed.
     pub place: Place,
     /// The settings of each connection. An initial window of streams above 65,535 octets is also
-    /// that of the connection, once a body comes of which more is to come: the window is widened
-    /// then, to at most half of what the connection may hold. All are widened by at most half of
-    /// what all may hold.
+    /// that of the connection, once part of a body has arrived and more is to come: the window is
+    /// widened then, to at most half of what the connection may hold. All connections together are
+    /// widened by at most half of what all may hold.
     pub config: Config,
     /// The time limits and flood limits of each connection; one that exceeds them is ended.
     pub limits: SeatLimits,

@@ -5,8 +5,8 @@ use std::cell::Cell;
 /// The window that each connection has at first (RFC 9113, section 6.9.2).
 const FIRST: u32 = 65_535;
 
-/// To which window a host widens each of its connections as a body comes, and how many octets
-/// all of them may still be widened by.
+/// The window to which a host widens a connection once part of a body has arrived, and the octets
+/// that are left for widening.
 #[derive(Drop)]
 pub struct Windows {
     window: u32,

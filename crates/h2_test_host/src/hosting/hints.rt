@@ -16,6 +16,7 @@ fn options_of<'a>(root: Option<&'a str>, address: [u8; 4]) -> HostOptions<'a> {
         idle: 0,
         log: false,
         until_closed: false,
+        window: 65_535,
     }
 }
 

@@ -18,14 +18,14 @@ returns-in-Err-begin_several g c =
     let error = c.in-Err-begin_several.error in
     rw c.of_error.ensures.error (one_refused error
     (subst (λ (n : ℕ). RefusesOne (several_values (window_of (asked_by c.args.options.now)) n) messages error)
-    (sym (length-map c.args.messages.items message_value)) c.in-Err-begin_several.ensures.refused)
-    refl)
+    (sym (length-map c.args.messages.items message_value))
+    (rw c.window_of.ensures at c.in-Err-begin_several.ensures.refused)) refl)
 
 pub returns-in-Ok-several_over : goal.returns-in-Ok-several_over
 returns-in-Ok-several_over g c =
     rw c.end_several.ensures.results
-    (are_streamed c.in-Ok-begin_several.fetch _ _ c.in-Ok-begin_several.ensures.ok
-    c.in-Ok-several_over.ensures)
+    (are_streamed c.in-Ok-begin_several.fetch _ _
+    (rw c.window_of.ensures at c.in-Ok-begin_several.ensures.ok) c.in-Ok-several_over.ensures)
 
 pub returns : goal.returns
 returns g c = rw c.of_error-in-Err-several_over.ensures.error results_lost

@@ -10,9 +10,9 @@ returns-in-Err g c =
 pub returns-in-Err-begin_fetch : goal.returns-in-Err-begin_fetch
 returns-in-Err-begin_fetch g c =
     rw c.of_error.ensures.error (not_accepted c.in-Err-begin_fetch.error
-    c.in-Err-begin_fetch.ensures.refused refl)
+    (rw c.window_of.ensures at c.in-Err-begin_fetch.ensures.refused) refl)
 
 pub returns : goal.returns
 returns g c =
-    is_streamed c.in-Ok-begin_fetch.fetch _ _ c.in-Ok-begin_fetch.ensures.ok
-    c.stream_with_hint.ensures.streams
+    is_streamed c.in-Ok-begin_fetch.fetch _ _
+    (rw c.window_of.ensures at c.in-Ok-begin_fetch.ensures.ok) c.stream_with_hint.ensures.streams

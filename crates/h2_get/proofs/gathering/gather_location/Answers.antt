@@ -1,16 +1,16 @@
 -- No connection was made, the request was not accepted, or the response was gathered.
 use Rattle.h2_get.specs.Gathers.{is_gathered, not_accepted, not_connected}
-use Rattle.h2_get.proofs.gather.gather_location.Goals as goal
+use Rattle.h2_get.proofs.gathering.gather_location.Goals as goal
 
 pub returns-in-Err : goal.returns-in-Err
 returns-in-Err g c = not_connected c.in-Err.ending.error c.in-Err.ensures.err
 
 pub returns-in-Err-begin_fetch : goal.returns-in-Err-begin_fetch
 returns-in-Err-begin_fetch g c =
-    rw c.from.ensures.value (not_accepted c.in-Err-begin_fetch.error
-    c.in-Err-begin_fetch.ensures.refused)
+    rw c.from.ensures (not_accepted c.in-Err-begin_fetch.error
+    (rw c.window_of.ensures at c.in-Err-begin_fetch.ensures.refused))
 
 pub returns : goal.returns
 returns g c =
-    is_gathered c.in-Ok-begin_fetch.fetch _ _ c.in-Ok-begin_fetch.ensures.ok
-    c.gather_with_hint.ensures.gathers
+    is_gathered c.in-Ok-begin_fetch.fetch _ _
+    (rw c.window_of.ensures at c.in-Ok-begin_fetch.ensures.ok) c.gather_with_hint.ensures.gathers

@@ -9,16 +9,16 @@ ghost use Rattle.h2_message.specs.Values.{message_value};
 ghost use Rattle.h2_engines.specs.Linked.{traffic};
 ghost use Rattle.h2_args.specs.Words.{asked_by};
 ghost use Rattle.h2_net.specs.Endings.{without_hint};
-ghost use Rattle.h2_get.specs.Gathers.{Gathers, GathersOver, GathersRequest};
+ghost use Rattle.h2_get.specs.Gathers.{Gathers, GathersOver, GathersRequest, GathersRest};
 
 use crate::begin::{begin_fetch, window_of};
 use crate::connect::{connect_to, end_fetch, send_held};
 use crate::pass_error::PassError;
 use crate::receive::{next_head, pass_body};
-use crate::stream::fetched_with;
 use h2_args::GetOptions;
 use h2_engines::{Link, Message};
 use h2_fetch::PartFetch;
+use h2_message::Field;
 use h2_net::{Ending, Fetched, LinkError, Location, StreamLink, WriteParts};
 use std::alloc::Global;
 use std::io::Read;
@@ -103,16 +103,39 @@ pub fn gather<L: Link>(
         Ok(head) => head,
         Err(error) => return Err(error),
     };
-    let end = head.end;
-    let mut fetched = fetched_with(alloc, head.list);
-    if end {
-        return Ok(fetched);
+    let mut body = Vec::new(alloc);
+    let trailers = match gather_rest(head.end, fetch, link, &mut body) {
+        Ok(trailers) => trailers,
+        Err(error) => return Err(error),
+    };
+    Ok(Fetched {
+        interims: Vec::new(alloc),
+        head: head.list,
+        body,
+        trailers,
+    })
+}
+
+// rule: engines (own) get without -o and --stream prints a response once it is whole
+/// Adds the octets of the body to `body`, and returns the trailers.
+fn gather_rest<L: Link>(
+    is_whole: bool,
+    fetch: &mut PartFetch,
+    link: &mut L,
+    body: &mut Vec<u8>,
+) -> Result<Option<Vec<Field>>, LinkError>
+    requires { L.faults link.old < 2 ^ 64 - 1 }
+    ensures rest { GathersRest is_whole
+        (traffic (L.given link.old) (L.taken link.old) (L.stalled link.old))
+        (traffic (L.given link.new) (L.taken link.new) (L.stalled link.new))
+        fetch.old fetch.new body.old.items body.new.items result }
+    ensures stream { fetch.new.id ≡ fetch.old.id }
+{
+    if is_whole {
+        return Ok(None);
     }
-    match pass_body(fetch, link, &mut fetched.body) {
-        Ok(trailers) => {
-            fetched.trailers = trailers;
-            Ok(fetched)
-        }
+    match pass_body(fetch, link, body) {
+        Ok(trailers) => Ok(trailers),
         Err(PassError::Link(error)) => Err(error),
         Err(PassError::Output) => Err(LinkError::Memory),
     }

@@ -1,0 +1,14 @@
+-- The window is that of each connection, or wider.
+use Rattle.std.proofs.Common.{arith}
+use Rattle.h2_get.specs.Windows.{asks_more, has_window}
+use Rattle.h2_get.proofs.begin.widen_fetch.Goals as goal
+
+pub returns-then-count-eq0 : goal.returns-then-count-eq0
+returns-then-count-eq0 c =
+    has_window (omega (arith, c.if-count-eq0.true, c.saturating_sub-count.ensures))
+
+pub returns : goal.returns
+returns c =
+    asks_more _ c.widen.new.self
+    (omega (arith, c.if-count-eq0.false, c.saturating_sub-count.ensures))
+    (rw c.saturating_sub-count.ensures at c.widen.ensures.widens) c.widen.ensures.stream
