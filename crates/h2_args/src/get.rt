@@ -11,7 +11,6 @@ ghost use Rattle.h2_args.specs.Words.{asked_by, get_faults, get_words_in, get_wo
 
 use crate::options::{CommandText, flag_arg, is_set, named_command, valued_arg};
 use crate::sockets::required_arg;
-use crate::window::WINDOW;
 use clap::builder::ValueParser;
 use clap::{Arg, ArgAction, ArgMatches, Command, Error, value_parser};
 use std::alloc::{AllocError, Global};
@@ -99,7 +98,7 @@ fn options_of<'a>(alloc: Global, matches: &ArgMatches<'a>) -> Result<GetOptions<
         timeout: matches.get_one::<u16>(TIMEOUT),
         verbose: is_set(matches, VERBOSE),
         others,
-        window: matches.get_str(WINDOW),
+        window: matches.get_str(GET_WINDOW),
     })
 }
 
@@ -176,6 +175,8 @@ const VERBOSE_HELP: &str = r"Print the frames of both sides on standard error,
 in the format of show --follow, but check neither
 against the other's SETTINGS; the body is printed
 as with --stream";
+
+const GET_WINDOW: &str = "window";
 
 const GET_WINDOW_HELP: &str = r"Octets of bodies that may be sent before they are
 read, of all responses together; k and m multiply by
@@ -376,5 +377,5 @@ pub(super) fn get_command<'a>(alloc: Global) -> Result<Command<'a>, AllocError>
         .arg(number_option(alloc, TIMEOUT, "SECONDS", TIMEOUT_HELP))?
         .arg(verbose_arg(alloc))?
         .arg(others_arg(alloc))?
-        .arg(valued_arg(alloc, WINDOW, "SIZE", GET_WINDOW_HELP))
+        .arg(valued_arg(alloc, GET_WINDOW, "SIZE", GET_WINDOW_HELP))
 }

@@ -9,7 +9,6 @@ ghost use Rattle.h2_args.specs.Words.{host_asked_by, host_faults, host_words_of}
 
 use crate::options::{CommandText, flag_arg, is_set, named_command, valued_arg};
 use crate::sockets::{counts, number_arg};
-use crate::window::WINDOW;
 use clap::builder::ValueParser;
 use clap::{Arg, Command, Error, value_parser};
 use std::alloc::{AllocError, Global};
@@ -66,7 +65,7 @@ pub fn host_args<'a>(alloc: Global, words: &'a [String]) -> Result<HostWords<'a>
         idle: matches.get_one::<u32>(IDLE),
         log: is_set(&matches, LOG),
         until_closed: is_set(&matches, UNTIL_CLOSED),
-        window: matches.get_str(WINDOW),
+        window: matches.get_str(HOST_WINDOW),
     })
 }
 
@@ -100,6 +99,8 @@ const UNTIL_CLOSED: &str = "until-closed";
 
 const UNTIL_CLOSED_HELP: &str = r"Shut down gracefully once standard input, a pipe, is
 closed";
+
+const HOST_WINDOW: &str = "window";
 
 const HOST_WINDOW_HELP: &str = r"Octets of bodies that may be sent before they are used,
 in all requests of a connection; k and m multiply by
@@ -258,5 +259,5 @@ pub(super) fn host_command<'a>(alloc: Global) -> Result<Command<'a>, AllocError>
 {
     limited_command(alloc)?
         .arg(flag_arg(alloc, UNTIL_CLOSED, UNTIL_CLOSED_HELP))?
-        .arg(valued_arg(alloc, WINDOW, "SIZE", HOST_WINDOW_HELP))
+        .arg(valued_arg(alloc, HOST_WINDOW, "SIZE", HOST_WINDOW_HELP))
 }

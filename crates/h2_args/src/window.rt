@@ -5,9 +5,6 @@ ghost use Rattle.h2_args.specs.Windows.{digits_of, unit_of, window_or, window_si
 
 use h2_files::number_of_digits;
 
-/// The name of the option.
-pub(super) const WINDOW: &str = "window";
-
 /// The greatest window (RFC 9113, section 6.9.1).
 const MOST: u64 = 2_147_483_647;
 

@@ -103,11 +103,9 @@ pub fn gather<L: Link>(
         Ok(head) => head,
         Err(error) => return Err(error),
     };
+    let end = head.end;
     let mut body = Vec::new(alloc);
-    let trailers = match gather_rest(head.end, fetch, link, &mut body) {
-        Ok(trailers) => trailers,
-        Err(error) => return Err(error),
-    };
+    let trailers = gather_rest(end, fetch, link, &mut body)?;
     Ok(Fetched {
         interims: Vec::new(alloc),
         head: head.list,

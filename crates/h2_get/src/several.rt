@@ -26,7 +26,8 @@ use std::io::Write;
 /// Prints the responses of several requests: each as [`crate::stream_response`] does, in the
 /// order of the requests, with a newline between them. The current one is printed as it arrives;
 /// what arrives of later ones is kept. A reset stream does not end the others; any other error
-/// ends all. Returns the results up to that. `options` must not name a file.
+/// ends all. Returns the results up to that. Of a response that `--fail` makes a failure, as much
+/// of the body as its window allows still arrives. `options` must not name a file.
 ///
 /// # Errors
 ///

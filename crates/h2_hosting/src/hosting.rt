@@ -237,6 +237,7 @@ fn host_limits(connections: usize, window: u32) -> Limits
 // contract: hosts (own) The options of a host say what is served, where, and for how long
 // rule: hosts (own) The options of a host say what is served, where, and for how long
 /// The default settings, with this window for each stream.
+#[tactic(auto, unfolding(h2_flow::specs::Configs::first_bad))]
 fn config_of(window: u32) -> Config
     ensures { (1 ≤ window) × (window ≤ 2147483647) → result.initial_window ≡ window }
 {

@@ -11,6 +11,8 @@ pub struct SeatLimits {
     pub floods: FloodLimits,
     /// Milliseconds for the output to be sent once the connection is closing. The time starts
     /// again whenever [`SeatLimits::least_closing`] more octets of bodies were sent or received.
+    /// Octets that moved before it was closing count towards the first of these, unless as many
+    /// had moved by then.
     pub closing: u64,
     /// The octets of bodies that must be sent or received within [`SeatLimits::closing`].
     pub least_closing: u64,

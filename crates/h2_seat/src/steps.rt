@@ -339,7 +339,7 @@ impl<W: Drop, H: Handler<Work = W>> Seat<H, W> {
 
     // rule: hosts (own) A connection that ends goes on as long as bodies move
     /// Restarts the time to close if enough octets of bodies were sent and received since the
-    /// last start.
+    /// last restart, or since the connection began.
     fn end_later(&mut self, why: Why, since: u64)
         ensures same { self.new.handled ≡ self.old.handled }
         ensures phase { self.old.phase ≡ phases.Ending why since

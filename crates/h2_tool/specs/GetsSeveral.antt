@@ -1,7 +1,7 @@
 -- How `h2 get` ends with several URLs, which it asks for at once over one connection.
 use Rattle.std.specs.Prelude.{◌≡◌, ◌⊎◌, ◌==◌, ◌&&◌, ℕ, Bool, true, false, List, [], ◌∷◌, map}
 use Rattle.std.specs.Prelude.{Option, Some, None, Result, Ok, Err, MatchBool, if◌then◌else◌}
-use Rattle.std.specs.Prelude.{is_none, is_some, length, nat_lt, string_bytes}
+use Rattle.std.specs.Prelude.{is_some, length, nat_lt, string_bytes}
 use Rattle.std.specs.Char.{to_ascii_lowercase}
 use Rattle.std.specs.List.{AllByRecursion, Contains}
 use Rattle.std.specs.Str.{bytes_eq}
@@ -187,9 +187,9 @@ GetsOneOrSeveral words remaining before after status =
 -- rule: engines (own) get has the window of --window, for the connection and for each stream
 -- rule: engines (own) The size of --window is a number of octets, with k or m for more
 abbrev pub GetsAsAsked : GetWords → (remaining before after : Option (List ℕ)) → Status → Type 0
-GetsAsAsked words remaining before after status = MatchBool (is_none (window_asked words))
-    ((status ≡ Usage) × (after ≡ before))
+GetsAsAsked words remaining before after status = MatchBool (is_some (window_asked words))
     (GetsOneOrSeveral words remaining before after status)
+    ((status ≡ Usage) × (after ≡ before))
 
 -- How `h2 get` ends.
 -- rule: engines (own) serve, get and loop have their words

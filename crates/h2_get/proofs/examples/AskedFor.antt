@@ -66,6 +66,7 @@ url_alone = record {
   timeout = None;
   verbose = false;
   others = [];
+  window = None;
 }
 
 -- rule: engines (own) A URL is asked for with GET

@@ -15,7 +15,7 @@ returns-in-Err-Link-clause-rest g c =
     (rest_cut _ _ _ _ _ _ c.in-Err-Link.error
     (rw c.in-Err-Link.field-0-is at c.in-Err-Link.ensures.passes))
 
-pub returns-clause-rest : goal.returns-clause-rest
-returns-clause-rest g c =
+pub returns-in-Err-Output-clause-rest : goal.returns-in-Err-Output-clause-rest
+returns-in-Err-Output-clause-rest g c =
     rw c.if-is_whole.false
     (rest_lost _ _ _ _ _ _ (rw c.in-Err-Output.field-0-is at c.in-Err-Output.ensures.passes))

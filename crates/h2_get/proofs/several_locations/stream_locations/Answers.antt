@@ -16,8 +16,9 @@ pub returns-in-Err-begin_several : goal.returns-in-Err-begin_several
 returns-in-Err-begin_several g c =
     let messages = map message_value c.args.messages.items in
     let error = c.in-Err-begin_several.error in
+    let window = window_of (asked_by c.args.options.now) in
     rw c.of_error.ensures.error (one_refused error
-    (subst (λ (n : ℕ). RefusesOne (several_values (window_of (asked_by c.args.options.now)) n) messages error)
+    (subst (λ (n : ℕ). RefusesOne (several_values window n) messages error)
     (sym (length-map c.args.messages.items message_value))
     (rw c.window_of.ensures at c.in-Err-begin_several.ensures.refused)) refl)
 
