@@ -1,6 +1,5 @@
 -- How many DATA a pump writes, and how long they make the output: one for each stream on which
 -- octets have room, and one more for each 16,384 octets. It stops where the output is full.
-use Rattle.h2_laws_machine.proofs.EveryStep.{every_log_has_machine}
 use Rattle.std.proofs.Common.{◌≡◌, ◌≢◌, ◌⊎◌, inl, inr, ℕ, ◌+◌, ◌*◌, ◌-◌, ◌≤◌, ◌<◌}
 use Rattle.std.proofs.Common.{◌&&◌, nat_lt, min, Bool, true, false, List, [], ◌∷◌}
 use Rattle.std.proofs.Common.{length, length-append, Option}
@@ -42,6 +41,7 @@ use Rattle.h2_laws_end.proofs.ActivityCalls.{inactive_by_call}
 use Rattle.h2_laws_end.proofs.ActivityOwed.{none_owed_by_call}
 use Rattle.h2_laws_end.proofs.OverRoom.{no_room_by_call, window_test}
 use Rattle.h2_laws_machine.proofs.BoundedLogs.{few_active}
+use Rattle.h2_laws_pair.proofs.StepsOfLogs.{given_within}
 use Rattle.h2_laws_pair.specs.Tokens.{Token}
 use Rattle.h2_ends.specs.Ends.{EndLog, tokens_waiting}
 use Rattle.h2_ends.specs.EndCalls.{BodyWaits, Pumps, pumps_no_more, pumps_data}
@@ -147,11 +147,6 @@ data_waits log id octets ends n none =
     let same = no_due log act (Count n) (data_due log id octets ends n none) in
     let longer = sent_waits (called log act (Count n)) (items_of (log_view log) act (Count n)) in
     omega (arith, longer, ap waiting same)
-
--- No more was put out than was written.
-given_written : (role : Role) (values : Values) (log : Log) → IsLog role values log
-    → log.given ≤ length log.written
-given_written role values log is = (every_log_has_machine role values log is).1.output.given
 
 -- Where octets of a body were sent the output was not full.
 has_space_for : (log : Log) (id : ℕ) (octets : List ℕ) (ends : Bool) (n : ℕ)
@@ -448,7 +443,7 @@ module _ (role : Role) (values : Values) where
       let between = end_after_call end act (Count sent) in
       let all = sent_of_all end.log id octets ends sent may in
       let space = data_has_space end id octets ends sent waits may in
-      let grows = data_waits_more end id octets ends sent waits may (given_written role values end.log
+      let grows = data_waits_more end id octets ends sent waits may (given_within role values end.log
       is) in
       let count = count_is end id octets ends sent waits may in
       let rest = pumps_send_few between after more refused pumps
@@ -465,7 +460,7 @@ module _ (role : Role) (values : Values) where
       let act = SendFields id list true in
       let between = end_after_call end act Done in
       let all = (fields_send_none 0 end.log id list true may).0 in
-      let grows = fields_wait end.log id list true (given_written role values end.log is) in
+      let grows = fields_wait end.log id list true (given_within role values end.log is) in
       let rest = pumps_send_few between after more refused pumps (called_one is act Done typed may)
       in
       record {
