@@ -60,11 +60,14 @@ WHY = "the program asks why a connection has failed; for users that don't"
 TEXTS = "hpack reads into a text that it has, with the function that appends"
 SERVE = "the program's host has many connections; for users that serve one over a link (README)"
 HEARD = "the program asks for the parts of a response; for users whose handler hears them"
+FETCHED = "the program gathers a response itself, in a wider window; for users that fetch a location in one call"
 API = {
     "h2_receive::fetch_handler": HEARD,
     "h2_receive::hear_all": HEARD,
+    "h2_receive::receive": HEARD,
+    "h2_net::address_of": FETCHED,
+    "h2_net::fetch_location": FETCHED,
     "h2_frame::FrameRef::payload_len": "an end counts the payload of DATA alone; for users that count any frame",
-    "h2_fetch::PartFetch::new": "the program keeps a response until it is whole; for users that take it as it comes",
     "h2_engines::serve_link": WHY,
     "h2_flow::Config::with_max_frame": "a program with larger frames configures its ends so",
     "h2_flow::StreamState::closed": "an end asks for both sides at once",
@@ -98,7 +101,7 @@ API = {
     "hpack_text::read_string": TEXTS,
     "h2_message::list_asks_head": "a server that answers HEAD asks, as those of h2_uses do",
     "hpack::Encoder::encode": "an end has summed the list already",
-    "h2_net::get_location": "for programs that get a URL; h2 get makes its request by its words (fetch_location)",
+    "h2_net::get_location": "for programs that get a URL; h2 get makes its request by its words",
     "h2_net::get_over": "the same over any link",
     "h2_net::print_response": "what h2 get prints without words, for programs that get a URL",
 }
