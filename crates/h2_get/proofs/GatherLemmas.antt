@@ -75,10 +75,10 @@ module _ (before middle now : Traffic) (old self new : PartFetch) (head : Respon
   -- All of it was gathered.
   pub gathers_whole : (trailers : Option (Vec Field Global)) (fetched : Fetched)
       → fetched.head ≡ head.list → fetched.body.items ≡ body → fetched.trailers ≡ trailers
-      → GathersRest head.end middle now self new [] body (Ok trailers)
+      → fetched.interims.items ≡ [] → GathersRest head.end middle now self new [] body (Ok trailers)
       → Gathers before now old new (Ok fetched)
   unfolding HeadComesSo GatheredSo GatheredRest
-  gathers_whole trailers fetched is octets last rest values message start first coming none =
+  gathers_whole trailers fetched is octets last none_kept rest values message start first coming none =
       let so = answers values message start first coming in
       let next = rest values message start so.0 so.2.0 in
       let was : handed_on self.id first.handed ≡ [] = rw stream none in
@@ -97,6 +97,7 @@ module _ (before middle now : Traffic) (old self new : PartFetch) (head : Respon
             head = rw (is, same) so.2.2;
             whole = rw last next.2.2;
             body = octets ∙ next.2.3;
+            none = none_kept;
           },
         ),
       )

@@ -16,7 +16,7 @@ use Rattle.h2_fetch.specs.Parts.{handed_on}
 use Rattle.h2_args.specs.Words.{GetWords}
 use Rattle.h2_get.specs.Receives.{HeadCame, body_handed, fields_in_trailers}
 use Rattle.h2_get.specs.Streams.{IsWholeWith}
-use Rattle.h2_get.specs.Windows.{BeginsWithWindow, fetch_values, window_of}
+use Rattle.h2_get.specs.Windows.{BeginsWithWindow, IsNotWidened, fetch_values, window_of}
 
 -- The response is all that was handed out: a head, after interim ones that are dropped, then the
 -- octets of the body, in order, and the trailers.
@@ -29,6 +29,7 @@ pub record IsWholeResponse (id : ℕ) (handed : List Handed) (fetched : Fetched)
   pub head : HeadCame id came (record { list = fetched.head; end = end })
   pub whole : IsWholeWith id end rest (fields_in_trailers fetched.trailers)
   pub body : fetched.body.items ≡ body_handed rest
+  pub none : fetched.interims.items ≡ []
 
 -- what a fetch has come to: a whole response; or it has ended early, or there is no memory for the
 -- body
@@ -91,7 +92,7 @@ pub data GathersRequest (words : GetWords) (message : SentMessage)
     not_connected : (error : LinkError) → (error ≡ errors.Device) ⊎ (error ≡ errors.Memory)
         → GathersRequest words message (Err error)
     not_accepted : (error : LinkError)
-        → IsNotAccepted (fetch_values (window_of words)) message (Err error)
+        → IsNotAccepted (fetch_values (window_of words)) message (Err error) ⊎ IsNotWidened error
         → GathersRequest words message (Err error)
     is_gathered : (begun fetch : PartFetch) (result : Result Fetched LinkError)
         → BeginsWithWindow (window_of words) message begun → GathersOver begun fetch result

@@ -30,7 +30,7 @@ use Rattle.h2_get.specs.declared.pass_error.StreamError.TheVariants as streams
 use Rattle.h2_get.specs.Receives.{EndsBody, HasNoHead, HeadCame, body_handed, fields_in_trailers}
 use Rattle.h2_get.specs.Responses.{fails_as_asked}
 use Rattle.h2_get.specs.Streams.{ShowsFailure, ShowsSoFar, ShowsWhole}
-use Rattle.h2_get.specs.Windows.{BeginsSeveralWithWindow, several_values, window_of}
+use Rattle.h2_get.specs.Windows.{BeginsSeveralWithWindow, IsNotWidened, several_values, window_of}
 
 -- what was answered of each stream, with what was answered of one since
 abbrev pub answered_more : AnsweredOn → (id : ℕ) → (more : List OnStream) → AnsweredOn
@@ -266,6 +266,7 @@ pub data StreamsRequests (words : GetWords) (messages : List SentMessage)
       (Err (streams.Link error))
   one_refused : (error : LinkError)
       → RefusesOne (several_values (window_of words) (length messages)) messages error
+      ⊎ IsNotWidened error
       → after ≡ before → StreamsRequests words messages before after (Err (streams.Link error))
   are_streamed : (begun fetch : SeveralFetch) (results : List (Result Fetched StreamError))
       → BeginsSeveralWithWindow (window_of words) messages begun

@@ -27,7 +27,7 @@ use Rattle.h2_get.specs.declared.pass_error.StreamError.TheVariants as streams
 use Rattle.h2_get.specs.Receives.{EndsBody, HasNoHead, HeadCame, body_handed}
 use Rattle.h2_get.specs.Receives.{fields_in_trailers}
 use Rattle.h2_get.specs.Responses.{fails_as_asked, response_lines, trailers_shown}
-use Rattle.h2_get.specs.Windows.{BeginsWithWindow, fetch_values, window_of}
+use Rattle.h2_get.specs.Windows.{BeginsWithWindow, IsNotWidened, fetch_values, window_of}
 
 -- what is printed of a head: the line of its status, and its fields where they are asked for
 -- rule: engines (own) get -o and --stream write the body as it comes, in order
@@ -165,8 +165,8 @@ pub data StreamsRequest (words : GetWords) (message : SentMessage)
   not_connected : (error : LinkError) → (error ≡ errors.Device) ⊎ (error ≡ errors.Memory)
       → after ≡ before → StreamsRequest words message before after (Err (streams.Link error))
   not_accepted : (error : LinkError)
-      → IsNotAccepted (fetch_values (window_of words)) message (Err error) → after ≡ before
-      → StreamsRequest words message before after (Err (streams.Link error))
+      → IsNotAccepted (fetch_values (window_of words)) message (Err error) ⊎ IsNotWidened error
+      → after ≡ before → StreamsRequest words message before after (Err (streams.Link error))
   is_streamed : (begun fetch : PartFetch) (result : Result Fetched StreamError)
       → BeginsWithWindow (window_of words) message begun
       → StreamsOver words begun fetch before after result

@@ -1,8 +1,10 @@
 -- The windows of a fetch.
-use Rattle.std.specs.Prelude.{◌≡◌, ◌<◌, ◌≤◌, ◌-◌, ◌==◌, ◌/◌, ℕ, List, length, max, if◌then◌else◌}
-use Rattle.std.specs.Prelude.{Option, unwrap_or}
-use Rattle.h2_spec_log.specs.Acts.{Answer, Values}
+use Rattle.std.specs.Prelude.{◌≡◌, ◌⊎◌, ◌<◌, ◌≤◌, ◌-◌, ◌==◌, ◌/◌, ℕ, List, length, max}
+use Rattle.std.specs.Prelude.{if◌then◌else◌, Option, unwrap_or}
+use Rattle.h2_spec_log.specs.Acts.{Done, Values}
 use Rattle.h2_message.specs.Messages.{SentMessage}
+use Rattle.h2_link.specs.declared.error.LinkError.{LinkError}
+use Rattle.h2_link.specs.declared.error.LinkError.TheVariants as errors
 use Rattle.h2_fetch.specs.declared.fetch.PartFetch.{PartFetch}
 use Rattle.h2_fetch.specs.declared.several.SeveralFetch.{SeveralFetch}
 use Rattle.h2_fetch.specs.Comings.{BeginsFetch}
@@ -32,15 +34,21 @@ fetch_values window = record default_values { initial_window = window }
 -- rule: engines (own) get has the window of --window, for the connection and for each stream
 pub data WidensTo (window : ℕ) (old : PartFetch) : (new : PartFetch) → Type 0 where
   has_window : window ≤ 65535 → WidensTo window old old
-  asks_more : (answer : Answer) (new : PartFetch) → 65535 < window
-      → WidensFetch (window - 65535) answer old new → new.id ≡ old.id → WidensTo window old new
+  asks_more : (new : PartFetch) → 65535 < window → WidensFetch (window - 65535) Done old new
+      → new.id ≡ old.id → WidensTo window old new
 
 -- The same of a client that fetches several responses.
 -- rule: engines (own) get has the window of --window, for the connection and for each stream
 pub data WidensSeveralTo (window : ℕ) (old : SeveralFetch) : (new : SeveralFetch) → Type 0 where
   have_window : window ≤ 65535 → WidensSeveralTo window old old
-  ask_more : (answer : Answer) (new : SeveralFetch) → 65535 < window
-      → WidensSeveral (window - 65535) answer old new → WidensSeveralTo window old new
+  ask_more : (new : SeveralFetch) → 65535 < window → WidensSeveral (window - 65535) Done old new
+      → WidensSeveralTo window old new
+
+-- A fetch whose connection can't be widened is not begun: memory was refused, or so many octets of
+-- heads wait that the output is full.
+-- rule: engines (own) get has the window of --window, for the connection and for each stream
+abbrev pub IsNotWidened : LinkError → Type 0
+IsNotWidened error = (error ≡ errors.Memory) ⊎ (error ≡ errors.NoProgress)
 
 -- A new client has made its request, and nothing has come; its stream and the connection have this
 -- window.

@@ -1,12 +1,12 @@
 //! Fetches that begin with a window.
 
-ghost use Rattle.std.specs.Prelude.{◌≡◌, IfErr, IfOk, length, map};
+ghost use Rattle.std.specs.Prelude.{◌≡◌, ◌⊎◌, Err, IfErr, IfOk, OnOk, length, map};
 ghost use Rattle.h2_message.specs.Values.{message_value};
 ghost use Rattle.h2_args.specs.Words.{asked_by};
 ghost use Rattle.h2_engines.specs.Fetches.{IsNotAccepted};
 ghost use Rattle.h2_fetch.specs.Several.{RefusesOne};
 ghost use Rattle.h2_get.specs.Windows.{BeginsSeveralWithWindow, BeginsWithWindow, WidensSeveralTo};
-ghost use Rattle.h2_get.specs.Windows.{WidensTo};
+ghost use Rattle.h2_get.specs.Windows.{IsNotWidened, WidensTo};
 ghost use Rattle.h2_get.specs.Windows.{fetch_values, several_values, window_among, window_asked};
 ghost use Rattle.h2_get.specs.Windows.{window_of};
 
@@ -48,7 +48,7 @@ pub(crate) fn begin_fetch(
 ) -> Result<PartFetch, LinkError>
     ensures ok { IfOk result (BeginsWithWindow window (message_value message)) }
     ensures refused { IfErr result (λ error. IsNotAccepted (fetch_values window)
-        (message_value message) (Err error)) }
+        (message_value message) (Err error) ⊎ IsNotWidened error) }
 {
     let Ok(config) = Config::new(FIRST_TABLE, window, LEAST_MAX_STREAMS) else {
         return Err(LinkError::Memory);
@@ -59,7 +59,7 @@ pub(crate) fn begin_fetch(
     };
     match widen_fetch(&mut fetch, window) {
         Ok(()) => Ok(fetch),
-        Err(_) => Err(LinkError::Memory),
+        Err(error) => Err(error),
     }
 }
 
@@ -73,8 +73,9 @@ pub(crate) fn begin_several(
     messages: Vec<Message>,
 ) -> Result<SeveralFetch, LinkError>
     ensures ok { IfOk result (BeginsSeveralWithWindow window (map message_value messages.items)) }
-    ensures refused { IfErr result (RefusesOne (several_values window (length messages.items))
-        (map message_value messages.items)) }
+    ensures refused { IfErr result (λ error. RefusesOne
+        (several_values window (length messages.items)) (map message_value messages.items) error
+        ⊎ IsNotWidened error) }
 {
     let share = window_among(window, messages.len());
     let Ok(config) = Config::new(FIRST_TABLE, share, LEAST_MAX_STREAMS) else {
@@ -86,7 +87,7 @@ pub(crate) fn begin_several(
     };
     match widen_several(&mut fetch, window) {
         Ok(()) => Ok(fetch),
-        Err(_) => Err(LinkError::Memory),
+        Err(error) => Err(error),
     }
 }
 
@@ -104,36 +105,47 @@ fn window_among(window: u32, streams: usize) -> u32
 }
 
 /// Widens the connection to a window, which has 65,535 octets without it (RFC 9113,
-/// section 6.9.2). If its output is full, it is left as it is.
+/// section 6.9.2).
 ///
 /// # Errors
 ///
-/// [`LinkError::Memory`] if an allocation was refused.
+/// [`LinkError::Memory`] if an allocation was refused, [`LinkError::NoProgress`] if 65,536 octets
+/// of heads wait already.
 fn widen_fetch(fetch: &mut PartFetch, window: u32) -> Result<(), LinkError>
-    ensures { WidensTo window fetch.old fetch.new }
+    ensures ok { OnOk result (WidensTo window fetch.old fetch.new) }
+    ensures err { IfErr result IsNotWidened }
 {
     let count = window.saturating_sub(FIRST_WINDOW);
     if count == 0 {
         return Ok(());
     }
-    unless_memory(fetch.widen(count))
+    match fetch.widen(count) {
+        Ok(()) => Ok(()),
+        Err(refusal) => Err(error_of(refusal)),
+    }
 }
 
 /// As [`widen_fetch`], for several responses.
 fn widen_several(fetch: &mut SeveralFetch, window: u32) -> Result<(), LinkError>
-    ensures { WidensSeveralTo window fetch.old fetch.new }
+    ensures ok { OnOk result (WidensSeveralTo window fetch.old fetch.new) }
+    ensures err { IfErr result IsNotWidened }
 {
     let count = window.saturating_sub(FIRST_WINDOW);
     if count == 0 {
         return Ok(());
     }
-    unless_memory(fetch.widen(count))
+    match fetch.widen(count) {
+        Ok(()) => Ok(()),
+        Err(refusal) => Err(error_of(refusal)),
+    }
 }
 
-/// Fails if an allocation was refused. After any other refusal the window is as it was.
-fn unless_memory(widened: Result<(), Refusal>) -> Result<(), LinkError> {
-    match widened {
-        Err(Refusal::Memory) => Err(LinkError::Memory),
-        _ => Ok(()),
+/// The error of a fetch whose window cannot be widened.
+fn error_of(refusal: Refusal) -> LinkError
+    ensures { IsNotWidened result }
+{
+    match refusal {
+        Refusal::Memory => LinkError::Memory,
+        _ => LinkError::NoProgress,
     }
 }

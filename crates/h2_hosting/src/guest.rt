@@ -43,8 +43,8 @@ pub trait Widens {
     /// Whether a body is being received, of which more is to come.
     fn is_receiving(&self) -> bool;
 
-    /// Lets the peer send `count` octets more on the connection, for good. Returns whether it may
-    /// now.
+    /// Lets the peer send `count` octets more on the connection, for good. Returns false if the
+    /// call was refused.
     fn widen(&mut self, count: u32) -> bool
         ensures { widens self.old self.new };
 }

@@ -223,7 +223,7 @@ fn seat_limits(idle: u64) -> SeatLimits
 
 // contract: hosts (own) The options of a host say what is served, where, and for how long
 /// The default limits of a host, with this maximum number of connections. A connection may hold
-/// twice the window at least, so that none is ended for what it was let send.
+/// twice the window at least, so that one full window ends none.
 fn host_limits(connections: usize, window: u32) -> Limits
     ensures connections { result.connections ≡ connections }
     ensures held { window * 2 ≤ result.held }

@@ -1,9 +1,7 @@
 //! The windows of the connections of a host.
 
+use h2_frame::limits::FIRST_WINDOW;
 use std::cell::Cell;
-
-/// The window that each connection has at first (RFC 9113, section 6.9.2).
-const FIRST: u32 = 65_535;
 
 /// The window to which a host widens a connection once part of a body has arrived, and the octets
 /// that are left for widening.
@@ -22,11 +20,12 @@ impl Windows {
         }
     }
 
-    /// Takes the octets by which one connection is widened, as far as any are left.
+    /// Takes the octets by which one connection is widened: all that it lacks, or none if fewer
+    /// are left.
     pub(crate) fn take(&self) -> Widened<'_> {
         let left = self.left.get();
-        let wanted = u64::from(self.window.saturating_sub(FIRST));
-        let count = wanted.min(left);
+        let wanted = u64::from(self.window.saturating_sub(FIRST_WINDOW));
+        let count = if wanted <= left { wanted } else { 0 };
         self.left.set(left - count);
         Widened {
             windows: self,

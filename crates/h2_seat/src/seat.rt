@@ -120,7 +120,7 @@ impl<W: Drop, H: Handler<Work = W>> Seat<H, W> {
         self.go_away(Why::Asked);
     }
 
-    /// Whether it is up, and a body is being received of which more is to come.
+    /// Whether it is up, octets of bodies have come, and some request is incomplete.
     pub fn is_receiving(&self) -> bool {
         let is_up = matches!(self.phase, Phase::Up);
         is_up && self.handled.body() > 0 && self.handled.is_reading()
@@ -128,7 +128,7 @@ impl<W: Drop, H: Handler<Work = W>> Seat<H, W> {
 
     // contract: 6.9.2 (own) The window of the connection is widened by a call, for good
     /// Lets the client send `count` octets more on the connection, for good; see
-    /// [`Handled::widen`]. Returns whether it may now.
+    /// [`Handled::widen`]. Returns false if the call was refused.
     pub fn widen(&mut self, count: u32) -> bool
         ensures handles { SeatHandles (relations H.heads H.bodies H.trails H.gives H.ends) self.old
             self.new }

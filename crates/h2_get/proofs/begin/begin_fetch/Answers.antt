@@ -7,5 +7,5 @@ returns-in-Ok-widen_fetch-clause-ok c =
     record {
       begun = c.in-Ok-new.fetch;
       begins = rw (values.0, values.1, values.2, values.3) at c.in-Ok-new.ensures.ok;
-      widened = c.widen_fetch.ensures;
+      widened = c.in-Ok-widen_fetch.ensures.ok;
     }

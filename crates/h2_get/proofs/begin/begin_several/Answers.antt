@@ -1,5 +1,5 @@
 -- The fetch begins, and the connection is widened; or a request is refused.
-use Rattle.std.proofs.Common.{◌≡◌, ◌∙◌, ℕ, ap, length, map, subst, sym}
+use Rattle.std.proofs.Common.{◌≡◌, ◌∙◌, ℕ, ap, length, map, subst, sym, inl}
 use Rattle.std.proofs.lemmas.List.{length-map}
 use Rattle.h2_fetch.specs.Several.{BeginsSeveral}
 use Rattle.h2_message.specs.Values.{message_value}
@@ -13,7 +13,7 @@ returns-in-Err-clause-refused c =
     ≡ window_among c.args.window (length c.args.messages.items) =
     values.1 ∙ (c.window_among-share.ensures
     ∙ ap (λ (n : ℕ). window_among c.args.window n) (c.len.ensures ∙ c.args.messages.ok.0)) in
-    rw (values.0, share, values.2, values.3) at c.in-Err.ensures.err
+    inl (rw (values.0, share, values.2, values.3) at c.in-Err.ensures.err)
 
 pub returns-in-Ok-widen_several-clause-ok : goal.returns-in-Ok-widen_several-clause-ok
 returns-in-Ok-widen_several-clause-ok c =
@@ -29,5 +29,5 @@ returns-in-Ok-widen_several-clause-ok c =
           (map message_value c.args.messages.items) c.in-Ok-new.fetch)
           (sym (length-map c.args.messages.items message_value))
           (rw (values.0, share, values.2, values.3) at c.in-Ok-new.ensures.ok);
-      widened = c.widen_several.ensures;
+      widened = c.in-Ok-widen_several.ensures.ok;
     }

@@ -19,5 +19,5 @@ pub returns : goal.returns
 returns g c =
     gathers_whole _ _ _ c.args.fetch.now c.next_head.new.fetch c.gather_rest.new.fetch
     c.in-Ok.head c.in-Ok.ensures.stream c.in_ok-trailers.ensures.stream c.in-Ok.ensures.head _
-    c.in_ok-trailers.trailers _ refl refl refl
+    c.in_ok-trailers.trailers _ refl refl refl c.new.ensures.items
     (rw c.new-body.ensures.items at c.in_ok-trailers.ensures.rest)

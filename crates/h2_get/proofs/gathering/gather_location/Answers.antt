@@ -1,9 +1,9 @@
 -- No connection was made, the request was not accepted, or the response was gathered.
-use Rattle.std.proofs.Common.{ℕ, Err, subst}
+use Rattle.std.proofs.Common.{◌⊎◌, ℕ, Err, subst}
 use Rattle.h2_engines.specs.Fetches.{IsNotAccepted}
 use Rattle.h2_message.specs.Values.{message_value}
 use Rattle.h2_get.specs.Gathers.{is_gathered, not_accepted, not_connected}
-use Rattle.h2_get.specs.Windows.{fetch_values}
+use Rattle.h2_get.specs.Windows.{IsNotWidened, fetch_values}
 use Rattle.h2_get.proofs.gathering.gather_location.Goals as goal
 
 pub returns-in-Err : goal.returns-in-Err
@@ -13,7 +13,7 @@ pub returns-in-Err-begin_fetch : goal.returns-in-Err-begin_fetch
 returns-in-Err-begin_fetch g c =
     rw c.from.ensures (not_accepted c.in-Err-begin_fetch.error
     (subst (λ (window : ℕ). IsNotAccepted (fetch_values window) (message_value c.args.message)
-    (Err c.in-Err-begin_fetch.error)) c.window_of.ensures c.in-Err-begin_fetch.ensures.refused))
+    (Err c.in-Err-begin_fetch.error) ⊎ IsNotWidened c.in-Err-begin_fetch.error) c.window_of.ensures c.in-Err-begin_fetch.ensures.refused))
 
 pub returns : goal.returns
 returns g c =

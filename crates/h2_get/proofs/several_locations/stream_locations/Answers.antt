@@ -1,11 +1,11 @@
 -- No connection was made, a request was not accepted, or the responses were printed as they came.
-use Rattle.std.proofs.Common.{◌≡◌, ℕ, map, refl, subst, sym}
+use Rattle.std.proofs.Common.{◌⊎◌, ℕ, map, refl, subst, sym}
 use Rattle.std.proofs.lemmas.List.{length-map}
 use Rattle.h2_message.specs.Values.{message_value}
 use Rattle.h2_fetch.specs.Several.{RefusesOne}
 use Rattle.h2_get.specs.Several.{are_streamed, none_connected, one_refused, results_lost}
 use Rattle.h2_args.specs.Words.{asked_by}
-use Rattle.h2_get.specs.Windows.{several_values, window_of}
+use Rattle.h2_get.specs.Windows.{IsNotWidened, several_values, window_of}
 use Rattle.h2_get.proofs.several_locations.stream_locations.Goals as goal
 
 pub returns-in-Err : goal.returns-in-Err
@@ -18,7 +18,7 @@ returns-in-Err-begin_several g c =
     let error = c.in-Err-begin_several.error in
     let window = window_of (asked_by c.args.options.now) in
     rw c.of_error.ensures.error (one_refused error
-    (subst (λ (n : ℕ). RefusesOne (several_values window n) messages error)
+    (subst (λ (n : ℕ). RefusesOne (several_values window n) messages error ⊎ IsNotWidened error)
     (sym (length-map c.args.messages.items message_value))
     (rw c.window_of.ensures at c.in-Err-begin_several.ensures.refused)) refl)
 
