@@ -121,7 +121,11 @@ fn widened(alloc: Global, window: u32, most: u64) -> Result<[u32; 3], Fail> {
     drop(one);
     let mut last = guest_of(alloc, &leaving, &receives, third, &windows)?;
     last.step(Own::Came, b"x", &mut []);
-    Ok([first.get() + before, second.get(), third.get()])
+    Ok([
+        first.get().saturating_add(before),
+        second.get(),
+        third.get(),
+    ])
 }
 
 // rule: hosts (own) A connection is widened once, as a body comes, by what is left
