@@ -179,8 +179,8 @@ as with --stream";
 const GET_WINDOW: &str = "window";
 
 const GET_WINDOW_HELP: &str = r"Octets of bodies that may be sent before they are
-read, of all responses together; k and m multiply by
-1024 and 1048576 [default: 4m]";
+read, of all responses together; k and m multiply
+by 1024 and 1048576 [default: 4m]";
 
 /// What `get` prints, how it ends, and an example.
 const FETCHED_AND_STATUSES: &str =
