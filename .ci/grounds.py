@@ -55,6 +55,16 @@ class Scope:
             self.traits.setdefault(name, []).append(part)
 
 
+# The text that an error prints: no contract has it but by a definition that repeats it.
+ERROR_TEXT = re.compile(r"#\[error\([^\n]*\)\]")
+
+
+def said(name, known):
+    """Returns what a name stands for: of an item its module, since its text is summed beside it, wherever it stands in
+    its file."""
+    return f"{name} = {' '.join(map(str, known[:2] if known[0] == ITEM else known))}"
+
+
 class Grounds:
     """The sums of the edits of a tree. A node is an item of specs/ or proofs/, all of a file of these, what a part of
     src/ promises, or a function with its body."""
@@ -210,7 +220,7 @@ class Grounds:
             nodes += self.proofs_of(node[1]) if node[0] == "body" else []
         for name, those in found.items():
             for known in those:
-                told.add(f"{name} = {' '.join(map(str, known))}")
+                told.add(said(name, known))
                 nodes += self.node_of(known)
         return "\n".join([text, *sorted(told)]), nodes
 
@@ -218,7 +228,7 @@ class Grounds:
         """Returns the text of a part of the code that counts: its promise, or all of a function and what is around."""
         if how == "promise":
             place = f"{part.file.crate} {part.file.file} {part.key or part.name}"
-            return "\n".join([place, part.head if part.kind == "fn" else "", part.promise])
+            return "\n".join([place, part.head if part.kind == "fn" else "", ERROR_TEXT.sub("", part.promise)])
         crate, names = part.file.crate, part.file.module.split("::")[1:]
         mods = [it.text for name in names for it in self.by_name.get((crate, name), ()) if it.kind == "mod"]
         roots = [it.attributes for it in self.code.files[crate] if it.module == crate]
@@ -385,7 +395,7 @@ class Grounds:
         for file, _, new in pairs:
             more, paths = self.parts_in(new, files[file])
             found = self.antt_in(new, files[file], {})
-            told |= paths | {f"{name} = {' '.join(map(str, it))}" for name, those in found.items() for it in those}
+            told |= paths | {said(name, it) for name, those in found.items() for it in those}
             nodes += more + [node for those in found.values() for it in those for node in self.node_of(it)]
             words |= set(ground_code.NAME.findall(new))
         return nodes, words, told

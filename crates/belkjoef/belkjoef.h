@@ -132,8 +132,8 @@ BJ_CALL void bj_error_text(int error, const char **text);
 /* Settings of this endpoint (RFC 9113, section 6.5.2). */
 typedef struct bj_config {
   uint32_t table_limit;    /* HEADER_TABLE_SIZE: 0 to 65,536 */
-  uint32_t initial_window; /* INITIAL_WINDOW_SIZE: 1 to 2^31 - 1; above 65,535 of no use without
-                            * bj_widen */
+  uint32_t initial_window; /* INITIAL_WINDOW_SIZE: 1 to 2^31 - 1; above 65,535 used only as far as
+                            * bj_widen has widened the connection's window */
   uint32_t max_streams;    /* MAX_CONCURRENT_STREAMS, of a server: 100 to 1,000 */
   uint32_t max_frame;      /* MAX_FRAME_SIZE: 16,384 to 1,048,576 */
 } bj_config;

@@ -197,9 +197,10 @@ The responses are printed in the order of the URLs, with a newline between them.
 The current one is printed as it arrives, as with --stream; what arrives of
 later ones in the meantime is kept. That is at most the size of --window: each
 of N responses has a window of that size divided by N, which opens again only
-for the current one. A response that is reset, or fails by --fail, does not end
-the others, and a hint names its URL; the exit status is that of the first
-failure. At most 100 URLs are accepted, all of the same host and port.
+for the current one, so a long body takes N times the round trips. A response
+that is reset, or fails by --fail, does not end the others, and a hint names its
+URL; the exit status is that of the first failure. At most 100 URLs are
+accepted, all of the same host and port.
 
 The server may send as many octets of bodies as --window says before they are
 read: so a window divided by the round-trip time is the most that arrives per
@@ -246,7 +247,8 @@ Exit status (lines in backquotes go to standard error):
      of the files of --data and --output, which a hint names), or the time is
      over (`hint: timed out`)
      `N5 NoProgress`: a write accepted no octets, or the preface, SETTINGS and
-     the heads of all URLs but the last are 65536 octets or more
+     the heads of all URLs (of all but the last if --window is at most 65535)
+     are 65536 octets or more
   4  `N3 Memory`: out of memory
 
 A hint may follow that line. It is meant for people; the exit status does not

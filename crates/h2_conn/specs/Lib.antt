@@ -3,5 +3,6 @@ pub mod Counts
 pub mod Events
 pub mod Inner
 pub mod Loans
+pub mod PeerRoom
 pub mod Seen
 pub mod Why

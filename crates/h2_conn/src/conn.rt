@@ -85,9 +85,9 @@ impl Conn {
     /// # Errors
     ///
     /// [`ConnFault`] where the connection fails, and at every call from then on. INTERNAL_ERROR
-    /// (2) is not the peer's fault: unless the caller gave that code, an allocation was
-    /// refused: to keep a frame that is cut in two, to process a frame, to return credit, or to
-    /// reset a stream by [`Conn::refuse`].
+    /// (2) is not the peer's fault: the caller gave that code to [`Conn::fail`], or an allocation
+    /// was refused, to keep a frame that is cut in two, to process a frame, to return credit, or
+    /// to reset a stream by [`Conn::refuse`].
     pub fn advance(&mut self, piece: &[u8]) -> Result<Progress, ConnFault>
         ensures used { IfOk result (λ progress. progress.used ≤ length piece.now) }
         ensures lies { LiesThere self.new.inner.cutter piece.now (code_result result) }
@@ -158,9 +158,9 @@ impl Conn {
     /// # Errors
     ///
     /// [`ConnFault`] where the connection fails, and at every call from then on. INTERNAL_ERROR
-    /// (2) is not the peer's fault: unless the caller gave that code, an allocation was
-    /// refused: to keep a frame that is cut in two, to process a frame, to return credit, or to
-    /// reset a stream by [`Conn::refuse`].
+    /// (2) is not the peer's fault: the caller gave that code to [`Conn::fail`], or an allocation
+    /// was refused, to keep a frame that is cut in two, to process a frame, to return credit, or
+    /// to reset a stream by [`Conn::refuse`].
     pub fn take<'a>(&'a mut self, piece: &'a [u8]) -> Result<Taken<'a>, ConnFault>
         ensures used { IfOk result (λ taken. taken.used ≤ length piece.now) }
 

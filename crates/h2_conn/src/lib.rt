@@ -12,6 +12,7 @@ mod counts;
 mod inner;
 mod output;
 mod peer;
+mod peer_room;
 mod readers;
 mod taken;
 mod taking;

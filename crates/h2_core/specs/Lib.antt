@@ -7,6 +7,7 @@ pub mod Frames
 pub mod Resets
 pub mod Blocks
 pub mod Calls
+pub mod PeerRoom
 pub mod Readers
 pub mod Settings
 pub mod Statuses

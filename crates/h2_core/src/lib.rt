@@ -13,6 +13,7 @@ mod failing;
 mod frames;
 mod new;
 mod output;
+mod peer_room;
 mod readers;
 mod receive;
 mod receive_block;

@@ -21,10 +21,10 @@ pub(crate) struct Body {
 /// How the octets are kept.
 #[derive(Debug, Drop)]
 pub(crate) enum Kept {
-    /// Fewer than 4,096 octets, or more if memory to share them was refused: copied into the
-    /// output when sent.
+    /// Octets that are copied into the output when they are sent: fewer than 4,096, or any number
+    /// for which memory to share them was refused.
     Own(Vec<u8>),
-    /// 4,096 octets or more: lent to the output.
+    /// 4,096 octets or more, which the output borrows when they are sent.
     Shared(Bytes<Global>),
 }
 

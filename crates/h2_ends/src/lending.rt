@@ -36,7 +36,7 @@ impl Client {
     /// # Errors
     ///
     /// [`ConnFault`] where the connection fails, and at every call from then on; with
-    /// INTERNAL_ERROR where an allocation was refused.
+    /// INTERNAL_ERROR where an allocation was refused, or that code was given to `fail`.
     pub fn take<'a>(&'a mut self, piece: &'a [u8]) -> Result<EndTaken<'a>, ConnFault>
         ensures used { IfOk result (λ taken. taken.used ≤ length piece.now) }
         ensures* after { sem 𝓛 (Rests client_row self.entry
@@ -71,7 +71,7 @@ impl Server {
     /// # Errors
     ///
     /// [`ConnFault`] where the connection fails, and at every call from then on; with
-    /// INTERNAL_ERROR where an allocation was refused.
+    /// INTERNAL_ERROR where an allocation was refused, or that code was given to `fail`.
     pub fn take<'a>(&'a mut self, piece: &'a [u8]) -> Result<EndTaken<'a>, ConnFault>
         ensures used { IfOk result (λ taken. taken.used ≤ length piece.now) }
         ensures* after { sem 𝓛 (Rests server_row self.entry

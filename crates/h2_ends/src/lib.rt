@@ -14,8 +14,7 @@
 //! - `pump`, `put_out` and a write, repeated until `put_out` returns 0, since `pump` stops once
 //!   65,536 octets of output wait.
 //!
-//! Make a call that was refused with [`Refusal::OutputFull`] (C7) again once output was
-//! written.
+//! Repeat a call that was refused with [`Refusal::OutputFull`] (C7) once output was written.
 #![tactic(auto)]
 
 mod body;

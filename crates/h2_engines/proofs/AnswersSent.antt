@@ -16,7 +16,6 @@ use Names.{ends_no_frame, ends_frame, Failed, meets_fault, TakeAnswer, Took, rep
 use Rattle.h2_laws_pair.proofs.HeardMessages.{unended}
 use Rattle.h2_ends.specs.EndTakes.{refusal_fails, runs_out_of_memory, hands_nothing, passes}
 use Rattle.h2_ends.specs.EndTakes.{hands_out, end_with_handed, fails, refuses}
-use Rattle.h2_spec_log.specs.Acts.{Widen}
 use Rattle.h2_laws_end.specs.Takes.{events_answered, has_failed, runs_out_of_memory as lacks_memory}
 use Rattle.h2_laws_pair.proofs.Lists.{first_or_later, none_in}
 use Rattle.h2_laws_pair.proofs.NamedUnprocessed.{log_named}
@@ -154,11 +153,6 @@ reset_drops end id answer large dropped =
 put_drops : (end : EndLog) (count : ℕ) (answer : Answer) → AreDropped end
     → AreDropped (end_with_log end (with_call end.log (PutOut count) answer))
 put_drops end count answer dropped =
-    call_drops _ _ _ answer (λ i code. (λ same. cc, λ same. cc)) refl refl dropped
-
-widen_drops : (end : EndLog) (count : ℕ) (answer : Answer) → AreDropped end
-    → AreDropped (end_with_log end (with_call end.log (Widen count) answer))
-widen_drops end count answer dropped =
     call_drops _ _ _ answer (λ i code. (λ same. cc, λ same. cc)) refl refl dropped
 
 -- and octets that are taken: the connection was up,
@@ -341,9 +335,6 @@ dropped_by (server.pumps {end = before} {after = after} was result may) up =
 dropped_by (server.gives_out {end = before} was count said typed may) up =
     put_drops before count said
     (dropped_by was ((grows_call before.log (PutOut count) said).up up))
-dropped_by (server.widens {end = before} was count said typed may) up =
-    widen_drops before count said
-    (dropped_by was ((grows_call before.log (Widen count) said).up up))
 
 -- A stream on which an answer waits is active, or was reset.
 nothing_said : (tokens : List Token) (token : Token) (others : List Token)

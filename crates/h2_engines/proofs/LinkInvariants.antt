@@ -178,12 +178,11 @@ module _ (P : EndLog → Type 0) (keep : AllKeep P) (take : TakesKeep P) {values
       pumped_keeps P (quietly P keep) before result after may (holds_responding answer new was)
   holds_responding answer new (server.gives_out {end = before} was count said typed may) =
       keep before _ _ (holds_responding answer new was)
-  holds_responding answer new (server.widens {end = before} was count said typed may) =
-      keep before _ _ (holds_responding answer new was)
 
   -- and so it is with a client.
   holds_fetching : RequestsKeep P → P (new_end_log Client values)
-      → {message : SentMessage} {end : EndLog} → IsFetching values message end → P end
+      → {message : SentMessage} {wide : ℕ} {end : EndLog} → IsFetching values message wide end
+      → P end
   holds_fetching request new (client.begins range) = new
   holds_fetching request new {message} {end} (client.requests range result may) =
       requested_keeps P (quietly P keep) request (new_end_log Client values) message result end may
@@ -234,8 +233,8 @@ kept_role {values} responding =
     (λ before id message done after may was. responded_role before id message done after may ∙ was)
     (new_server values) responding
 
-pub fetching_role : {values : Values} {message : SentMessage} {end : EndLog}
-    → IsFetching values message end → end.log.role ≡ Client
+pub fetching_role : {values : Values} {message : SentMessage} {wide : ℕ} {end : EndLog}
+    → IsFetching values message wide end → end.log.role ≡ Client
 fetching_role {values} fetching =
     holds_fetching (λ one. one.log.role ≡ Client)
     (λ one act answer was. role_by_call one.log act answer ∙ was)

@@ -114,7 +114,7 @@ pub record EndsAtOnce (values : Values) (message : SentMessage) (start now : Tra
 pub record Fetches (values : Values) (message : SentMessage) (start now : Traffic)
     (result : Result Fetched LinkError) : Type 0 where
   pub end : EndLog
-  pub fetching : IsFetching values message end
+  pub fetching : IsFetching values message 0 end
   pub linked : IsLinkedInPart start now end.log
   pub so : EndsFetch start now message end result ⊎ EndsAtOnce values message start now end result
 

@@ -57,7 +57,7 @@ pub record Course : Type 0 where
 -- What may have happened at the end of a machine.
 abbrev pub Happens : Course → MessageState → EndLog → Type 0
 Happens course (Serving requests answered) end = IsResponding course.values end
-Happens course (Fetching id coming whole) end = IsFetching course.values course.message end
+Happens course (Fetching id coming whole) end = IsFetching course.values course.message 0 end
 
 -- What a machine keeps of what has happened while the connection is up, by what is to be done.
 unfoldable pub Keeps : SentMessage → MessageState → EndLog → Next → Type 0

@@ -4,7 +4,7 @@ use Rattle.std.specs.Prelude.{Result}
 use Rattle.std.specs.List.{Contains}
 use Rattle.h2_spec_log.specs.declared.role.Role.TheVariants.{Server}
 use Rattle.h2_spec_log.specs.Acts.{Values, AreInRange, Answer, IsTypedAct, ResetStream, PutOut}
-use Rattle.h2_spec_log.specs.Acts.{Widen, Done}
+use Rattle.h2_spec_log.specs.Acts.{Done}
 use Rattle.h2_spec_log.specs.Events.{ResetEvent}
 use Rattle.h2_spec_log.specs.LogCalls.{MayAnswer, with_call}
 use Rattle.h2_message.specs.Messages.{SentMessage}
@@ -23,7 +23,7 @@ calm = 11
 
 -- What has happened at a server since it was new: it took octets; it answered requests that were
 -- whole with what they asked, and reset streams whose request was too large; it released, pumped
--- and gave out, and widened the window of the connection.
+-- and gave out.
 -- rule: engines (own) A request that is whole is answered once, by method, path and body
 pub data IsResponding (values : Values) : EndLog → Type 0 where
   begins : AreInRange values → IsResponding values (new_end_log Server values)
@@ -46,9 +46,6 @@ pub data IsResponding (values : Values) : EndLog → Type 0 where
   gives_out : {end : EndLog} → IsResponding values end → (count : ℕ) (answer : Answer)
       → IsTypedAct (PutOut count) → MayAnswer end.log (PutOut count) answer
       → IsResponding values (end_with_log end (with_call end.log (PutOut count) answer))
-  widens : {end : EndLog} → IsResponding values end → (count : ℕ) (answer : Answer)
-      → IsTypedAct (Widen count) → MayAnswer end.log (Widen count) answer
-      → IsResponding values (end_with_log end (with_call end.log (Widen count) answer))
 
 -- The stream was reset, by either end, and that was handed out.
 abbrev pub WasReportedReset : EndLog → ℕ → Type 0

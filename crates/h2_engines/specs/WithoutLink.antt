@@ -162,7 +162,7 @@ ServerTakesIn old new piece result =
 -- accepted for its stream, and of the response, which isn't whole, it keeps what has come.
 pub record IsFetchingAlone (values : Values) (message : SentMessage) (fetcher : Fetcher)
     (end : EndLog) : Type 0 where
-  pub fetching : IsFetching values message end
+  pub fetching : IsFetching values message 0 end
   pub represents : EndRepresents values fetcher.client.end end
   pub accepted : said_for fetcher.id end.accepted ≡ Some (at_once message)
   pub up : end.log.failed ≡ None
@@ -172,7 +172,7 @@ pub record IsFetchingAlone (values : Values) (message : SentMessage) (fetcher : 
 -- The response is whole, and that is noted.
 pub record IsFetchedAlone (values : Values) (message : SentMessage) (fetcher : Fetcher)
     (end : EndLog) : Type 0 where
-  pub fetching : IsFetching values message end
+  pub fetching : IsFetching values message 0 end
   pub represents : EndRepresents values fetcher.client.end end
   pub accepted : said_for fetcher.id end.accepted ≡ Some (at_once message)
   pub response : IsWhole fetcher.coming (parts_on fetcher.id end.handed)
@@ -182,7 +182,7 @@ pub record IsFetchedAlone (values : Values) (message : SentMessage) (fetcher : F
 pub record ClientPutOut (values : Values) (message : SentMessage) (old new : Fetcher)
     (end : EndLog) (count : ℕ) (before now : List ℕ) (result : Result ℕ LinkError) : Type 0 where
   pub after : EndLog
-  pub fetching : IsFetching values message after
+  pub fetching : IsFetching values message 0 after
   pub represents : EndRepresents values new.client.end after
   pub same : IsSameOfMessages end after
   pub so : PutOutSo end after count before now result
@@ -194,7 +194,7 @@ abbrev pub ClientPutsOut : (old new : Fetcher) → ℕ → (before now : List �
     → Type 0
 ClientPutsOut old new count before now result =
     (values : Values) (message : SentMessage) (end : EndLog)
-    → EndRepresents values old.client.end end → IsFetching values message end
+    → EndRepresents values old.client.end end → IsFetching values message 0 end
     → ClientPutOut values message old new end count before now result
 
 -- Why a fetch stops: the connection has failed with this code; the stream was dropped; memory was
@@ -215,7 +215,7 @@ FetchesInSo values message fetcher end piece after (Ok true) =
     IsFetchedAlone values message fetcher after
     × ((unused : List ℕ) × UsesPiece end.log after.log piece unused)
 FetchesInSo values message fetcher end piece after (Err error) =
-    IsFetching values message after × EndRepresents values fetcher.client.end after
+    IsFetching values message 0 after × EndRepresents values fetcher.client.end after
     × (said_for fetcher.id after.accepted ≡ Some (at_once message))
     × ((unused : List ℕ) × UsesPiece end.log after.log piece unused)
     × StopsFetchAlone after fetcher.id error

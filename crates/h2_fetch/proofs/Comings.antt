@@ -27,38 +27,38 @@ use Rattle.h2_link.specs.declared.error.LinkError.TheVariants as errors
 
 -- Whatever had happened at first, the client fetches still, each round was a turn at least, and no
 -- part of the response was handed out.
-pub record IsGoing (values : Values) (message : SentMessage) (start now : Traffic)
+pub record IsGoing (values : Values) (message : SentMessage) (wide : ℕ) (start now : Traffic)
     (fetch : PartFetch) (before : EndLog) (rounds : ℕ) : Type 0 where
   pub after : EndLog
-  pub coming : IsComing values message start now fetch after
+  pub coming : IsComing values message wide start now fetch after
   pub turns : rounds + length before.log.turns ≤ length after.log.turns
   pub none : handed_on fetch.id after.handed ≡ handed_on fetch.id before.handed
 
-pub going_first : {values : Values} {message : SentMessage} {start now : Traffic}
-    {fetch : PartFetch} {end : EndLog} → IsComing values message start now fetch end
-    → IsGoing values message start now fetch end 0
+pub going_first : {values : Values} {message : SentMessage} {wide : ℕ} {start now : Traffic}
+    {fetch : PartFetch} {end : EndLog} → IsComing values message wide start now fetch end
+    → IsGoing values message wide start now fetch end 0
 going_first {end = end} is =
     record { after = end; coming = is; turns = omega arith; none = refl }
 
 -- In a call of `take_next` nothing goes over the link.
 abbrev pub TakesOn : (old new : PartFetch) → (rounds : ℕ) → Type 0
 TakesOn old new rounds =
-    (values : Values) (message : SentMessage) (start now : Traffic) (end : EndLog)
-    → IsComing values message start now old end
-    → IsGoing values message start now new end rounds
+    (values : Values) (message : SentMessage) (wide : ℕ) (start now : Traffic) (end : EndLog)
+    → IsComing values message wide start now old end
+    → IsGoing values message wide start now new end rounds
 
 -- In one of `next` something does.
 abbrev pub NextOn : (before now : Traffic) → (old new : PartFetch) → (rounds : ℕ) → Type 0
 NextOn before now old new rounds =
-    (values : Values) (message : SentMessage) (start : Traffic) (end : EndLog)
-    → IsComing values message start before old end
-    → IsGoing values message start now new end rounds
+    (values : Values) (message : SentMessage) (wide : ℕ) (start : Traffic) (end : EndLog)
+    → IsComing values message wide start before old end
+    → IsGoing values message wide start now new end rounds
 
 -- The client has taken octets of those that it keeps, and this was answered.
-record HasTaken (values : Values) (message : SentMessage) (start now : Traffic)
+record HasTaken (values : Values) (message : SentMessage) (wide : ℕ) (start now : Traffic)
     (fetch : PartFetch) (before : EndLog) (part : Option ResponsePart) : Type 0 where
   after : EndLog
-  coming : IsComing values message start now fetch after
+  coming : IsComing values message wide start now fetch after
   turns : length before.log.turns < length after.log.turns
   handed : handed_on fetch.id after.handed
       ≡ handed_on fetch.id before.handed ++ answered fetch.id part
@@ -71,13 +71,14 @@ takes_rest : (old new : End) (id : ℕ) (piece : List ℕ) (used : ℕ)
 takes_rest old new id piece used result part =
     subst (λ (octets : List ℕ). TakesPartOnce old new id octets result) (take_rest piece used) part
 
-module _ {values : Values} {message : SentMessage} {start now : Traffic} {old : PartFetch}
-    (new : PartFetch) {end : EndLog} (is : IsComing values message start now old end)
+module _ {values : Values} {message : SentMessage} {wide : ℕ} {start now : Traffic}
+    {old : PartFetch} (new : PartFetch) {end : EndLog}
+    (is : IsComing values message wide start now old end)
     (stream : new.id ≡ old.id) where
   -- So it is after a call of `take` of the client.
   taken_on : (taken : PartTaken) → new.input ≡ old.input → new.used ≡ old.used + taken.used
       → TakesPartOnce old.client.end new.client.end old.id (octets_unused old) (Ok taken)
-      → HasTaken values message start now new end (part_in taken.next)
+      → HasTaken values message wide start now new end (part_in taken.next)
   unfolding TakesSo
   taken_on taken same used part =
       let (after, represents, so) = part values end is.represents in
@@ -148,14 +149,15 @@ why_last id {end} (EndTook count (Some one)) error may (inr (inr left)) =
           (inr (refl, rw last (first_in _ end.handed))) refl;
     }
 
-module _ {values : Values} {message : SentMessage} {start now : Traffic} {old : PartFetch}
-    (new : PartFetch) {end : EndLog} (is : IsComing values message start now old end)
+module _ {values : Values} {message : SentMessage} {wide : ℕ} {start now : Traffic}
+    {old : PartFetch} (new : PartFetch) {end : EndLog}
+    (is : IsComing values message wide start now old end)
     (stream : new.id ≡ old.id) where
   -- So a client has taken its last octets.
   taken_last : (error : LinkError)
       → TakesPartOnce old.client.end new.client.end old.id (octets_unused old) (Err error)
       → (after : EndLog) × (length end.log.turns ≤ length after.log.turns)
-      × HasTakenLast values message start now new end after error
+      × HasTakenLast values message wide start now new end after error
   unfolding TakesSo
   taken_last error part =
       let (after, represents, so) = part values end is.represents in
@@ -184,9 +186,9 @@ pub next_taken : (old middle new : PartFetch) (rounds : ℕ) (taken : PartTaken)
     → TakesPartOnce middle.client.end new.client.end middle.id
     (take (length middle.input.items - middle.used) (octets_unused middle)) (Ok taken)
     → TakesOn old new (rounds + 1)
-next_taken old middle new rounds taken on same stream input used none part values message start now
-    end is =
-    let go = on values message start now end is in
+next_taken old middle new rounds taken on same stream input used none part values message wide start
+    now end is =
+    let go = on values message wide start now end is in
     let so = taken_on new go.coming stream taken input used
     (takes_rest _ _ _ middle.input.items middle.used (Ok taken) part) in
     record {
@@ -201,18 +203,18 @@ next_taken old middle new rounds taken on same stream input used none part value
     }
 
 -- a part was,
-took_so : (part : Option ResponsePart) (values : Values) (message : SentMessage)
+took_so : (part : Option ResponsePart) (values : Values) (message : SentMessage) (wide : ℕ)
     (start now : Traffic) (fetch : PartFetch) (before after : EndLog)
-    → IsComing values message start now fetch after
+    → IsComing values message wide start now fetch after
     → handed_on fetch.id after.handed
     ≡ handed_on fetch.id before.handed ++ answered fetch.id part
     → (part ≡ None → octets_unused fetch ≡ [])
     → length before.log.turns < length after.log.turns
-    → TookSo values message start now fetch before after (Ok part)
+    → TookSo values message wide start now fetch before after (Ok part)
 unfolding TookSo
-took_so None values message start now fetch before after coming handed all turns =
+took_so None values message wide start now fetch before after coming handed all turns =
     (coming, handed ∙ append-nil (handed_on fetch.id before.handed), all refl)
-took_so (Some part) values message start now fetch before after coming handed all turns =
+took_so (Some part) values message wide start now fetch before after coming handed all turns =
     (coming, handed, turns)
 
 pub next_answered : (old middle new : PartFetch) (rounds : ℕ) (taken : PartTaken)
@@ -225,8 +227,8 @@ pub next_answered : (old middle new : PartFetch) (rounds : ℕ) (taken : PartTak
     → TakesUntilPart old new (Ok answer)
 unfolding TakesSo
 next_answered old middle new rounds taken answer is_answer on same stream input used all part values
-    message start now end is =
-    let go = on values message start now end is in
+    message wide start now end is =
+    let go = on values message wide start now end is in
     let rest = takes_rest _ _ _ middle.input.items middle.used (Ok taken) part in
     let so = taken_on new go.coming stream taken input used rest in
     let done = (rest values go.after go.coming.represents).2.3 in
@@ -238,7 +240,7 @@ next_answered old middle new rounds taken answer is_answer on same stream input 
     ∙ ap (λ input. drop new.used input.items) (sym input) in (
       so.after,
       omega (arith, go.turns, so.turns),
-      took_so answer values message start now new end so.after so.coming
+      took_so answer values message wide start now new end so.after so.coming
           (so.handed ∙ ap (λ (handed : List Handed). handed ++ answered new.id
           (part_in taken.next)) before ∙ ap (λ (one : Option ResponsePart).
           handed_on new.id end.handed ++ answered new.id one) is_answer)
@@ -254,8 +256,8 @@ pub next_last : (old middle new : PartFetch) (rounds : ℕ) (error : LinkError)
     (take (length middle.input.items - middle.used) (octets_unused middle)) (Err error)
     → TakesUntilPart old new (Err error)
 unfolding TookSo
-next_last old middle new rounds error on same stream part values message start now end is =
-    let go = on values message start now end is in
+next_last old middle new rounds error on same stream part values message wide start now end is =
+    let go = on values message wide start now end is in
     let so = taken_last new go.coming stream error
     (takes_rest _ _ _ middle.input.items middle.used (Err error) part) in
     let last = so.2 in (
@@ -279,8 +281,8 @@ next_last old middle new rounds error on same stream part values message start n
 pub next_out : (old new : PartFetch) (rounds : ℕ) → 2 ^ 64 - 1 ≤ rounds → TakesOn old new rounds
     → TakesUntilPart old new (Err errors.NoProgress)
 unfolding TookSo
-next_out old new rounds all on values message start now end is =
-    let go = on values message start now end is in (
+next_out old new rounds all on values message wide start now end is =
+    let go = on values message wide start now end is in (
       go.after,
       omega (arith, go.turns),
       record {

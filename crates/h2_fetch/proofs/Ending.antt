@@ -143,9 +143,9 @@ part_so start now {after = after} id {result = result} why (ends_failed down sto
 pub part_ends : (before now : Traffic) (old new : PartFetch) (error result : LinkError)
     → new.id ≡ old.id → EndsOver before now old.client.end new.client.end error result
     → EndsSo before now old new error result
-part_ends before now old new error result stream ends values message start first end last =
-    let ended = ends values (AsksOne message) start end last.unused last.represents last.fetching
-    last.linked (why_failed last.why) in (
+part_ends before now old new error result stream ends values message wide start first end last =
+    let ended = ends values (AsksOne message wide) start end last.unused last.represents
+    last.fetching last.linked (why_failed last.why) in (
       ended.after,
       record {
         fetching = ended.asks;

@@ -1,4 +1,5 @@
 mod Beginning
+mod ChosenCredit
 mod Comings
 mod Ending
 mod KeptParts

@@ -27,6 +27,7 @@ read_unsent credit before now old new octets error writing sends values asking s
     let sent = sends values asking start end [] is was allows linked up in
     record {
       after = sent.after;
+      returned = sent.returned;
       asks = sent.asks;
       represents = sent.represents;
       same = sent.same;
@@ -64,6 +65,7 @@ module _ (credit : Credit) (before middle now : Traffic) (old new : End) (done :
       let went = written_links [] sent.given sent.taken in
       record {
         after = sent.after;
+        returned = sent.returned;
         asks = sent.asks;
         represents = sent.represents;
         same = sent.same;
@@ -88,6 +90,7 @@ module _ (credit : Credit) (before middle now : Traffic) (old new : End) (done :
         let still = sent.same.failed ∙ up in
         record {
           after = sent.after;
+          returned = sent.returned;
           asks = sent.asks;
           represents = sent.represents;
           same = sent.same;
@@ -113,6 +116,7 @@ module _ (credit : Credit) (before middle now : Traffic) (old new : End) (done :
         let went = written_links [] sent.given sent.taken in
         record {
           after = sent.after;
+          returned = sent.returned;
           asks = sent.asks;
           represents = sent.represents;
           same = sent.same;

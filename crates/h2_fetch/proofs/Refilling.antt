@@ -3,17 +3,20 @@
 use Rattle.h2_engines.proofs.Names
 use Names.{◌≡◌, ℕ, ◌+◌, ◌-◌, ◌^◌, ◌≤◌, List, [], ◌++◌, ◌∷◌, Some, None, Ok, Err, refl, sym, ap}
 use Names.{◌∙◌, subst, inr, arith, append-nil, EndLog, Handed, Result, Values, SentMessage}
-use Names.{LinkError, Traffic, said_for, IsLinked}
+use Names.{LinkError, Traffic, said_for, IsLinked, length}
 use Rattle.h2_engines.proofs.MachineViews.{all_in_part}
 use Rattle.h2_fetch.specs.Comings.{AnswersNext, ComesSo, EndsSo, IsComing, Refills, RefilledSo}
 use Rattle.h2_fetch.specs.Comings.{StopsFor, TakesUntilPart, TookSo}
 use Rattle.h2_fetch.specs.Parts.{handed_of, handed_on}
 use Rattle.h2_fetch.specs.Reads.{ReadOver, ReadSo, ReadsOver}
-use Rattle.h2_fetch.specs.Sends.{AsksOne}
+use Rattle.h2_fetch.specs.Credits.{credit_before}
+use Rattle.h2_fetch.specs.Sends.{AsksOne, HasReturned}
 use Rattle.h2_fetch.specs.Several.{StopsAllFor}
 use Rattle.h2_fetch.specs.declared.fetch.PartFetch.{PartFetch}
 use Rattle.h2_fetch.specs.declared.part.ResponsePart.{ResponsePart}
+use Rattle.h2_fetch.specs.declared.sending.Credit.{Credit}
 use Rattle.h2_fetch.specs.declared.sending.Credit.TheVariants.{All}
+use Rattle.h2_fetch.proofs.ChosenCredit.{ChoosesCredit, chosen_allows}
 use Rattle.h2_fetch.proofs.Comings.{NextOn, going_first}
 use Rattle.h2_link.specs.declared.error.LinkError.TheVariants as errors
 
@@ -24,12 +27,13 @@ stops_for start now end id (errors.Reset number) so = absurd so
 stops_for start now end id error so = so
 
 -- A piece was read, or the fetch has ended.
-module _ {values : Values} {message : SentMessage} {start : Traffic} (before now : Traffic)
-    (old new : PartFetch) {end : EndLog} (is : IsComing values message start before old end)
-    (stream : new.id ≡ old.id) (first : new.used ≡ 0) where
+module _ {values : Values} {message : SentMessage} {wide : ℕ} {start : Traffic}
+    (before now : Traffic) (old new : PartFetch) {end : EndLog}
+    (is : IsComing values message wide start before old end)
+    (stream : new.id ≡ old.id) (first : new.used ≡ 0) {credit : Credit} where
   refilled_so : (result : Result (Unit {0}) LinkError)
-      → (read : ReadOver values (AsksOne message) start now end new.client.end new.input.items
-      result) → RefilledSo values message start now new end read.after result
+      → (read : ReadOver credit values (AsksOne message wide) start now end new.client.end
+      new.input.items result) → RefilledSo values message wide start now new end read.after result
   unfolding RefilledSo ReadSo
   refilled_so (Ok done) read = (
     record {
@@ -52,18 +56,29 @@ module _ {values : Values} {message : SentMessage} {start : Traffic} (before now
         so = stops_for start now read.after new.id error read.so.1;
       }
 
-pub refilled : (before now : Traffic) (old new : PartFetch) (result : Result (Unit {0}) LinkError)
-    → new.id ≡ old.id → new.used ≡ 0
-    → ReadsOver All before now old.client.end new.client.end new.input.items result
+-- What is chosen before a read by all that is owed may be returned.
+pub refilled : (before now : Traffic) (old new : PartFetch) (last : ℕ) (credit : Credit)
+    (result : Result (Unit {0}) LinkError) → new.id ≡ old.id → new.used ≡ 0
+    → last ≡ length old.input.items → ChoosesCredit old.client.end old.id last All credit
+    → ReadsOver credit before now old.client.end new.client.end new.input.items result
     → Refills before now old new result
-refilled before now old new result stream first reads values message start end is empty =
-    let read = reads values (AsksOne message) start end is.represents is.fetching tt
+refilled before now old new last credit result stream first all chooses reads values message wide
+    start end is empty =
+    let asks = AsksOne message wide in
+    let allows = chosen_allows old.id last All asks tt chooses is.represents in
+    let read = reads values asks start end is.represents is.fetching allows
     (subst (IsLinked start before end.log) empty is.linked) is.up in
-    (read.after, read.same.handed, refilled_so before now old new is stream first result read)
+    let chosen = chooses values end.log is.represents.streams.conn
+    ∙ ap (λ (n : ℕ). credit_before end.log old.id n All) all in (
+      read.after,
+      read.same.handed,
+      subst (λ (one : Credit). HasReturned one end read.after) chosen read.returned,
+      refilled_so before now old new is stream first result read,
+    )
 
 -- At first nothing was asked for.
 pub next_first : (now : Traffic) (fetch : PartFetch) → NextOn now now fetch fetch 0
-next_first now fetch values message start end is = going_first is
+next_first now fetch values message wide start end is = going_first is
 
 module _ (before between : Traffic) (old one two : PartFetch) (rounds : ℕ)
     (on : NextOn before between old one rounds) (first : one.id ≡ old.id)
@@ -72,9 +87,9 @@ module _ (before between : Traffic) (old one two : PartFetch) (rounds : ℕ)
   pub next_part : (part : ResponsePart) → TakesUntilPart one two (Ok (Some part))
       → AnswersNext before between old two (Ok part)
   unfolding TookSo ComesSo
-  next_part part takes values message start end is =
-      let go = on values message start end is in
-      let (after, turns, so) = takes values message start between go.after go.coming in (
+  next_part part takes values message wide start end is =
+      let go = on values message wide start end is in
+      let (after, turns, so) = takes values message wide start between go.after go.coming in (
         after,
         (
           so.0,
@@ -89,10 +104,10 @@ module _ (before between : Traffic) (old one two : PartFetch) (rounds : ℕ)
       → three.id ≡ two.id → TakesUntilPart one two (Err error)
       → EndsSo between now two three error result → AnswersNext before now old three (Err result)
   unfolding TookSo ComesSo
-  next_ended now three error result third takes ends values message start end is =
-      let go = on values message start end is in
-      let (after, turns, last) = takes values message start between go.after go.coming in
-      let (ended, stopped, since) = ends values message start go.after after last in (
+  next_ended now three error result third takes ends values message wide start end is =
+      let go = on values message wide start end is in
+      let (after, turns, last) = takes values message wide start between go.after go.coming in
+      let (ended, stopped, since) = ends values message wide start go.after after last in (
         ended,
         (
           stopped,
@@ -111,10 +126,10 @@ module _ (before between : Traffic) (old one two : PartFetch) (rounds : ℕ)
     pub next_refilled : (done : Unit {0}) → Refills between now two three (Ok done)
         → NextOn before now old three (rounds + 1)
     unfolding TookSo RefilledSo
-    next_refilled done refills values message start end is =
-        let go = on values message start end is in
-        let (after, turns, so) = takes values message start between go.after go.coming in
-        let (filled, same, read) = refills values message start after so.0 so.2 in
+    next_refilled done refills values message wide start end is =
+        let go = on values message wide start end is in
+        let (after, turns, so) = takes values message wide start between go.after go.coming in
+        let (filled, same, returned, read) = refills values message wide start after so.0 so.2 in
         record {
           after = filled;
           coming = read.0;
@@ -126,10 +141,10 @@ module _ (before between : Traffic) (old one two : PartFetch) (rounds : ℕ)
     pub next_unfilled : (error : LinkError) → Refills between now two three (Err error)
         → AnswersNext before now old three (Err error)
     unfolding TookSo RefilledSo ComesSo
-    next_unfilled error refills values message start end is =
-        let go = on values message start end is in
-        let (after, turns, so) = takes values message start between go.after go.coming in
-        let (filled, same, stopped) = refills values message start after so.0 so.2 in (
+    next_unfilled error refills values message wide start end is =
+        let go = on values message wide start end is in
+        let (after, turns, so) = takes values message wide start between go.after go.coming in
+        let (filled, same, returned, stopped) = refills values message wide start after so.0 so.2 in (
           filled,
           (
             stopped,
@@ -148,8 +163,8 @@ pub next_no_round : (before now : Traffic) (old new : PartFetch) (rounds : ℕ)
     → 2 ^ 64 - 1 ≤ rounds → NextOn before now old new rounds
     → AnswersNext before now old new (Err errors.NoProgress)
 unfolding ComesSo
-next_no_round before now old new rounds all on values message start end is =
-    let go = on values message start end is in (
+next_no_round before now old new rounds all on values message wide start end is =
+    let go = on values message wide start end is in (
       go.after,
       (
         record {

@@ -31,7 +31,7 @@ use Rattle.h2_fetch.specs.Sends.{pumps_no_more, released_by, releases_owed, send
 use Rattle.h2_fetch.specs.Sends.{sends_nothing}
 use Rattle.h2_fetch.specs.Several.{pumps, releases, releases_on}
 use Rattle.h2_fetch.specs.declared.sending.Credit.{Credit}
-use Rattle.h2_fetch.specs.declared.sending.Credit.TheVariants.{All, On}
+use Rattle.h2_fetch.specs.declared.sending.Credit.TheVariants.{All, Kept, On}
 use Rattle.h2_fetch.proofs.OwedCredit.{release_refused}
 use Rattle.h2_ends.specs.declared.refusal.EndRefusal.TheVariants as refusals
 use Rattle.h2_link.specs.declared.error.LinkError.TheVariants as errors
@@ -91,6 +91,7 @@ quiet_by id count (Err other) answer by = absurd by
 returned_stays : (credit : Credit) (before : EndLog) (result : Result (Unit {0}) EndRefusal)
     (after : EndLog) → MayReturnCredit credit before result after → StaysOn before after
 returned_stays All before result after may = released_stays before result after may
+returned_stays Kept before result after may = rw may.1 (stays_none before)
 returned_stays (On id) before result after (owes_none none done same) = rw same (stays_none before)
 returned_stays (On id) before result after (releases_owed answer some typed may by same) =
     let act = Release id (owed before.log id) in
@@ -106,6 +107,7 @@ returned_turns : (credit : Credit) (before : EndLog) (result : Result (Unit {0})
     (after : EndLog) → MayReturnCredit credit before result after
     → length before.log.turns ≤ length after.log.turns
 returned_turns All before result after may = turns_of_release before after result may
+returned_turns Kept before result after may = rw may.1 (omega arith)
 returned_turns (On id) before result after (owes_none none done same) = rw same (omega arith)
 returned_turns (On id) before result after (releases_owed answer some typed may by same) =
     let more = turns_of_call before.log (Release id (owed before.log id)) answer in
@@ -116,22 +118,24 @@ returned_asks : (values : Values) (asking : Asking) (credit : Credit) (before af
     (result : Result (Unit {0}) EndRefusal) → HasAsked values asking before
     → AllowsCredit credit asking → MayReturnCredit credit before result after
     → HasAsked values asking after
-returned_asks values (AsksOne message) All before after result was allows may =
+returned_asks values asking Kept before after result was allows may = rw may.1 was
+returned_asks values (AsksOne message wide) All before after result was allows may =
     one_releases was result may
-returned_asks values (AsksSeveral asked) All before after result was allows may =
+returned_asks values (AsksSeveral asked wide) All before after result was allows may =
     releases was result may
-returned_asks values (AsksOne message) (On id) before after result was allows may = absurd allows
-returned_asks values (AsksSeveral asked) (On id) before after result was allows
+returned_asks values (AsksOne message wide) (On id) before after result was allows may =
+    absurd allows
+returned_asks values (AsksSeveral asked wide) (On id) before after result was allows
     (owes_none none done same) = rw same was
-returned_asks values (AsksSeveral asked) (On id) before after result was allows
+returned_asks values (AsksSeveral asked wide) (On id) before after result was allows
     (releases_owed answer some typed may by same) =
     rw same (releases_on was id (owed before.log id) answer typed may)
 
 pumped_asks : (values : Values) (asking : Asking) (before after : EndLog)
     (sent : Result ℕ EndRefusal) → HasAsked values asking before → MayPump before sent after
     → HasAsked values asking after
-pumped_asks values (AsksOne message) before after sent was may = one_pumps was sent may
-pumped_asks values (AsksSeveral asked) before after sent was may = pumps was sent may
+pumped_asks values (AsksOne message wide) before after sent was may = one_pumps was sent may
+pumped_asks values (AsksSeveral asked wide) before after sent was may = pumps was sent may
 
 -- While the connection is up, credit is refused otherwise than for a full output only when out of
 -- memory.
@@ -160,6 +164,7 @@ returned_memory : (credit : Credit) (end : EndLog) (refusal : EndRefusal) (after
     (error : LinkError) → end.log.failed ≡ None → MayReturnCredit credit end (Err refusal) after
     → refusal ≢ refusals.Conn reasons.OutputFull → error ≡ error_after refusal
     → error ≡ errors.Memory
+returned_memory Kept end refusal after error up may other is = absurd (cc)
 returned_memory All end refusal after error up may other is =
     is ∙ ap error_after (all_memory end refusal after up may other)
 returned_memory (On id) end refusal after error up (owes_none none done same) other is =

@@ -38,7 +38,7 @@ module _ (now : Traffic) (old new : SeveralFetch) (id : ℕ) (ids : new.ids ≡ 
   pub answers_kept : (came : Came) → TakesKept id old.kept.items new.kept.items (Some came)
       → AnswersNextOn now now old new id (Ok came)
   unfolding TakesKept CameSo
-  answers_kept came takes values start asked end answered there is = (
+  answers_kept came takes values wide start asked end answered there is = (
     end,
     record {
       fetching = is.fetching;
@@ -59,7 +59,7 @@ module _ (now : Traffic) (old new : SeveralFetch) (id : ℕ) (ids : new.ids ≡ 
       → TakesKept id old.kept.items new.kept.items None → WaitsFor now later new after id result
       → AnswersNextOn now later old after id result
   unfolding TakesKept
-  answers_later later after result takes waits values start asked end answered there is =
-      waits values start asked end answered
+  answers_later later after result takes waits values wide start asked end answered there is =
+      waits values wide start asked end answered
       (coming_still new end ids takes.1 refl refl is.fetching (rw client is.represents) is.up
       (rw (used, input) is.linked) is) (rw takes.1 takes.0)

@@ -28,7 +28,7 @@ pub record HasRequestedAll (values : Values) (messages : List SentMessage) (clie
   pub end : EndLog
   pub sent : map (λ one. one.1) asked ≡ messages
   pub streams : ids ≡ map (λ one. one.0) asked
-  pub fetching : IsFetchingSeveral values asked end
+  pub fetching : IsFetchingSeveral values 0 asked end
   pub represents : EndRepresents values client end
   pub accepted : (id : ℕ) (message : SentMessage) → Contains asked (id, message)
       → said_for id end.accepted ≡ Some (at_once message)

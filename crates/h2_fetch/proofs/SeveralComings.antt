@@ -29,27 +29,26 @@ use Rattle.h2_link.specs.declared.error.LinkError.TheVariants as errors
 
 -- Whatever had happened at first, the client fetches still, keeps nothing of the stream, and each
 -- round was a turn at least.
-pub record AreGoing (values : Values) (start now : Traffic) (asked : List AskedOn)
+pub record AreGoing (values : Values) (wide : ℕ) (start now : Traffic) (asked : List AskedOn)
     (fetch : SeveralFetch) (id : ℕ) (before : EndLog) (answered : AnsweredOn) (rounds : ℕ) : Type 0
   where
     pub after : EndLog
-    pub coming : AreComing values start now asked fetch after answered
+    pub coming : AreComing values wide start now asked fetch after answered
     pub none : kept_on id fetch.kept.items ≡ []
     pub turns : rounds + length before.log.turns ≤ length after.log.turns
 
-pub are_going : {values : Values} {start now : Traffic} {asked : List AskedOn}
-    {fetch : SeveralFetch}
-    (id : ℕ) {end : EndLog} {answered : AnsweredOn}
-    → AreComing values start now asked fetch end answered → kept_on id fetch.kept.items ≡ []
-    → AreGoing values start now asked fetch id end answered 0
+pub are_going : {values : Values} {wide : ℕ} {start now : Traffic} {asked : List AskedOn}
+    {fetch : SeveralFetch} (id : ℕ) {end : EndLog} {answered : AnsweredOn}
+    → AreComing values wide start now asked fetch end answered → kept_on id fetch.kept.items ≡ []
+    → AreGoing values wide start now asked fetch id end answered 0
 are_going id {end} is none =
     record { after = end; coming = is; none = none; turns = omega arith }
 
 -- The client has taken octets of those that it keeps, and this was handed out.
-pub record HasTakenCame (values : Values) (start now : Traffic) (asked : List AskedOn)
+pub record HasTakenCame (values : Values) (wide : ℕ) (start now : Traffic) (asked : List AskedOn)
     (fetch : SeveralFetch) (before : EndLog) (ids : List ℕ) (taken : CameTaken) : Type 0 where
   pub after : EndLog
-  pub fetching : IsFetchingSeveral values asked after
+  pub fetching : IsFetchingSeveral values wide asked after
   pub represents : EndRepresents values fetch.client.end after
   pub accepted : after.accepted ≡ before.accepted
   pub up : after.log.failed ≡ None
@@ -68,12 +67,12 @@ piece_of fetch = take (length fetch.input.items - fetch.used) (several_unused fe
 pub rest_is : (fetch : SeveralFetch) → piece_of fetch ≡ several_unused fetch
 rest_is fetch = take_rest fetch.input.items fetch.used
 
-module _ {values : Values} {start now : Traffic} {asked : List AskedOn} {old : SeveralFetch}
-    (new : SeveralFetch) {end : EndLog} {answered : AnsweredOn}
-    (is : AreComing values start now asked old end answered) where
+module _ {values : Values} {wide : ℕ} {start now : Traffic} {asked : List AskedOn}
+    {old : SeveralFetch} (new : SeveralFetch) {end : EndLog} {answered : AnsweredOn}
+    (is : AreComing values wide start now asked old end answered) where
   pub taken_came : (taken : CameTaken) → new.input ≡ old.input → new.used ≡ old.used + taken.used
       → TakesCameOnce old.client.end new.client.end old.ids.items (piece_of old) (Ok taken)
-      → HasTakenCame values start now asked new end old.ids.items taken
+      → HasTakenCame values wide start now asked new end old.ids.items taken
   unfolding TakesCameSo
   taken_came taken input used part =
       let (after, represents, so) = part values end is.represents in
@@ -102,13 +101,13 @@ module _ {values : Values} {start now : Traffic} {asked : List AskedOn} {old : S
       }
 
 -- Nothing has come: it goes on.
-module _ {values : Values} {start now : Traffic} {asked : List AskedOn} {old : SeveralFetch}
-    (new : SeveralFetch) {end : EndLog} {answered : AnsweredOn} {taken : CameTaken}
-    (is : AreComing values start now asked old end answered)
-    (took : HasTakenCame values start now asked new end old.ids.items taken)
+module _ {values : Values} {wide : ℕ} {start now : Traffic} {asked : List AskedOn}
+    {old : SeveralFetch} (new : SeveralFetch) {end : EndLog} {answered : AnsweredOn}
+    {taken : CameTaken} (is : AreComing values wide start now asked old end answered)
+    (took : HasTakenCame values wide start now asked new end old.ids.items taken)
     (ids : new.ids ≡ old.ids) where
   pub took_none : IsNothing (without_empty taken.next) → new.kept ≡ old.kept
-      → AreComing values start now asked new took.after answered
+      → AreComing values wide start now asked new took.after answered
   took_none nothing kept =
       record {
         fetching = took.fetching;
@@ -154,7 +153,7 @@ module _ {values : Values} {start now : Traffic} {asked : List AskedOn} {old : S
 
     -- It is answered, where nothing is kept of the stream,
     pub came_answered : kept_on stream old.kept.items ≡ [] → new.kept ≡ old.kept
-        → AreComing values start now asked new took.after (answered_next answered stream came)
+        → AreComing values wide start now asked new took.after (answered_next answered stream came)
     came_answered none kept =
         record {
           fetching = took.fetching;
@@ -182,7 +181,7 @@ module _ {values : Values} {start now : Traffic} {asked : List AskedOn} {old : S
         ]
 
     pub came_kept : new.kept.items ≡ old.kept.items ++ (stream, came) ∷ []
-        → AreComing values start now asked new took.after answered
+        → AreComing values wide start now asked new took.after answered
     came_kept kept =
         record {
           fetching = took.fetching;
@@ -200,7 +199,7 @@ module _ {values : Values} {start now : Traffic} {asked : List AskedOn} {old : S
 
     -- or lost, where there is no memory for that.
     pub came_lost : new.kept.items ≡ old.kept.items
-        → HaveTakenLast values start now asked new took.after answered errors.Memory
+        → HaveTakenLast values wide start now asked new took.after answered errors.Memory
     came_lost kept =
         record {
           fetching = took.fetching;

@@ -27,14 +27,14 @@ use Rattle.h2_link.specs.declared.error.LinkError.TheVariants as errors
 -- In a call of `take_next` nothing goes over the link.
 abbrev pub TakesCame : (old new : SeveralFetch) → ℕ → (rounds : ℕ) → Type 0
 TakesCame old new id rounds =
-    (values : Values) (start now : Traffic) (asked : List AskedOn) (end : EndLog)
-    (answered : AnsweredOn) → AreComing values start now asked old end answered
+    (values : Values) (wide : ℕ) (start now : Traffic) (asked : List AskedOn) (end : EndLog)
+    (answered : AnsweredOn) → AreComing values wide start now asked old end answered
     → kept_on id old.kept.items ≡ []
-    → AreGoing values start now asked new id end answered rounds
+    → AreGoing values wide start now asked new id end answered rounds
 
 -- At first nothing was taken.
 pub came_first : (fetch : SeveralFetch) (id : ℕ) → TakesCame fetch fetch id 0
-came_first fetch id values start now asked end answered is none = are_going id is none
+came_first fetch id values wide start now asked end answered is none = are_going id is none
 
 -- In each round octets are taken once.
 module _ (old middle new : SeveralFetch) (id rounds : ℕ) (on : TakesCame old middle id rounds)
@@ -46,8 +46,8 @@ module _ (old middle new : SeveralFetch) (id rounds : ℕ) (on : TakesCame old m
     -- Nothing has come: it goes on,
     pub next_nothing : IsNothing (without_empty taken.next) → new.kept ≡ middle.kept
         → TakesCame old new id (rounds + 1)
-    next_nothing nothing kept values start now asked end answered is none =
-        let go = on values start now asked end answered is none in
+    next_nothing nothing kept values wide start now asked end answered is none =
+        let go = on values wide start now asked end answered is none in
         let took = taken_came new go.coming taken input used part in
         record {
           after = took.after;
@@ -60,8 +60,8 @@ module _ (old middle new : SeveralFetch) (id rounds : ℕ) (on : TakesCame old m
     pub next_done : without_empty taken.next ≡ nexts.Done → new.kept ≡ middle.kept
         → TakesUntilCame old new id (Ok None)
     unfolding TookCame
-    next_done done kept values start now asked end answered is none =
-        let go = on values start now asked end answered is none in
+    next_done done kept values wide start now asked end answered is none =
+        let go = on values wide start now asked end answered is none in
         let took = taken_came new go.coming taken input used part in (
           took.after,
           took_none new go.coming took ids (rw done tt) kept,
@@ -76,12 +76,12 @@ module _ (old middle new : SeveralFetch) (id rounds : ℕ) (on : TakesCame old m
         → SaysSome stream came → stream ≡ id → new.kept ≡ middle.kept
         → TakesUntilCame old new id (Ok (Some came))
     unfolding TookCame CameSo
-    next_came stream came next final same kept values start now asked end answered is none =
-        let go = on values start now asked end answered is none in
+    next_came stream came next final same kept values wide start now asked end answered is none =
+        let go = on values wide start now asked end answered is none in
         let took = taken_came new go.coming taken input used part in
         let first : kept_on stream middle.kept.items ≡ [] = rw same go.none in (
           took.after,
-          subst (λ (i : ℕ). AreComing values start now asked new took.after
+          subst (λ (i : ℕ). AreComing values wide start now asked new took.after
               (answered_next answered i came)) same
               (came_answered new go.coming took ids stream came next final first kept),
           λ code dropped. subst (λ (i : ℕ). WasDropped took.after i code) same
@@ -93,8 +93,8 @@ module _ (old middle new : SeveralFetch) (id rounds : ℕ) (on : TakesCame old m
       -- or on another: that is kept,
       pub next_kept : new.kept.items ≡ middle.kept.items ++ (stream, came) ∷ []
           → TakesCame old new id (rounds + 1)
-      next_kept kept values start now asked end answered is none =
-          let go = on values start now asked end answered is none in
+      next_kept kept values wide start now asked end answered is none =
+          let go = on values wide start now asked end answered is none in
           let took = taken_came new go.coming taken input used part in
           record {
             after = took.after;
@@ -107,8 +107,8 @@ module _ (old middle new : SeveralFetch) (id rounds : ℕ) (on : TakesCame old m
       pub next_lost : new.kept.items ≡ middle.kept.items
           → TakesUntilCame old new id (Err errors.Memory)
       unfolding TookCame
-      next_lost kept values start now asked end answered is none =
-          let go = on values start now asked end answered is none in
+      next_lost kept values wide start now asked end answered is none =
+          let go = on values wide start now asked end answered is none in
           let took = taken_came new go.coming taken input used part in
           (took.after, came_lost new go.coming took ids stream came next final kept)
 
@@ -143,9 +143,9 @@ pub next_failed : (old middle new : SeveralFetch) (id rounds : ℕ) (error : Lin
     → TakesCameOnce middle.client.end new.client.end middle.ids.items (piece_of middle) (Err error)
     → TakesUntilCame old new id (Err error)
 unfolding TookCame TakesCameSo
-next_failed old middle new id rounds error on ids kept part values start now asked end answered is
-    none =
-    let go = on values start now asked end answered is none in
+next_failed old middle new id rounds error on ids kept part values wide start now asked end answered
+    is none =
+    let go = on values wide start now asked end answered is none in
     let (after, represents, so) = part values go.after go.coming.represents in
     let may = subst (λ (octets : List ℕ). EndMayTake go.after octets so.0 after) (rest_is middle)
     so.1 in
@@ -170,8 +170,8 @@ next_failed old middle new id rounds error on ids kept part values start now ask
 pub next_out : (old new : SeveralFetch) (id rounds : ℕ) → 2 ^ 64 - 1 ≤ rounds
     → TakesCame old new id rounds → TakesUntilCame old new id (Err errors.NoProgress)
 unfolding TookCame
-next_out old new id rounds all on values start now asked end answered is none =
-    let go = on values start now asked end answered is none in (
+next_out old new id rounds all on values wide start now asked end answered is none =
+    let go = on values wide start now asked end answered is none in (
       go.after,
       record {
         fetching = go.coming.fetching;

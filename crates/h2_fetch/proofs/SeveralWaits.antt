@@ -2,31 +2,34 @@
 use Rattle.h2_engines.proofs.Names
 use Names.{◌≡◌, ◌≢◌, ◌≤◌, ℕ, ◌+◌, ◌-◌, ◌^◌, List, [], ◌++◌, Some, None, Result, Ok, Err, refl}
 use Names.{sym, ap, ◌∙◌, subst, inl, inr, arith, append-nil, Contains, Code, Values, EndLog}
-use Names.{EndRepresents, IsLinked, LinkError, Traffic, error_with}
+use Names.{EndRepresents, IsLinked, LinkError, Traffic, error_with, length}
 use Rattle.h2_engines.proofs.MachineViews.{all_in_part}
 use Rattle.h2_fetch.specs.Reads.{EndedSo, EndsOver, ReadOver, ReadSo, ReadsOver, ends_at_once}
 use Rattle.h2_fetch.specs.Reads.{ends_failed}
-use Rattle.h2_fetch.specs.Sends.{AsksSeveral}
+use Rattle.h2_fetch.specs.Credits.{credit_before}
+use Rattle.h2_fetch.specs.Sends.{AsksSeveral, HasReturned}
 use Rattle.h2_fetch.specs.Several.{OnStream, AnsweredOn, AreComing, AskedOn, CameSo}
 use Rattle.h2_fetch.specs.Several.{IsFetchingSeveral, StopsAllFor, kept_on, several_unused}
 use Rattle.h2_fetch.specs.SeveralComings.{FilledSo, FillsSeveral, TakesNoneMore, TakesUntilCame}
 use Rattle.h2_fetch.specs.SeveralComings.{TookCame, WaitsFor, fails, lacks_memory, out_of_rounds}
+use Rattle.h2_fetch.specs.declared.sending.Credit.{Credit}
 use Rattle.h2_fetch.specs.declared.sending.Credit.TheVariants.{On}
 use Rattle.h2_fetch.specs.declared.several.Came.{Came}
 use Rattle.h2_fetch.specs.declared.several.SeveralFetch.{SeveralFetch}
+use Rattle.h2_fetch.proofs.ChosenCredit.{ChoosesCredit, chosen_allows}
 use Rattle.h2_fetch.proofs.SeveralComings.{AreGoing, are_going}
 use Rattle.h2_fetch.proofs.SeveralTaking.{stay_dropped}
 use Rattle.h2_link.specs.declared.error.LinkError.TheVariants as errors
 
 -- Where nothing has happened to messages, and as much is kept, the client fetches still.
-pub coming_still : {values : Values} {start before now : Traffic} {asked : List AskedOn}
+pub coming_still : {values : Values} {wide : ℕ} {start before now : Traffic} {asked : List AskedOn}
     {old : SeveralFetch} (new : SeveralFetch) {end : EndLog} (after : EndLog)
     {answered : AnsweredOn} → new.ids ≡ old.ids → new.kept.items ≡ old.kept.items
     → after.accepted ≡ end.accepted → after.handed ≡ end.handed
-    → IsFetchingSeveral values asked after → EndRepresents values new.client.end after
+    → IsFetchingSeveral values wide asked after → EndRepresents values new.client.end after
     → after.log.failed ≡ None → IsLinked start now after.log (several_unused new)
-    → AreComing values start before asked old end answered
-    → AreComing values start now asked new after answered
+    → AreComing values wide start before asked old end answered
+    → AreComing values wide start now asked new after answered
 coming_still {old = old} new {end} after ids kept accepted handed fetching represents up linked is =
     record {
       fetching = fetching;
@@ -43,46 +46,54 @@ coming_still {old = old} new {end} after ids kept accepted handed fetching repre
     }
 
 -- A piece was read, or the fetch has ended.
-module _ {values : Values} {start : Traffic} (before now : Traffic) {asked : List AskedOn}
-    (old new : SeveralFetch) {end : EndLog} {answered : AnsweredOn}
-    (is : AreComing values start before asked old end answered) (ids : new.ids ≡ old.ids)
-    (kept : new.kept.items ≡ old.kept.items) where
+module _ {values : Values} {wide : ℕ} {start : Traffic} (before now : Traffic)
+    {asked : List AskedOn} (old new : SeveralFetch) {end : EndLog} {answered : AnsweredOn}
+    (is : AreComing values wide start before asked old end answered) (ids : new.ids ≡ old.ids)
+    (kept : new.kept.items ≡ old.kept.items) {credit : Credit} where
   filled_so : (result : Result (Unit {0}) LinkError) → new.used ≡ 0
-      → ReadOver values (AsksSeveral asked) start now end new.client.end new.input.items result
-      → FilledSo values start now asked new end answered result
+      → (read : ReadOver credit values (AsksSeveral asked wide) start now end new.client.end
+      new.input.items result)
+      → FilledSo values wide start now asked new end read.after answered result
   unfolding FilledSo ReadSo
   filled_so (Ok done) first read = (
-    read.after,
     coming_still new read.after ids kept read.same.accepted read.same.handed read.asks
         read.represents read.so.0 (rw first read.so.1) is,
     read.so.2,
   )
-  filled_so (Err error) first read = (
-    read.after,
-    record {
-      fetching = read.asks;
-      represents = read.represents;
-      linked = read.so.0;
-      lost = λ id. [];
-      parts = λ id one.
-          let there : Contains old.ids.items id = rw ids at one in
-          rw (read.same.handed, kept) (is.parts id there
-          ∙ ap (λ (rest : List OnStream). answered id ++ rest)
-          (sym (append-nil (kept_on id old.kept.items))));
-      all = λ other id. refl;
-      so = read.so.1;
-    },
-  )
+  filled_so (Err error) first read =
+      record {
+        fetching = read.asks;
+        represents = read.represents;
+        linked = read.so.0;
+        lost = λ id. [];
+        parts = λ id one.
+            let there : Contains old.ids.items id = rw ids at one in
+            rw (read.same.handed, kept) (is.parts id there
+            ∙ ap (λ (rest : List OnStream). answered id ++ rest)
+            (sym (append-nil (kept_on id old.kept.items))));
+        all = λ other id. refl;
+        so = read.so.1;
+      }
 
-pub filled : (before now : Traffic) (old new : SeveralFetch) (id : ℕ)
+-- What is chosen before a read by the credit of one stream may be returned.
+pub filled : (before now : Traffic) (old new : SeveralFetch) (id last : ℕ) (credit : Credit)
     (result : Result (Unit {0}) LinkError) → new.ids ≡ old.ids → new.kept ≡ old.kept
-    → new.used ≡ 0
-    → ReadsOver (On id) before now old.client.end new.client.end new.input.items result
-    → FillsSeveral before now old new result
-filled before now old new id result ids kept first reads values start asked end answered is empty =
-    let read = reads values (AsksSeveral asked) start end is.represents is.fetching tt
+    → new.used ≡ 0 → last ≡ length old.input.items
+    → ChoosesCredit old.client.end id last (On id) credit
+    → ReadsOver credit before now old.client.end new.client.end new.input.items result
+    → FillsSeveral before now old new id result
+filled before now old new id last credit result ids kept first all chooses reads values wide start
+    asked end answered is empty =
+    let asks = AsksSeveral asked wide in
+    let allows = chosen_allows id last (On id) asks tt chooses is.represents in
+    let read = reads values asks start end is.represents is.fetching allows
     (subst (IsLinked start before end.log) empty is.linked) is.up in
-    filled_so before now old new is ids (ap (λ queue. queue.items) kept) result first read
+    let chosen = chooses values end.log is.represents.streams.conn
+    ∙ ap (λ (n : ℕ). credit_before end.log id n (On id)) all in (
+      read.after,
+      subst (λ (one : Credit). HasReturned one end read.after) chosen read.returned,
+      filled_so before now old new is ids (ap (λ queue. queue.items) kept) result first read,
+    )
 
 -- The error of a client that can take no more is that of its connection, where that has failed.
 why_failed : {end : EndLog} {lost : AnsweredOn} {error : LinkError}
@@ -130,13 +141,13 @@ ended_so start now why (ends_failed down stops) = stops
 abbrev pub WaitsOn : (before now : Traffic) → (old new : SeveralFetch) → ℕ → (rounds : ℕ)
     → Type 0
 WaitsOn before now old new id rounds =
-    (values : Values) (start : Traffic) (asked : List AskedOn) (end : EndLog)
-    (answered : AnsweredOn) → AreComing values start before asked old end answered
+    (values : Values) (wide : ℕ) (start : Traffic) (asked : List AskedOn) (end : EndLog)
+    (answered : AnsweredOn) → AreComing values wide start before asked old end answered
     → kept_on id old.kept.items ≡ []
-    → AreGoing values start now asked new id end answered rounds
+    → AreGoing values wide start now asked new id end answered rounds
 
 pub waits_first : (now : Traffic) (fetch : SeveralFetch) (id : ℕ) → WaitsOn now now fetch fetch id 0
-waits_first now fetch id values start asked end answered is none = are_going id is none
+waits_first now fetch id values wide start asked end answered is none = are_going id is none
 
 module _ (before between : Traffic) (old one two : SeveralFetch) (id rounds : ℕ)
     (on : WaitsOn before between old one id rounds) where
@@ -144,9 +155,9 @@ module _ (before between : Traffic) (old one two : SeveralFetch) (id rounds : �
   pub waits_came : (came : Came) → TakesUntilCame one two id (Ok (Some came))
       → WaitsFor before between old two id (Ok came)
   unfolding TookCame
-  waits_came came takes values start asked end answered is none =
-      let go = on values start asked end answered is none in
-      takes values start between asked go.after answered go.coming go.none
+  waits_came came takes values wide start asked end answered is none =
+      let go = on values wide start asked end answered is none in
+      takes values wide start between asked go.after answered go.coming go.none
 
   -- or the client can take no more,
   pub waits_ended : (now : Traffic) (three : SeveralFetch) (error result : LinkError)
@@ -155,10 +166,12 @@ module _ (before between : Traffic) (old one two : SeveralFetch) (id rounds : �
       → EndsOver between now two.client.end three.client.end error result
       → WaitsFor before now old three id (Err result)
   unfolding TookCame CameSo
-  waits_ended now three error result ids kept takes ends values start asked end answered is none =
-      let go = on values start asked end answered is none in
-      let (after, last) = takes values start between asked go.after answered go.coming go.none in
-      let ended = ends values (AsksSeveral asked) start after last.unused last.represents
+  waits_ended now three error result ids kept takes ends values wide start asked end answered is
+      none =
+      let go = on values wide start asked end answered is none in
+      let (after, last) =
+      takes values wide start between asked go.after answered go.coming go.none in
+      let ended = ends values (AsksSeveral asked wide) start after last.unused last.represents
       last.fetching last.linked (why_failed last.why) in (
         ended.after,
         record {
@@ -177,38 +190,40 @@ module _ (before between : Traffic) (old one two : SeveralFetch) (id rounds : �
   module _ (now : Traffic) (three : SeveralFetch) (kept : three.kept ≡ two.kept)
       (takes : TakesUntilCame one two id (Ok None)) where
     -- or a piece is read,
-    pub waits_filled : (done : Unit {0}) → FillsSeveral between now two three (Ok done)
+    pub waits_filled : (done : Unit {0}) → FillsSeveral between now two three id (Ok done)
         → WaitsOn before now old three id (rounds + 1)
     unfolding TookCame FilledSo
-    waits_filled done fills values start asked end answered is none =
-        let go = on values start asked end answered is none in
+    waits_filled done fills values wide start asked end answered is none =
+        let go = on values wide start asked end answered is none in
         let (after, coming, left, empty, turns) =
-        takes values start between asked go.after answered go.coming go.none in
-        let (filled, still, more) = fills values start asked after answered coming empty in
+        takes values wide start between asked go.after answered go.coming go.none in
+        let (filled, returned, still) =
+        fills values wide start asked after answered coming empty in
         record {
           after = filled;
-          coming = still;
+          coming = still.0;
           none = rw kept left;
-          turns = omega (arith, go.turns, turns, more);
+          turns = omega (arith, go.turns, turns, still.1);
         }
 
     -- or not.
-    pub waits_unfilled : (error : LinkError) → FillsSeveral between now two three (Err error)
+    pub waits_unfilled : (error : LinkError) → FillsSeveral between now two three id (Err error)
         → WaitsFor before now old three id (Err error)
     unfolding TookCame FilledSo CameSo
-    waits_unfilled error fills values start asked end answered is none =
-        let go = on values start asked end answered is none in
+    waits_unfilled error fills values wide start asked end answered is none =
+        let go = on values wide start asked end answered is none in
         let (after, coming, left, empty, turns) =
-        takes values start between asked go.after answered go.coming go.none in
-        fills values start asked after answered coming empty
+        takes values wide start between asked go.after answered go.coming go.none in
+        let (filled, returned, stopped) =
+        fills values wide start asked after answered coming empty in (filled, stopped)
 
 -- There were as many rounds as may be.
 pub waits_no_round : (before now : Traffic) (old new : SeveralFetch) (id rounds : ℕ)
     → 2 ^ 64 - 1 ≤ rounds → WaitsOn before now old new id rounds
     → WaitsFor before now old new id (Err errors.NoProgress)
 unfolding CameSo
-waits_no_round before now old new id rounds all on values start asked end answered is none =
-    let go = on values start asked end answered is none in (
+waits_no_round before now old new id rounds all on values wide start asked end answered is none =
+    let go = on values wide start asked end answered is none in (
       go.after,
       record {
         fetching = go.coming.fetching;

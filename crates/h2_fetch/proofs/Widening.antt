@@ -1,7 +1,6 @@
 -- A fetch goes on where the window of its connection was widened, or that was refused.
 use Rattle.h2_engines.proofs.Names
-use Names.{◌≡◌, ◌<◌, ◌^◌, ℕ, Result, Ok, Err, ◌∙◌, Answer, Refused, Done, EndAnswers, end_with_log}
-use Names.{with_call, IsTypedAct, Refusal}
+use Names.{◌≡◌, ◌<◌, ◌^◌, ℕ, Result, Ok, Err, ◌∙◌, Done, EndAnswers, IsTypedAct, Refusal}
 use Rattle.h2_conn.specs.Conn.{answer_by}
 use Rattle.h2_spec_log.specs.Acts.{Widen}
 use Rattle.h2_engines.specs.ClientHistories.{widens as one_widens}
@@ -28,7 +27,7 @@ pub widens_fetch : (count : ℕ) (result : Result (Unit {0}) Refusal) (old new :
     new.client.end
     → new.id ≡ old.id → new.input ≡ old.input → new.used ≡ old.used
     → WidensFetch count (answer_by (λ done. Done) result) old new
-widens_fetch count result old new few answers id input used values message start now end on =
+widens_fetch count result old new few answers id input used values message wide start now end on =
     let answer = answer_by (λ done. Done) result in
     let both = answers values end on.represents in
     let goes = call_goes end.log (Widen count) answer (quiet_answer count result) in (
@@ -47,7 +46,7 @@ pub widens_several : (count : ℕ) (result : Result (Unit {0}) Refusal) (old new
     new.client.end
     → new.ids ≡ old.ids → new.kept ≡ old.kept → new.input ≡ old.input → new.used ≡ old.used
     → WidensSeveral count (answer_by (λ done. Done) result) old new
-widens_several count result old new few answers ids kept input used values start now asked end
+widens_several count result old new few answers ids kept input used values wide start now asked end
     answered on =
     let answer = answer_by (λ done. Done) result in
     let both = answers values end on.represents in

@@ -10,9 +10,9 @@ use Rattle.h2_fetch.specs.Several.{gives_out}
 
 -- Output may be put out at it.
 pub puts_at : (values : Values) (asking : Asking) → MayPutOut (HasAsked values asking)
-puts_at values (AsksOne message) end count answer was typed may =
+puts_at values (AsksOne message wide) end count answer was typed may =
     one_gives_out was count answer typed may
-puts_at values (AsksSeveral asked) end count answer was typed may =
+puts_at values (AsksSeveral asked wide) end count answer was typed may =
     gives_out was count answer typed may
 
 -- The link took all that the client has given out, in so many rounds, whatever had happened.

@@ -20,19 +20,22 @@ use Rattle.h2_engines.specs.Serves.{HasFailedWith, HasReturnedAll}
 use Rattle.h2_engines.specs.ServerSteps.{error_with}
 use Rattle.h2_fetch.specs.declared.fetch.PartFetch.{PartFetch}
 use Rattle.h2_fetch.specs.declared.part.ResponsePart.{ResponsePart}
+use Rattle.h2_fetch.specs.declared.sending.Credit.TheVariants.{All}
+use Rattle.h2_fetch.specs.Credits.{credit_before}
 use Rattle.h2_fetch.specs.Parts.{handed_of, handed_on}
+use Rattle.h2_fetch.specs.Sends.{HasReturned}
 
 -- the octets that were read and not used yet
 abbrev pub octets_unused : PartFetch → List ℕ
 octets_unused fetch = drop fetch.used fetch.input.items
 
 -- A client with these values, at which this has happened, fetches: its message was accepted, the
--- connection is up, it has used all octets that the link gave since then but those that it keeps,
--- and the link took all that it has given out.
+-- connection is up, its window was widened by so much in all, the client has used all octets that
+-- the link gave since then but those that it keeps, and the link took all that it has given out.
 -- rule: engines (own) A response in parts is what is handed out, in order
-pub record IsComing (values : Values) (message : SentMessage) (start now : Traffic)
+pub record IsComing (values : Values) (message : SentMessage) (wide : ℕ) (start now : Traffic)
     (fetch : PartFetch) (end : EndLog) : Type 0 where
-  pub fetching : IsFetching values message end
+  pub fetching : IsFetching values message wide end
   pub represents : EndRepresents values fetch.client.end end
   pub accepted : said_for fetch.id end.accepted ≡ Some (at_once message)
   pub up : end.log.failed ≡ None
@@ -42,7 +45,7 @@ pub record IsComing (values : Values) (message : SentMessage) (start now : Traff
 pub record BeginsFetch (values : Values) (message : SentMessage) (fetch : PartFetch) : Type 0 where
   pub end : EndLog
   pub requested : MayRequest (new_end_log Client values) message (Ok fetch.id) end
-  pub coming : (start : Traffic) → IsComing values message start start fetch end
+  pub coming : (start : Traffic) → IsComing values message 0 start start fetch end
   pub none : handed_on fetch.id end.handed ≡ []
 
 -- why a fetch has ended early, by its error; out of memory no log says which allocation was refused
@@ -61,11 +64,12 @@ StopsFor start now end id errors.Device = Unit {0}
 StopsFor start now end id errors.Refused = ⊥
 
 -- The fetch has ended early, with this error: the octets that the client has used are the first
--- that the link gave, and the link took the first of its output.
+-- that the link gave, the link took the first of its output, and the connection's window was
+-- widened by so much in all.
 -- rule: engines (own) A response in parts is what is handed out, in order
-pub record HasStopped (values : Values) (message : SentMessage) (start now : Traffic)
+pub record HasStopped (values : Values) (message : SentMessage) (wide : ℕ) (start now : Traffic)
     (fetch : PartFetch) (end : EndLog) (error : LinkError) : Type 0 where
-  pub fetching : IsFetching values message end
+  pub fetching : IsFetching values message wide end
   pub represents : EndRepresents values fetch.client.end end
   pub accepted : said_for fetch.id end.accepted ≡ Some (at_once message)
   pub linked : IsLinkedInPart start now end.log
@@ -82,15 +86,15 @@ pub record HandsSince (id : ℕ) (before after : EndLog) (came : List Handed) (e
 
 -- The next part was answered, in a turn at least, or the fetch has ended early.
 -- rule: engines (own) A response in parts is what is handed out, in order
-unfoldable pub ComesSo : Values → SentMessage → (start now : Traffic) → PartFetch
+unfoldable pub ComesSo : Values → SentMessage → (wide : ℕ) → (start now : Traffic) → PartFetch
     → (before after : EndLog) → Result ResponsePart LinkError → Type 0
-ComesSo values message start now fetch before after (Ok part) =
-    IsComing values message start now fetch after
+ComesSo values message wide start now fetch before after (Ok part) =
+    IsComing values message wide start now fetch after
     × (handed_on fetch.id after.handed
     ≡ handed_on fetch.id before.handed ++ handed_of fetch.id part ∷ [])
     × (length before.log.turns < length after.log.turns)
-ComesSo values message start now fetch before after (Err error) =
-    HasStopped values message start now fetch after error
+ComesSo values message wide start now fetch before after (Err error) =
+    HasStopped values message wide start now fetch after error
     × HandsSince fetch.id before after [] error
 
 -- Whatever has happened at a client that fetches, the next part of its response is asked for.
@@ -98,9 +102,9 @@ ComesSo values message start now fetch before after (Err error) =
 abbrev pub AnswersNext : (before now : Traffic) → (old new : PartFetch)
     → Result ResponsePart LinkError → Type 0
 AnswersNext before now old new result =
-    (values : Values) (message : SentMessage) (start : Traffic) (end : EndLog)
-    → IsComing values message start before old end
-    → (after : EndLog) × ComesSo values message start now new end after result
+    (values : Values) (message : SentMessage) (wide : ℕ) (start : Traffic) (end : EndLog)
+    → IsComing values message wide start before old end
+    → (after : EndLog) × ComesSo values message wide start now new end after result
 
 -- Why a client can take no more: the connection has failed; the stream was dropped, or memory was
 -- refused, for which these parts are lost; or it is out of rounds.
@@ -114,9 +118,9 @@ pub data TakesNoMore (end : EndLog) (id : ℕ) (lost : List Handed) (error : Lin
       → lost ≡ [] → TakesNoMore end id lost error
 
 -- A client has taken its last octets.
-pub record HasTakenLast (values : Values) (message : SentMessage) (start now : Traffic)
+pub record HasTakenLast (values : Values) (message : SentMessage) (wide : ℕ) (start now : Traffic)
     (fetch : PartFetch) (before end : EndLog) (error : LinkError) : Type 0 where
-  pub fetching : IsFetching values message end
+  pub fetching : IsFetching values message wide end
   pub represents : EndRepresents values fetch.client.end end
   pub accepted : said_for fetch.id end.accepted ≡ Some (at_once message)
   pub unused : List ℕ
@@ -126,49 +130,50 @@ pub record HasTakenLast (values : Values) (message : SentMessage) (start now : T
   pub why : TakesNoMore end fetch.id lost error
 
 -- what came of the octets that were read
-unfoldable pub TookSo : Values → SentMessage → (start now : Traffic) → PartFetch
+unfoldable pub TookSo : Values → SentMessage → (wide : ℕ) → (start now : Traffic) → PartFetch
     → (before after : EndLog) → Result (Option ResponsePart) LinkError → Type 0
-TookSo values message start now fetch before after (Ok (Some part)) =
-    IsComing values message start now fetch after
+TookSo values message wide start now fetch before after (Ok (Some part)) =
+    IsComing values message wide start now fetch after
     × (handed_on fetch.id after.handed
     ≡ handed_on fetch.id before.handed ++ handed_of fetch.id part ∷ [])
     × (length before.log.turns < length after.log.turns)
-TookSo values message start now fetch before after (Ok None) =
-    IsComing values message start now fetch after
+TookSo values message wide start now fetch before after (Ok None) =
+    IsComing values message wide start now fetch after
     × (handed_on fetch.id after.handed ≡ handed_on fetch.id before.handed)
     × (octets_unused fetch ≡ [])
-TookSo values message start now fetch before after (Err error) =
-    HasTakenLast values message start now fetch before after error
+TookSo values message wide start now fetch before after (Err error) =
+    HasTakenLast values message wide start now fetch before after error
 
 abbrev pub TakesUntilPart : (old new : PartFetch) → Result (Option ResponsePart) LinkError → Type 0
 TakesUntilPart old new result =
-    (values : Values) (message : SentMessage) (start now : Traffic) (end : EndLog)
-    → IsComing values message start now old end
+    (values : Values) (message : SentMessage) (wide : ℕ) (start now : Traffic) (end : EndLog)
+    → IsComing values message wide start now old end
     → (after : EndLog) × (length end.log.turns ≤ length after.log.turns)
-    × TookSo values message start now new end after result
+    × TookSo values message wide start now new end after result
 
 -- A piece was read, in a turn at least, or the fetch has ended early; nothing was handed out.
-unfoldable pub RefilledSo : Values → SentMessage → (start now : Traffic) → PartFetch
+unfoldable pub RefilledSo : Values → SentMessage → (wide : ℕ) → (start now : Traffic) → PartFetch
     → (before after : EndLog) → Result (Unit {0}) LinkError → Type 0
-RefilledSo values message start now fetch before after (Ok done) =
-    IsComing values message start now fetch after
+RefilledSo values message wide start now fetch before after (Ok done) =
+    IsComing values message wide start now fetch after
     × (length before.log.turns < length after.log.turns)
-RefilledSo values message start now fetch before after (Err error) =
-    HasStopped values message start now fetch after error
+RefilledSo values message wide start now fetch before after (Err error) =
+    HasStopped values message wide start now fetch after error
 
 abbrev pub Refills : (before now : Traffic) → (old new : PartFetch)
     → Result (Unit {0}) LinkError → Type 0
 Refills before now old new result =
-    (values : Values) (message : SentMessage) (start : Traffic) (end : EndLog)
-    → IsComing values message start before old end → octets_unused old ≡ []
+    (values : Values) (message : SentMessage) (wide : ℕ) (start : Traffic) (end : EndLog)
+    → IsComing values message wide start before old end → octets_unused old ≡ []
     → (after : EndLog) × (after.handed ≡ end.handed)
-    × RefilledSo values message start now new end after result
+    × HasReturned (credit_before end.log old.id (length old.input.items) All) end after
+    × RefilledSo values message wide start now new end after result
 
 -- A client that can take no more ends its fetch.
 abbrev pub EndsSo : (before now : Traffic) → (old new : PartFetch) → (error result : LinkError)
     → Type 0
 EndsSo before now old new error result =
-    (values : Values) (message : SentMessage) (start : Traffic) (first end : EndLog)
-    → HasTakenLast values message start before old first end error
-    → (after : EndLog) × HasStopped values message start now new after result
+    (values : Values) (message : SentMessage) (wide : ℕ) (start : Traffic) (first end : EndLog)
+    → HasTakenLast values message wide start before old first end error
+    → (after : EndLog) × HasStopped values message wide start now new after result
     × HandsSince new.id first after [] result

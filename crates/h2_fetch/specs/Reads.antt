@@ -9,7 +9,7 @@ use Rattle.h2_link.specs.declared.error.LinkError.{LinkError}
 use Rattle.h2_engines.specs.Linked.{Traffic, IsLinked, IsLinkedInPart}
 use Rattle.h2_engines.specs.ServerSteps.{IsSameOfMessages, error_with}
 use Rattle.h2_fetch.specs.declared.sending.Credit.{Credit}
-use Rattle.h2_fetch.specs.Sends.{AllowsCredit, Asking, HasAsked}
+use Rattle.h2_fetch.specs.Sends.{AllowsCredit, Asking, HasAsked, HasReturned}
 use Rattle.h2_fetch.specs.Several.{StopsAllFor}
 
 -- These octets were read, in a turn at least, or no more can be.
@@ -22,13 +22,15 @@ ReadSo start now before after octets (Err error) =
     IsLinkedInPart start now after.log × StopsAllFor start now after error
 
 -- All that could go was sent and a piece was read, or as far as that went; nothing was handed out.
-pub record ReadOver (values : Values) (asking : Asking) (start now : Traffic) (before : EndLog)
-    (new : End) (octets : List ℕ) (result : Result (Unit {0}) LinkError) : Type 0 where
-  pub after : EndLog
-  pub asks : HasAsked values asking after
-  pub represents : EndRepresents values new after
-  pub same : IsSameOfMessages before after
-  pub so : ReadSo start now before after octets result
+pub record ReadOver (credit : Credit) (values : Values) (asking : Asking) (start now : Traffic)
+    (before : EndLog) (new : End) (octets : List ℕ) (result : Result (Unit {0}) LinkError) : Type 0
+  where
+    pub after : EndLog
+    pub returned : HasReturned credit before after
+    pub asks : HasAsked values asking after
+    pub represents : EndRepresents values new after
+    pub same : IsSameOfMessages before after
+    pub so : ReadSo start now before after octets result
 
 -- Whatever has happened at a client that is up and has used all that it has read.
 abbrev pub ReadsOver : Credit → (before now : Traffic) → (old new : End) → (octets : List ℕ)
@@ -37,7 +39,7 @@ ReadsOver credit before now old new octets result =
     (values : Values) (asking : Asking) (start : Traffic) (end : EndLog)
     → EndRepresents values old end → HasAsked values asking end → AllowsCredit credit asking
     → IsLinked start before end.log [] → end.log.failed ≡ None
-    → ReadOver values asking start now end new octets result
+    → ReadOver credit values asking start now end new octets result
 
 -- While the connection is up a client ends at once, with its own error; once that has failed, when
 -- all was written, or that could not be.

@@ -20,22 +20,23 @@ use Rattle.h2_engines.specs.Linked.{Traffic, HasGiven, HasStalled, IsLinked}
 use Rattle.h2_engines.specs.Machines.{WritesOut}
 use Rattle.h2_engines.specs.ServerSteps.{IsSameOfMessages, TookBy}
 use Rattle.h2_fetch.specs.declared.sending.Credit.{Credit}
-use Rattle.h2_fetch.specs.declared.sending.Credit.TheVariants.{All, On}
+use Rattle.h2_fetch.specs.declared.sending.Credit.TheVariants.{All, Kept, On}
 use Rattle.h2_fetch.specs.Several.{AskedOn, IsFetchingSeveral}
 
--- what a client has asked for: it makes one request, or several
+-- what a client has asked for: it makes one request, or several; and by how much it has widened the
+-- window of the connection
 pub data Asking : Type 0 where
-  AsksOne : (message : SentMessage) → Asking
-  AsksSeveral : (asked : List AskedOn) → Asking
+  AsksOne : (message : SentMessage) → (wide : ℕ) → Asking
+  AsksSeveral : (asked : List AskedOn) → (wide : ℕ) → Asking
 
 -- What has happened at a client that has asked so.
 abbrev pub HasAsked : Values → Asking → EndLog → Type 0
-HasAsked values (AsksOne message) end = IsFetching values message end
-HasAsked values (AsksSeveral asked) end = IsFetchingSeveral values asked end
+HasAsked values (AsksOne message wide) end = IsFetching values message wide end
+HasAsked values (AsksSeveral asked wide) end = IsFetchingSeveral values wide asked end
 
 -- Whose credit may be returned on one stream alone: that of several requests.
 abbrev pub AllowsCredit : Credit → Asking → Type 0
-AllowsCredit (On id) (AsksOne message) = ⊥
+AllowsCredit (On id) (AsksOne message wide) = ⊥
 AllowsCredit credit asking = Unit {0}
 
 -- how a call that releases credit on a stream is answered
@@ -56,11 +57,12 @@ pub data ReleasesOn (end : EndLog) (id : ℕ) (result : Result (Unit {0}) EndRef
       → after ≡ end_with_log end (with_call end.log (Release id (owed end.log id)) answer)
       → ReleasesOn end id result after
 
--- what returning credit may have made of a client
+-- what returning credit may have made of a client; nothing where it is kept
 -- rule: engines (own) A response that is waited for has its window, and no other
 abbrev pub MayReturnCredit : Credit → EndLog → Result (Unit {0}) EndRefusal → EndLog → Type 0
 MayReturnCredit All end result after = MayReleaseAll end result after
 MayReturnCredit (On id) end result after = ReleasesOn end id result after
+MayReturnCredit Kept end result after = (result ≡ Ok tt) × (after ≡ end)
 
 -- Whatever has happened at a client, this credit is returned while the connection is up.
 abbrev pub ReturnsCredit : Credit → (old new : End) → Result (Unit {0}) EndRefusal → Type 0
@@ -109,12 +111,22 @@ StopsSending now end (Err errors.Memory) = IsOutOfMemory end.log
 StopsSending now end (Err errors.NoProgress) = HasStalled now end
 StopsSending now end result = Unit {0}
 
+-- This credit was returned since, and what waits was sent, before anything else: the calls of that
+-- are among those that were made.
+-- rule: engines (own) A response that is waited for has its window, and no other
+pub record HasReturned (credit : Credit) (before after : EndLog) : Type 0 where
+  pub first : EndLog
+  pub result : Result (Unit {0}) LinkError
+  pub sent : HasSentWaiting credit before first result
+  pub on : IsSameOfMessages first after
+
 -- Credit was returned, what could go of the request was sent, and all of that was written, or as
 -- far as it went.
-pub record SentOver (values : Values) (asking : Asking) (start now : Traffic)
+pub record SentOver (credit : Credit) (values : Values) (asking : Asking) (start now : Traffic)
     (before : EndLog) (new : End) (unused : List ℕ) (result : Result (Unit {0}) LinkError) : Type 0
   where
     pub after : EndLog
+    pub returned : HasReturned credit before after
     pub asks : HasAsked values asking after
     pub represents : EndRepresents values new after
     pub same : IsSameOfMessages before after
@@ -129,4 +141,4 @@ SendsAllOver credit before now old new result =
     (values : Values) (asking : Asking) (start : Traffic) (end : EndLog) (unused : List ℕ)
     → EndRepresents values old end → HasAsked values asking end → AllowsCredit credit asking
     → IsLinked start before end.log unused → end.log.failed ≡ None
-    → SentOver values asking start now end new unused result
+    → SentOver credit values asking start now end new unused result

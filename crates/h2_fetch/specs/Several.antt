@@ -1,5 +1,5 @@
 -- What has happened at a client that makes several requests, and what it answers of each response.
-use Rattle.std.specs.Prelude.{◌≡◌, ◌≢◌, ◌==◌, ℕ, List, [], ◌∷◌, ◌++◌, drop, map, if◌then◌else◌}
+use Rattle.std.specs.Prelude.{◌≡◌, ◌≢◌, ◌==◌, ◌+◌, ℕ, List, [], ◌∷◌, ◌++◌, drop, map, if◌then◌else◌}
 use Rattle.std.specs.Prelude.{false, Some, None, Result, Ok, Err}
 use Rattle.std.specs.List.{Contains}
 use Rattle.h2_spec_log.specs.declared.role.Role.TheVariants.{Client}
@@ -19,6 +19,7 @@ use Rattle.h2_ends.specs.EndCalls.{MayRequest, MayPump, MayReleaseAll}
 use Rattle.h2_ends.specs.Represents.{EndRepresents, new_end_log}
 use Rattle.h2_link.specs.declared.error.LinkError.{LinkError}
 use Rattle.h2_link.specs.declared.error.LinkError.TheVariants as errors
+use Rattle.h2_engines.specs.ClientHistories.{widened_by}
 use Rattle.h2_engines.specs.Failures.{IsOutOfMemory, error_after}
 use Rattle.h2_engines.specs.Fetches.{WasDropped, refused_stream}
 use Rattle.h2_engines.specs.Linked.{Traffic, HasGiven, IsLinked, IsLinkedInPart, HasStalled}
@@ -35,36 +36,37 @@ AskedOn = ℕ × SentMessage
 
 -- What has happened at a client since it was new: it made these requests, the first one first, and
 -- each was accepted; it took octets, released, pumped and gave out, and widened the window of the
--- connection.
+-- connection, by so much in all.
 -- rule: engines (own) Responses of several requests are what is handed out, each in order
-pub data IsFetchingSeveral (values : Values) : List AskedOn → EndLog → Type 0 where
-  begins : AreInRange values → IsFetchingSeveral values [] (new_end_log Client values)
-  requests : {asked : List AskedOn} {end after : EndLog} → IsFetchingSeveral values asked end
-      → (id : ℕ) (message : SentMessage) → MayRequest end message (Ok id) after
-      → IsFetchingSeveral values (asked ++ (id, message) ∷ []) after
-  takes : {asked : List AskedOn} {end after : EndLog} → IsFetchingSeveral values asked end
-      → (piece : List ℕ) (answer : EndAnswer) → EndMayTake end piece answer after
-      → IsFetchingSeveral values asked after
-  releases : {asked : List AskedOn} {end after : EndLog} → IsFetchingSeveral values asked end
-      → (result : Result (Unit {0}) EndRefusal) → MayReleaseAll end result after
-      → IsFetchingSeveral values asked after
-  releases_on : {asked : List AskedOn} {end : EndLog} → IsFetchingSeveral values asked end
-      → (id count : ℕ) (answer : Answer) → IsTypedAct (Release id count)
-      → MayAnswer end.log (Release id count) answer
-      → IsFetchingSeveral values asked
+pub data IsFetchingSeveral (values : Values) : (wide : ℕ) → List AskedOn → EndLog → Type 0 where
+  begins : AreInRange values → IsFetchingSeveral values 0 [] (new_end_log Client values)
+  requests : {wide : ℕ} {asked : List AskedOn} {end after : EndLog}
+      → IsFetchingSeveral values wide asked end → (id : ℕ) (message : SentMessage)
+      → MayRequest end message (Ok id) after
+      → IsFetchingSeveral values wide (asked ++ (id, message) ∷ []) after
+  takes : {wide : ℕ} {asked : List AskedOn} {end after : EndLog}
+      → IsFetchingSeveral values wide asked end → (piece : List ℕ) (answer : EndAnswer)
+      → EndMayTake end piece answer after → IsFetchingSeveral values wide asked after
+  releases : {wide : ℕ} {asked : List AskedOn} {end after : EndLog}
+      → IsFetchingSeveral values wide asked end → (result : Result (Unit {0}) EndRefusal)
+      → MayReleaseAll end result after → IsFetchingSeveral values wide asked after
+  releases_on : {wide : ℕ} {asked : List AskedOn} {end : EndLog}
+      → IsFetchingSeveral values wide asked end → (id count : ℕ) (answer : Answer)
+      → IsTypedAct (Release id count) → MayAnswer end.log (Release id count) answer
+      → IsFetchingSeveral values wide asked
       (end_with_log end (with_call end.log (Release id count) answer))
-  pumps : {asked : List AskedOn} {end after : EndLog} → IsFetchingSeveral values asked end
-      → (result : Result ℕ EndRefusal) → MayPump end result after
-      → IsFetchingSeveral values asked after
-  gives_out : {asked : List AskedOn} {end : EndLog} → IsFetchingSeveral values asked end
-      → (count : ℕ) (answer : Answer) → IsTypedAct (PutOut count)
-      → MayAnswer end.log (PutOut count) answer
-      → IsFetchingSeveral values asked
+  pumps : {wide : ℕ} {asked : List AskedOn} {end after : EndLog}
+      → IsFetchingSeveral values wide asked end → (result : Result ℕ EndRefusal)
+      → MayPump end result after → IsFetchingSeveral values wide asked after
+  gives_out : {wide : ℕ} {asked : List AskedOn} {end : EndLog}
+      → IsFetchingSeveral values wide asked end → (count : ℕ) (answer : Answer)
+      → IsTypedAct (PutOut count) → MayAnswer end.log (PutOut count) answer
+      → IsFetchingSeveral values wide asked
       (end_with_log end (with_call end.log (PutOut count) answer))
-  widens : {asked : List AskedOn} {end : EndLog} → IsFetchingSeveral values asked end
-      → (count : ℕ) (answer : Answer) → IsTypedAct (Widen count)
-      → MayAnswer end.log (Widen count) answer
-      → IsFetchingSeveral values asked
+  widens : {wide : ℕ} {asked : List AskedOn} {end : EndLog}
+      → IsFetchingSeveral values wide asked end → (count : ℕ) (answer : Answer)
+      → IsTypedAct (Widen count) → MayAnswer end.log (Widen count) answer
+      → IsFetchingSeveral values (wide + widened_by count answer) asked
       (end_with_log end (with_call end.log (Widen count) answer))
 
 -- the octets that were read and not used yet
@@ -117,13 +119,14 @@ AreDropped end kept =
     (id code : ℕ) → Contains kept (id, Dropped code) → WasDropped end id code
 
 -- A client with these values, at which this has happened, fetches: its messages were accepted, the
--- connection is up, it has used all octets that the link gave since then but those that it keeps,
--- the link took all that it has given out, and of each stream that it asked on this was answered
--- and that is kept: all that has come there, in order.
+-- connection is up, its window was widened by so much in all, the client has used all octets that
+-- the link gave since then but those that it keeps, the link took all that it has given out, and of
+-- each stream that it asked on this was answered and that is kept: all that has come there, in
+-- order.
 -- rule: engines (own) Responses of several requests are what is handed out, each in order
-pub record AreComing (values : Values) (start now : Traffic) (asked : List AskedOn)
+pub record AreComing (values : Values) (wide : ℕ) (start now : Traffic) (asked : List AskedOn)
     (fetch : SeveralFetch) (end : EndLog) (answered : AnsweredOn) : Type 0 where
-  pub fetching : IsFetchingSeveral values asked end
+  pub fetching : IsFetchingSeveral values wide asked end
   pub represents : EndRepresents values fetch.client.end end
   pub streams : fetch.ids.items ≡ map (λ one. one.0) asked
   pub accepted : (id : ℕ) (message : SentMessage) → Contains asked (id, message)
@@ -139,7 +142,7 @@ pub record AreComing (values : Values) (start now : Traffic) (asked : List Asked
 abbrev pub BeginsSeveral : Values → (messages : List SentMessage) → SeveralFetch → Type 0
 BeginsSeveral values messages fetch =
     (asked : List AskedOn) × (end : EndLog) × (map (λ one. one.1) asked ≡ messages)
-    × ((start : Traffic) → AreComing values start start asked fetch end (λ id. []))
+    × ((start : Traffic) → AreComing values 0 start start asked fetch end (λ id. []))
 
 -- how a fetch ends whose request was refused for this
 abbrev pub error_of_request : EndRefusal → LinkError
@@ -154,7 +157,7 @@ pub data RefusesOne (values : Values) (messages : List SentMessage) (error : Lin
     refuses : (asked : List AskedOn) (message : SentMessage) (more : List SentMessage)
         (end after : EndLog) (refusal : EndRefusal)
         → messages ≡ map (λ one. one.1) asked ++ message ∷ more
-        → IsFetchingSeveral values asked end → MayRequest end message (Err refusal) after
+        → IsFetchingSeveral values 0 asked end → MayRequest end message (Err refusal) after
         → error ≡ error_of_request refusal → RefusesOne values messages error
     lacks_memory : error ≡ errors.Memory → RefusesOne values messages error
 
@@ -171,12 +174,13 @@ StopsAllFor start now end errors.Device = Unit {0}
 StopsAllFor start now end errors.Refused = ⊥
 
 -- The fetch has ended early, with this error: the octets that the client has used are the first
--- that the link gave, the link took the first of its output, and of each stream this was answered,
--- that is kept, and the last of it lost: none but where memory was refused.
+-- that the link gave, the link took the first of its output, the connection's window was widened by
+-- so much in all, and of each stream this was answered, that is kept, and the last of it lost: none
+-- but where memory was refused.
 -- rule: engines (own) Responses of several requests are what is handed out, each in order
-pub record HaveStopped (values : Values) (start now : Traffic) (asked : List AskedOn)
+pub record HaveStopped (values : Values) (wide : ℕ) (start now : Traffic) (asked : List AskedOn)
     (fetch : SeveralFetch) (end : EndLog) (answered : AnsweredOn) (error : LinkError) : Type 0 where
-  pub fetching : IsFetchingSeveral values asked end
+  pub fetching : IsFetchingSeveral values wide asked end
   pub represents : EndRepresents values fetch.client.end end
   pub linked : IsLinkedInPart start now end.log
   pub lost : AnsweredOn
@@ -187,15 +191,14 @@ pub record HaveStopped (values : Values) (start now : Traffic) (asked : List Ask
 
 -- what was answered of a stream, or how the fetch has ended early
 -- rule: engines (own) Responses of several requests are what is handed out, each in order
-unfoldable pub CameSo : Values → (start now : Traffic) → List AskedOn → SeveralFetch → ℕ →
-    AnsweredOn
-    → Result Came LinkError → Type 0
-CameSo values start now asked fetch id answered (Ok came) =
+unfoldable pub CameSo : Values → (wide : ℕ) → (start now : Traffic) → List AskedOn → SeveralFetch
+    → ℕ → AnsweredOn → Result Came LinkError → Type 0
+CameSo values wide start now asked fetch id answered (Ok came) =
     (after : EndLog)
-    × AreComing values start now asked fetch after (answered_next answered id came)
+    × AreComing values wide start now asked fetch after (answered_next answered id came)
     × ((code : ℕ) → came ≡ Dropped code → WasDropped after id code)
-CameSo values start now asked fetch id answered (Err error) =
-    (after : EndLog) × HaveStopped values start now asked fetch after answered error
+CameSo values wide start now asked fetch id answered (Err error) =
+    (after : EndLog) × HaveStopped values wide start now asked fetch after answered error
 
 -- Whatever has happened at a client that fetches, the next part of the response on this stream is
 -- asked for.
@@ -203,7 +206,7 @@ CameSo values start now asked fetch id answered (Err error) =
 abbrev pub AnswersNextOn : (before now : Traffic) → (old new : SeveralFetch) → ℕ
     → Result Came LinkError → Type 0
 AnswersNextOn before now old new id result =
-    (values : Values) (start : Traffic) (asked : List AskedOn) (end : EndLog)
+    (values : Values) (wide : ℕ) (start : Traffic) (asked : List AskedOn) (end : EndLog)
     (answered : AnsweredOn) → Contains old.ids.items id
-    → AreComing values start before asked old end answered
-    → CameSo values start now asked new id answered result
+    → AreComing values wide start before asked old end answered
+    → CameSo values wide start now asked new id answered result

@@ -12,6 +12,9 @@ use Rattle.h2_engines.specs.Linked.{Traffic, IsLinked, IsOutOfRounds}
 use Rattle.h2_engines.specs.ServerSteps.{error_with}
 use Rattle.h2_fetch.specs.declared.several.Came.{Came}
 use Rattle.h2_fetch.specs.declared.several.SeveralFetch.{SeveralFetch}
+use Rattle.h2_fetch.specs.declared.sending.Credit.TheVariants.{On}
+use Rattle.h2_fetch.specs.Credits.{credit_before}
+use Rattle.h2_fetch.specs.Sends.{HasReturned}
 use Rattle.h2_fetch.specs.Several.{AnsweredOn, AreComing, AskedOn, CameSo, HaveStopped, all_on}
 use Rattle.h2_fetch.specs.Several.{IsFetchingSeveral, kept_on, several_unused}
 
@@ -25,9 +28,9 @@ pub data TakesNoneMore (end : EndLog) (lost : AnsweredOn) (error : LinkError) : 
       → ((id : ℕ) → lost id ≡ []) → TakesNoneMore end lost error
 
 -- A client has taken its last octets.
-pub record HaveTakenLast (values : Values) (start now : Traffic) (asked : List AskedOn)
+pub record HaveTakenLast (values : Values) (wide : ℕ) (start now : Traffic) (asked : List AskedOn)
     (fetch : SeveralFetch) (end : EndLog) (answered : AnsweredOn) (error : LinkError) : Type 0 where
-  pub fetching : IsFetchingSeveral values asked end
+  pub fetching : IsFetchingSeveral values wide asked end
   pub represents : EndRepresents values fetch.client.end end
   pub unused : List ℕ
   pub linked : IsLinked start now end.log unused
@@ -37,48 +40,50 @@ pub record HaveTakenLast (values : Values) (start now : Traffic) (asked : List A
   pub why : TakesNoneMore end lost error
 
 -- what came of the octets that were read: something on a stream, or none, where none is kept
-unfoldable pub TookCame : Values → (start now : Traffic) → List AskedOn → SeveralFetch → ℕ
-    → (before : EndLog) → AnsweredOn → Result (Option Came) LinkError → Type 0
-TookCame values start now asked fetch id before answered (Ok (Some came)) =
-    CameSo values start now asked fetch id answered (Ok came)
-TookCame values start now asked fetch id before answered (Ok None) =
-    (after : EndLog) × AreComing values start now asked fetch after answered
+unfoldable pub TookCame : Values → (wide : ℕ) → (start now : Traffic) → List AskedOn → SeveralFetch
+    → ℕ → (before : EndLog) → AnsweredOn → Result (Option Came) LinkError → Type 0
+TookCame values wide start now asked fetch id before answered (Ok (Some came)) =
+    CameSo values wide start now asked fetch id answered (Ok came)
+TookCame values wide start now asked fetch id before answered (Ok None) =
+    (after : EndLog) × AreComing values wide start now asked fetch after answered
     × (kept_on id fetch.kept.items ≡ []) × (several_unused fetch ≡ [])
     × (length before.log.turns ≤ length after.log.turns)
-TookCame values start now asked fetch id before answered (Err error) =
-    (after : EndLog) × HaveTakenLast values start now asked fetch after answered error
+TookCame values wide start now asked fetch id before answered (Err error) =
+    (after : EndLog) × HaveTakenLast values wide start now asked fetch after answered error
 
 -- Whatever has happened at a client that fetches and keeps nothing of a stream, it takes what was
 -- read until something has come there.
 abbrev pub TakesUntilCame : (old new : SeveralFetch) → ℕ → Result (Option Came) LinkError → Type 0
 TakesUntilCame old new id result =
-    (values : Values) (start now : Traffic) (asked : List AskedOn) (end : EndLog)
-    (answered : AnsweredOn) → AreComing values start now asked old end answered
+    (values : Values) (wide : ℕ) (start now : Traffic) (asked : List AskedOn) (end : EndLog)
+    (answered : AnsweredOn) → AreComing values wide start now asked old end answered
     → kept_on id old.kept.items ≡ []
-    → TookCame values start now asked new id end answered result
+    → TookCame values wide start now asked new id end answered result
 
 -- A piece was read, in a turn at least, or the fetch has ended early; nothing was handed out.
-unfoldable pub FilledSo : Values → (start now : Traffic) → List AskedOn → SeveralFetch
-    → (before : EndLog) → AnsweredOn → Result (Unit {0}) LinkError → Type 0
-FilledSo values start now asked fetch before answered (Ok done) =
-    (after : EndLog) × AreComing values start now asked fetch after answered
+unfoldable pub FilledSo : Values → (wide : ℕ) → (start now : Traffic) → List AskedOn → SeveralFetch
+    → (before after : EndLog) → AnsweredOn → Result (Unit {0}) LinkError → Type 0
+FilledSo values wide start now asked fetch before after answered (Ok done) =
+    AreComing values wide start now asked fetch after answered
     × (length before.log.turns < length after.log.turns)
-FilledSo values start now asked fetch before answered (Err error) =
-    (after : EndLog) × HaveStopped values start now asked fetch after answered error
+FilledSo values wide start now asked fetch before after answered (Err error) =
+    HaveStopped values wide start now asked fetch after answered error
 
-abbrev pub FillsSeveral : (before now : Traffic) → (old new : SeveralFetch)
+abbrev pub FillsSeveral : (before now : Traffic) → (old new : SeveralFetch) → (id : ℕ)
     → Result (Unit {0}) LinkError → Type 0
-FillsSeveral before now old new result =
-    (values : Values) (start : Traffic) (asked : List AskedOn) (end : EndLog)
-    (answered : AnsweredOn) → AreComing values start before asked old end answered
+FillsSeveral before now old new id result =
+    (values : Values) (wide : ℕ) (start : Traffic) (asked : List AskedOn) (end : EndLog)
+    (answered : AnsweredOn) → AreComing values wide start before asked old end answered
     → several_unused old ≡ []
-    → FilledSo values start now asked new end answered result
+    → (after : EndLog)
+    × HasReturned (credit_before end.log id (length old.input.items) (On id)) end after
+    × FilledSo values wide start now asked new end after answered result
 
 -- The next of a stream is asked for of which nothing is kept.
 abbrev pub WaitsFor : (before now : Traffic) → (old new : SeveralFetch) → ℕ
     → Result Came LinkError → Type 0
 WaitsFor before now old new id result =
-    (values : Values) (start : Traffic) (asked : List AskedOn) (end : EndLog)
-    (answered : AnsweredOn) → AreComing values start before asked old end answered
+    (values : Values) (wide : ℕ) (start : Traffic) (asked : List AskedOn) (end : EndLog)
+    (answered : AnsweredOn) → AreComing values wide start before asked old end answered
     → kept_on id old.kept.items ≡ []
-    → CameSo values start now asked new id answered result
+    → CameSo values wide start now asked new id answered result

@@ -13,7 +13,7 @@ ghost use Rattle.h2_fetch.specs.Takes.{TakesPartOnce, part_in};
 
 use crate::errors::{error_of_refusal, unless_failed};
 use crate::part::{ResponsePart, part_of};
-use crate::reading::read_piece;
+use crate::reading::{credit_before, read_piece};
 use crate::sending::{Credit, end_early};
 use h2_ends::{Client, Code, Config, Conn, EndEvent, EndRefusal, Message, Refusal};
 use h2_link::{Link, LinkError};
@@ -21,7 +21,8 @@ use std::alloc::Global;
 
 /// A client that makes one request over a link and returns its response part by part. It keeps
 /// one piece of the input, and returns credit to the server only once the next piece is to be
-/// read.
+/// read: all that is owed, or, if the last read filled its 16,384 octets, none until it is half of
+/// the window of the stream or of the connection.
 #[derive(Drop)]
 pub struct PartFetch {
     pub(crate) alloc: Global,
@@ -101,7 +102,7 @@ impl PartFetch {
 
     // contract: 6.9.2 (own) The window of the connection is widened by a call, for good
     /// Lets the server send `count` octets more on the connection, for good: see [`Conn::widen`].
-    /// Called before [`PartFetch::next`], it is sent with the request.
+    /// If it is called before [`PartFetch::next`], its WINDOW_UPDATE is sent with the request.
     ///
     /// # Errors
     ///
@@ -116,9 +117,10 @@ impl PartFetch {
 
     // contract: engines (own) A response in parts is what is handed out, in order
     // rule: engines (own) A response in parts is what is handed out, in order
-    /// Returns the next part of the response. If no further part has come yet, sends
-    /// WINDOW_UPDATE for all credit that is owed, writes what waits, and then reads the link.
-    /// Don't call it after the part that ends the response, nor with a link that has failed.
+    /// Returns the next part of the response. If no further part has come yet, returns credit as
+    /// [`PartFetch`] says, writes what waits, and then reads the link.
+    /// Don't call it after the part that ends the response, after N3, N5 or N6, nor with a link
+    /// that has failed.
     ///
     /// # Errors
     ///
@@ -182,8 +184,10 @@ impl PartFetch {
         ensures failures { L.faults link.new ≡ failures_at_end (L.faults link.old) result }
         ensures stream { self.new.id ≡ self.old.id }
     {
+        let last = self.input.len();
+        let credit = credit_before(self.client.conn(), self.id, last, Credit::All);
         self.used = 0;
-        read_piece(&mut self.client, Credit::All, &mut self.input, link)
+        read_piece(&mut self.client, credit, &mut self.input, link)
     }
 
     /// Ends a fetch with this error. Where the connection has failed, writes what waits first.

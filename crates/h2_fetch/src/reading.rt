@@ -3,14 +3,44 @@
 ghost use Rattle.std.specs.Prelude.{◌≡◌, ◌<◌, ◌-◌, ◌^◌};
 ghost use Rattle.h2_engines.specs.Failures.{CutsOffAtEnd, failures_at_end};
 ghost use Rattle.h2_engines.specs.Linked.{traffic};
+ghost use Rattle.h2_fetch.specs.Credits.{credit_before, is_due_in};
 ghost use Rattle.h2_fetch.specs.Reads.{ReadsOver};
+ghost use Rattle.h2_spec_log.specs.Acts.{Values};
+ghost use Rattle.h2_spec_log.specs.Log.{Log};
+ghost use Rattle.h2_conn.specs.Conn.{ConnRepresents};
 
 use crate::sending::{Credit, send_all};
-use h2_ends::Client;
+use h2_ends::{Client, Conn};
+use h2_flow::is_credit_due;
 use h2_link::{Link, LinkError};
 
 /// The length of a read in octets, at most.
 const PIECE: usize = 16_384;
+
+// rule: 6.9 (own) Credit is returned by half of a window
+/// The credit that is returned before a read: this, or none, if the last read filled its room with
+/// `last` octets, so that more is there, and what is owed on the stream is less than half of its
+/// window and of the connection's.
+pub(crate) fn credit_before(conn: &Conn, id: u32, last: usize, credit: Credit) -> Credit
+    ensures { (values : Values) (log : Log) → ConnRepresents values conn.now log
+        → result ≡ credit_before log id last credit }
+{
+    let owed = i64::from(conn.owed(id));
+    if last < PIECE || is_due_in(conn.peer_room(id), owed) || is_due_in(conn.peer_room(0), owed) {
+        return credit;
+    }
+    Credit::Kept
+}
+
+/// Whether credit for so many octets is due in a window, if there is one.
+fn is_due_in(left: Option<i64>, owed: i64) -> bool
+    ensures { result ≡ is_due_in left owed }
+{
+    match left {
+        Some(left) => is_credit_due(owed, left),
+        None => false,
+    }
+}
 
 /// Returns this credit, sends what can go, and reads a piece in place of the one before, which
 /// was used completely.

@@ -21,6 +21,8 @@ pub(crate) enum Credit {
     All,
     /// What is owed on this stream.
     On(u32),
+    /// None: it is kept for a later read.
+    Kept,
 }
 
 // rule: engines (own) Over a link credit is returned and what could be sent is sent
@@ -68,11 +70,12 @@ fn send_waiting(client: &mut Client, credit: Credit) -> Result<(), LinkError>
 }
 
 // rule: engines (own) A response that is waited for has its window, and no other
-/// Returns all credit that is owed, or that of one stream.
+/// Returns all credit that is owed, that of one stream, or none.
 fn return_credit(client: &mut Client, credit: Credit) -> Result<(), EndRefusal>
     ensures { ReturnsCredit credit client.old.end client.new.end result }
 {
     match credit {
+        Credit::Kept => Ok(()),
         Credit::All => client.release_all(),
         Credit::On(id) => {
             let owed = client.conn().owed(id);

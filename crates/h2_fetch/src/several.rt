@@ -12,7 +12,7 @@ use crate::asking::request_next;
 use crate::coming::{CameNext, take_came, without_empty};
 use crate::kept::{keep, take_kept};
 use crate::part::ResponsePart;
-use crate::reading::read_piece;
+use crate::reading::{credit_before, read_piece};
 use crate::sending::{Credit, end_early};
 use h2_ends::{Client, Config, Conn, Message, Refusal};
 use h2_link::{Link, LinkError};
@@ -116,7 +116,8 @@ impl SeveralFetch {
 
     // contract: 6.9.2 (own) The window of the connection is widened by a call, for good
     /// Lets the server send `count` octets more on the connection, for good: see [`Conn::widen`].
-    /// Called before [`SeveralFetch::next_on`], it is sent with the requests.
+    /// If it is called before [`SeveralFetch::next_on`], its WINDOW_UPDATE is sent with the
+    /// requests.
     ///
     /// # Errors
     ///
@@ -132,8 +133,9 @@ impl SeveralFetch {
     // contract: engines (own) Responses of several requests are what is handed out, each in order
     // rule: engines (own) Responses of several requests are what is handed out, each in order
     /// Returns what came next on a stream of [`SeveralFetch::streams`]. If nothing is kept of
-    /// it, sends WINDOW_UPDATE for the credit that is owed on that stream, writes what waits,
-    /// and then reads the link. Don't call it after the part that ends the response, after
+    /// it, returns the credit that is owed on that stream (after a read that filled its 16,384
+    /// octets only once it is half of the window of the stream or of the connection), writes what
+    /// waits, and then reads the link. Don't call it after the part that ends the response, after
     /// [`Came::Dropped`], after N3 or N5, nor with a link that has failed.
     ///
     /// # Errors
@@ -211,14 +213,15 @@ impl SeveralFetch {
         ensures fills { FillsSeveral
             (traffic (L.given link.old) (L.taken link.old) (L.stalled link.old))
             (traffic (L.given link.new) (L.taken link.new) (L.stalled link.new))
-            self.old self.new result }
+            self.old self.new id result }
         ensures cut_off { CutsOffAtEnd result (L.ended link.new) }
         ensures failures { L.faults link.new ≡ failures_at_end (L.faults link.old) result }
         ensures streams { self.new.ids ≡ self.old.ids }
         ensures kept { self.new.kept ≡ self.old.kept }
     {
+        let last = self.input.len();
+        let credit = credit_before(self.client.conn(), id, last, Credit::On(id));
         self.used = 0;
-        let credit = Credit::On(id);
         read_piece(&mut self.client, credit, &mut self.input, link)
     }
 }

@@ -1,2 +1,3 @@
 -- The lemmas of settings and windows.
 pub mod Rules
+pub mod examples

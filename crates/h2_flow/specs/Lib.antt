@@ -1,4 +1,5 @@
 pub mod ConfigValues
 pub mod Configs
+pub mod Credit
 pub mod Settings
 pub mod Window

@@ -51,7 +51,7 @@ impl Config {
     /// - `table_limit` is the most octets of the header table of the peer's encoder, from 0 to
     ///   65,536.
     /// - `initial_window` is the window of a new stream in octets, from 1 to 2,147,483,647.
-    ///   Above 65,535 it is of no use until `widen` has made the connection's window as wide.
+    ///   Above 65,535 it is used only as far as `widen` has widened the connection's window.
     /// - `max_streams` is the most active streams at a server, from 100 to 1,000.
     ///
     /// # Errors

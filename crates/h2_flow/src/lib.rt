@@ -4,6 +4,7 @@
 #![tactic(auto)]
 
 mod config;
+mod credit;
 mod fault;
 mod ranges;
 mod settings;
@@ -11,6 +12,7 @@ mod stream_state;
 mod window;
 
 pub use config::{BadConfig, Config};
+pub use credit::is_credit_due;
 pub use fault::{BadSetting, Closed, Exceeded, Overflow};
 pub use ranges::values_in_range;
 pub use settings::Settings;

@@ -302,7 +302,7 @@ fn add_unchecked(bound: &InForce, is_noted: &mut bool, text: &mut Vec<u8>) -> Re
 }
 
 // rule (tested): follow (own) A hint says why a side may be at fault, or which line is bad
-// The hint for a side; after the line `not checked` a fault of it may not be one.
+// The hint for a side; after the line `not checked` what is reported as its fault may be none.
 fn hint_with(hint: Option<FollowHint>, is_noted: bool) -> Option<FollowHint> {
     match hint {
         Some(FollowHint::CutOff) => hint,

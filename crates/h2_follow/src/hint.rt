@@ -17,7 +17,8 @@ pub enum FollowHint {
     NoPreface,
     /// A frame is longer than the limit, and a greater one can be given.
     LongFrame,
-    /// SETTINGS allow a side more than this program supports, so a fault of it may not be one.
+    /// SETTINGS allow a side more than this program supports, so what is reported as its fault
+    /// may be none.
     NotChecked,
     /// A block leaves a larger table than the SETTINGS of the other side allow.
     Table,

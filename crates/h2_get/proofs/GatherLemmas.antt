@@ -18,7 +18,7 @@ use Rattle.h2_get.specs.Receives.{HeadComes, HeadComesSo, PassedSo, PassesBody, 
 pub no_rest : (at : Traffic) (fetch : PartFetch) (body : List ℕ)
     → GathersRest true at at fetch fetch body body (Ok None)
 unfolding GatheredRest body_handed
-no_rest at fetch body values message start first is = (
+no_rest at fetch body values message wide start first is = (
   first,
   [],
   (
@@ -35,30 +35,30 @@ module _ (before now : Traffic) (old new : PartFetch) (body body_now : List ℕ)
       → PassesBody before now old new (Some body) (Some body_now) (Ok trailers)
       → GathersRest false before now old new body body_now (Ok trailers)
   unfolding PassedSo GatheredRest
-  rest_gathered trailers passes values message start first is =
-      passes values message start first is
+  rest_gathered trailers passes values message wide start first is =
+      passes values message wide start first is
 
   -- or the fetch has ended early,
   pub rest_cut : (error : LinkError)
       → PassesBody before now old new (Some body) (Some body_now) (Err (passes.Link error))
       → GathersRest false before now old new body body_now (Err error)
   unfolding PassedSo GatheredRest
-  rest_cut error passes values message start first is =
-      let so = passes values message start first is in (so.0, so.1, inl so.2.0)
+  rest_cut error passes values message wide start first is =
+      let so = passes values message wide start first is in (so.0, so.1, inl so.2.0)
 
   -- or there was no memory for it.
   pub rest_lost : PassesBody before now old new (Some body) (Some body_now) (Err passes.Output)
       → GathersRest false before now old new body body_now (Err errors.Memory)
   unfolding PassedSo GatheredRest
-  rest_lost passes values message start first is =
-      let so = passes values message start first is in (so.0, so.1, inr (refl, so.2.0))
+  rest_lost passes values message wide start first is =
+      let so = passes values message wide start first is in (so.0, so.1, inr (refl, so.2.0))
 
 -- No head came.
 pub gathers_nothing : (before now : Traffic) (old new : PartFetch) (error : LinkError)
     → HeadComes before now old new (Err error) → Gathers before now old new (Err error)
 unfolding HeadComesSo GatheredSo
-gathers_nothing before now old new error answers values message start first is none =
-    let so = answers values message start first is in (so.0, inl so.2.0)
+gathers_nothing before now old new error answers values message wide start first is none =
+    let so = answers values message wide start first is in (so.0, inl so.2.0)
 
 module _ (before middle now : Traffic) (old self new : PartFetch) (head : ResponseHead)
     (stream : self.id ≡ old.id) (same : new.id ≡ self.id)
@@ -68,9 +68,9 @@ module _ (before middle now : Traffic) (old self new : PartFetch) (head : Respon
       → GathersRest head.end middle now self new [] body (Err error)
       → Gathers before now old new (Err error)
   unfolding HeadComesSo GatheredSo GatheredRest
-  gathers_no_rest error rest values message start first coming none =
-      let so = answers values message start first coming in
-      let next = rest values message start so.0 so.2.0 in (next.0, next.2)
+  gathers_no_rest error rest values message wide start first coming none =
+      let so = answers values message wide start first coming in
+      let next = rest values message wide start so.0 so.2.0 in (next.0, next.2)
 
   -- All of it was gathered.
   pub gathers_whole : (trailers : Option (Vec Field Global)) (fetched : Fetched)
@@ -78,9 +78,10 @@ module _ (before middle now : Traffic) (old self new : PartFetch) (head : Respon
       → fetched.interims.items ≡ [] → GathersRest head.end middle now self new [] body (Ok trailers)
       → Gathers before now old new (Ok fetched)
   unfolding HeadComesSo GatheredSo GatheredRest
-  gathers_whole trailers fetched is octets last none_kept rest values message start first coming none =
-      let so = answers values message start first coming in
-      let next = rest values message start so.0 so.2.0 in
+  gathers_whole trailers fetched is octets last none_kept rest values message wide start first
+      coming none =
+      let so = answers values message wide start first coming in
+      let next = rest values message wide start so.0 so.2.0 in
       let was : handed_on self.id first.handed ≡ [] = rw stream none in
       let came : handed_on self.id so.0.handed ≡ so.1 =
       so.2.1 ∙ ap (λ (first : List Handed). first ++ so.1) was in

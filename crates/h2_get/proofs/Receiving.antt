@@ -75,11 +75,11 @@ and_one id before middle after came one came_so then =
 
 -- The client fetches still, in each round a turn has passed at least, and these parts have come,
 -- for which something holds.
-pub record IsPassing (P : List Handed → Type 0) (values : Values) (message : SentMessage)
+pub record IsPassing (P : List Handed → Type 0) (values : Values) (message : SentMessage) (wide : ℕ)
     (start now : Traffic) (fetch : PartFetch) (before : EndLog) (rounds : ℕ) : Type 0 where
   pub after : EndLog
   pub came : List Handed
-  pub coming : IsComing values message start now fetch after
+  pub coming : IsComing values message wide start now fetch after
   pub handed : handed_on fetch.id after.handed ≡ handed_on fetch.id before.handed ++ came
   pub holds : P came
   pub turns : rounds + length before.log.turns ≤ length after.log.turns
@@ -88,13 +88,13 @@ pub record IsPassing (P : List Handed → Type 0) (values : Values) (message : S
 abbrev pub PassesOn : (P : List Handed → Type 0) → (before now : Traffic) → (old new : PartFetch)
     → (rounds : ℕ) → Type 0
 PassesOn P before now old new rounds =
-    (values : Values) (message : SentMessage) (start : Traffic) (end : EndLog)
-    → IsComing values message start before old end
-    → IsPassing P values message start now new end rounds
+    (values : Values) (message : SentMessage) (wide : ℕ) (start : Traffic) (end : EndLog)
+    → IsComing values message wide start before old end
+    → IsPassing P values message wide start now new end rounds
 
 pub passes_first : (P : List Handed → Type 0) (now : Traffic) (fetch : PartFetch) → P []
     → PassesOn P now now fetch fetch 0
-passes_first P now fetch holds values message start end is =
+passes_first P now fetch holds values message wide start end is =
     record {
       after = end;
       came = [];
@@ -111,9 +111,9 @@ module _ (P : List Handed → Type 0) (before middle now : Traffic) (old self ne
       → ((came : List Handed) → P came → Q (came ++ handed_of new.id part ∷ []))
       → AnswersNext middle now self new (Ok part) → PassesOn Q before now old new (rounds + 1)
   unfolding ComesSo
-  passes_one Q part holds answers values message start end is =
-      let go = on values message start end is in
-      let next = answers values message start go.after go.coming in
+  passes_one Q part holds answers values message wide start end is =
+      let go = on values message wide start end is in
+      let next = answers values message wide start go.after go.coming in
       record {
         after = next.0;
         came = go.came ++ handed_of new.id part ∷ [];
@@ -126,27 +126,27 @@ module _ (P : List Handed → Type 0) (before middle now : Traffic) (old self ne
 
   -- or the fetch has ended early.
   pub stops_after : (error : LinkError) → AnswersNext middle now self new (Err error)
-      → (values : Values) (message : SentMessage) (start : Traffic) (end : EndLog)
-      → IsComing values message start before old end
-      → (after : EndLog) × (came : List Handed) × HasStopped values message start now new after
-      error
+      → (values : Values) (message : SentMessage) (wide : ℕ) (start : Traffic) (end : EndLog)
+      → IsComing values message wide start before old end
+      → (after : EndLog) × (came : List Handed)
+      × HasStopped values message wide start now new after error
       × HandsSince new.id end after came error × P came
   unfolding ComesSo
-  stops_after error answers values message start end is =
-      let go = on values message start end is in
-      let next = answers values message start go.after go.coming in
+  stops_after error answers values message wide start end is =
+      let go = on values message wide start end is in
+      let next = answers values message wide start go.after go.coming in
       (next.0, go.came, next.1.0, since (rw stream go.handed) next.1.1, go.holds)
 
 -- There were as many rounds as may be.
 pub no_round_left : (P : List Handed → Type 0) (before now : Traffic) (old new : PartFetch)
     (rounds : ℕ) → 2 ^ 64 - 1 ≤ rounds → PassesOn P before now old new rounds
-    → (values : Values) (message : SentMessage) (start : Traffic) (end : EndLog)
-    → IsComing values message start before old end
+    → (values : Values) (message : SentMessage) (wide : ℕ) (start : Traffic) (end : EndLog)
+    → IsComing values message wide start before old end
     → (after : EndLog) × (came : List Handed)
-    × HasStopped values message start now new after errors.NoProgress
+    × HasStopped values message wide start now new after errors.NoProgress
     × HandsSince new.id end after came errors.NoProgress × P came
-no_round_left P before now old new rounds all on values message start end is =
-    let go = on values message start end is in (
+no_round_left P before now old new rounds all on values message wide start end is =
+    let go = on values message wide start end is in (
       go.after,
       go.came,
       record {
@@ -203,11 +203,11 @@ module _ (before middle now : Traffic) (old self new : PartFetch) (rounds : ℕ)
       → PassesPart part written written_now (Ok (Whole trailers))
       → PassesBody before now old new start written_now (Ok trailers)
   unfolding PassedSo passes_one
-  passed_whole trailers passes values message first end is =
-      let go = on values message first end is in
+  passed_whole trailers passes values message wide first end is =
+      let go = on values message wide first end is in
       let one = passes_one (Written start written) before middle now old self new rounds on stream
       (Written start written_now) part (writes_one new.id start written written_now part passes.0)
-      answers values message first end is in (
+      answers values message wide first end is in (
         one.after,
         one.came,
         (
@@ -223,9 +223,9 @@ module _ (before middle now : Traffic) (old self new : PartFetch) (rounds : ℕ)
       → PassesPart part written written_now (Err error)
       → PassesBody before now old new start written_now (Err error)
   unfolding PassedSo ComesSo
-  passed_first error passes values message first end is =
-      let go = on values message first end is in
-      let next = answers values message first go.after go.coming in
+  passed_first error passes values message wide first end is =
+      let go = on values message wide first end is in
+      let next = answers values message wide first go.after go.coming in
       let one = handed_of new.id part in
       let xs = body_handed go.came in
       let ys = body_of_part part in
@@ -253,14 +253,15 @@ module _ (before middle now : Traffic) (old self new : PartFetch) (rounds : ℕ)
 -- The fetch has ended early.
 pub passed_stops : (before now : Traffic) (old new : PartFetch) (start written : Option (List ℕ))
     (error : LinkError)
-    → ((values : Values) (message : SentMessage) (first : Traffic) (end : EndLog)
-    → IsComing values message first before old end
-    → (after : EndLog) × (came : List Handed) × HasStopped values message first now new after error
+    → ((values : Values) (message : SentMessage) (wide : ℕ) (first : Traffic) (end : EndLog)
+    → IsComing values message wide first before old end
+    → (after : EndLog) × (came : List Handed)
+    × HasStopped values message wide first now new after error
     × HandsSince new.id end after came error × Written start written came)
     → PassesBody before now old new start written (Err (passes.Link error))
 unfolding PassedSo
-passed_stops before now old new start written error stops values message first end is =
-    let so = stops values message first end is in (so.0, so.1, (so.2, so.3, so.4))
+passed_stops before now old new start written error stops values message wide first end is =
+    let so = stops values message wide first end is in (so.0, so.1, (so.2, so.3, so.4))
 
 -- No head has come yet.
 pub no_head_first : HasNoHead []
@@ -298,9 +299,9 @@ module _ (before middle now : Traffic) (old self new : PartFetch) (rounds : ℕ)
   pub head_comes : (part : ResponsePart) (head : ResponseHead) → head_in part ≡ Some head
       → AnswersNext middle now self new (Ok part) → HeadComes before now old new (Ok head)
   unfolding ComesSo HeadComesSo
-  head_comes part head is answers values message start first coming =
-      let go = on values message start first coming in
-      let next = answers values message start go.after go.coming in
+  head_comes part head is answers values message wide start first coming =
+      let go = on values message wide start first coming in
+      let next = answers values message wide start go.after go.coming in
       let one = handed_of new.id part in (
         next.0,
         go.came ++ one ∷ [],
@@ -318,11 +319,12 @@ module _ (before middle now : Traffic) (old self new : PartFetch) (rounds : ℕ)
 
 -- or the fetch has ended early.
 pub head_stops : (before now : Traffic) (old new : PartFetch) (error : LinkError)
-    → ((values : Values) (message : SentMessage) (start : Traffic) (first : EndLog)
-    → IsComing values message start before old first
-    → (after : EndLog) × (came : List Handed) × HasStopped values message start now new after error
+    → ((values : Values) (message : SentMessage) (wide : ℕ) (start : Traffic) (first : EndLog)
+    → IsComing values message wide start before old first
+    → (after : EndLog) × (came : List Handed)
+    × HasStopped values message wide start now new after error
     × HandsSince new.id first after came error × HasNoHead came)
     → HeadComes before now old new (Err error)
 unfolding HeadComesSo
-head_stops before now old new error stops values message start first is =
-    let so = stops values message start first is in (so.0, so.1, (so.2, so.3, so.4))
+head_stops before now old new error stops values message wide start first is =
+    let so = stops values message wide start first is in (so.0, so.1, (so.2, so.3, so.4))

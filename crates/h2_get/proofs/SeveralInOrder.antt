@@ -28,15 +28,15 @@ abbrev pub PrintsFirst : GetWords → (before now : Traffic) → (old new : Seve
     → (written written_now : Option (List ℕ)) → (ids : List ℕ)
     → List (Result Fetched StreamError) → Type 0
 PrintsFirst words before now old new written written_now ids results =
-    (values : Values) (start : Traffic) (asked : List AskedOn) (end : EndLog)
-    → AreComing values start before asked old end (λ id. [])
+    (values : Values) (wide : ℕ) (start : Traffic) (asked : List AskedOn) (end : EndLog)
+    → AreComing values wide start before asked old end (λ id. [])
     → (answered : AnsweredOn) × PrintsSeveral words written ids written_now answered results
-    × GoesOnWith values start now asked new answered
+    × GoesOnWith values wide start now asked new answered
 
 -- At first none was.
 pub prints_first : (words : GetWords) (now : Traffic) (fetch : SeveralFetch)
     (written : Option (List ℕ)) → PrintsFirst words now now fetch fetch written written [] []
-prints_first words now fetch written values start asked end is =
+prints_first words now fetch written values wide start asked end is =
     ((λ id. []), prints_none, (end, is))
 
 -- All of them were.
@@ -45,9 +45,9 @@ pub prints_all : (words : GetWords) (before now : Traffic) (old new : SeveralFet
     (results : List (Result Fetched StreamError)) → old.ids.items ≡ ids → AllGoOn results
     → PrintsFirst words before now old new written written_now ids results
     → StreamsSeveral words before now old new written written_now results
-prints_all words before now old new written written_now ids results all good first values start
+prints_all words before now old new written written_now ids results all good first values wide start
     asked end is =
-    let so = first values start asked end is in (
+    let so = first values wide start asked end is in (
       ids,
       [],
       so.0,
@@ -67,11 +67,14 @@ over_some_link words before now old new written written_now (Ok results) so = (b
 over_some_link words before now old new written written_now (Err error) so = tt
 
 -- After a response that doesn't end all the client fetches still.
-goes_after : {values : Values} {start now : Traffic} {asked : List AskedOn} {fetch : SeveralFetch}
-    (answered : AnsweredOn) (id : ℕ) (came : List Handed) (result : Result Fetched StreamError)
+goes_after : {values : Values} {wide : ℕ} {start now : Traffic} {asked : List AskedOn}
+    {fetch : SeveralFetch} (answered : AnsweredOn) (id : ℕ) (came : List Handed)
+    (result : Result Fetched StreamError)
     → ends_all result ≡ false
-    → StandsAfter values start now asked fetch id (answered_more answered id (parts_came came)) result
-    → GoesOnWith values start now asked fetch (answered_more answered id (answered_for came result))
+    → StandsAfter values wide start now asked fetch id
+    (answered_more answered id (parts_came came)) result
+    → GoesOnWith values wide start now asked fetch
+    (answered_more answered id (answered_for came result))
 goes_after answered id came (Ok fetched) goes stands = stands
 goes_after answered id came (Err (streams.Link (errors.Reset code))) goes
     (all_stop after stopped) = absurd stopped.so
@@ -86,19 +89,22 @@ goes_after answered id came (Err (streams.Link error)) goes stands = absurd (cc)
 goes_after answered id came (Err error) goes stands = absurd (cc)
 
 -- After one that does, it stands so.
-ends_after : (values : Values) (start now : Traffic) (asked : List AskedOn) (fetch : SeveralFetch)
-    (answered : AnsweredOn) (id : ℕ) (came : List Handed) (result : Result Fetched StreamError)
+ends_after : (values : Values) (wide : ℕ) (start now : Traffic) (asked : List AskedOn)
+    (fetch : SeveralFetch) (answered : AnsweredOn) (id : ℕ) (came : List Handed)
+    (result : Result Fetched StreamError)
     → ends_all result ≡ true
-    → StandsAfter values start now asked fetch id (answered_more answered id (parts_came came)) result
-    → StandsAtEnd values start now asked fetch
+    → StandsAfter values wide start now asked fetch id
+    (answered_more answered id (parts_came came)) result
+    → StandsAtEnd values wide start now asked fetch
     (answered_more answered id (answered_for came result)) result
-ends_after values start now asked fetch answered id came (Ok fetched) ends stands = absurd (cc)
-ends_after values start now asked fetch answered id came (Err (streams.Link (errors.Reset code))) ends stands = absurd (cc)
-ends_after values start now asked fetch answered id came (Err (streams.Link error)) ends (all_stop after stopped) =
-    (after, stopped)
-ends_after values start now asked fetch answered id came (Err (streams.Link error)) ends
+ends_after values wide start now asked fetch answered id came (Ok fetched) ends stands = absurd (cc)
+ends_after values wide start now asked fetch answered id came
+    (Err (streams.Link (errors.Reset code))) ends stands = absurd (cc)
+ends_after values wide start now asked fetch answered id came (Err (streams.Link error)) ends
+    (all_stop after stopped) = (after, stopped)
+ends_after values wide start now asked fetch answered id came (Err (streams.Link error)) ends
     (one_is_dropped after code is coming dropped) = absurd (cc)
-ends_after values start now asked fetch answered id came (Err error) ends stands = stands
+ends_after values wide start now asked fetch answered id came (Err error) ends stands = stands
 
 module _ (words : GetWords) (before middle now : Traffic) (old self new : SeveralFetch)
     (written printed written_now : Option (List ℕ)) (place : ℕ)
@@ -110,20 +116,20 @@ module _ (words : GetWords) (before middle now : Traffic) (old self new : Severa
     (streams_on : StreamsOn words (place == 0) middle now self new (get_or read place 0) printed
     written_now result) where
   -- The next was printed, or has ended early.
-  prints_next : (values : Values) (start : Traffic) (asked : List AskedOn) (end : EndLog)
-      → AreComing values start before asked old end (λ id. [])
+  prints_next : (values : Values) (wide : ℕ) (start : Traffic) (asked : List AskedOn) (end : EndLog)
+      → AreComing values wide start before asked old end (λ id. [])
       → (answered : AnsweredOn) × (came : List Handed)
       × PrintsSeveral words written (take (place + 1) old.ids.items) written_now
       (answered_more answered (get_or read place 0) (answered_for came result))
       (results ++ result ∷ [])
-      × StandsAfter values start now asked new (get_or read place 0)
+      × StandsAfter values wide start now asked new (get_or read place 0)
       (answered_more answered (get_or read place 0) (parts_came came)) result
-  prints_next values start asked end is =
+  prints_next values wide start asked end is =
       let id = get_or read place 0 in
-      let so = first values start asked end is in
+      let so = first values wide start asked end is in
       let there : Contains self.ids.items id =
       rw (ids, same) (Contains-get_or old.ids.items place 0 within) in
-      let next = streams_on values start asked so.2.0 so.0 there so.2.1 in
+      let next = streams_on values wide start asked so.2.0 so.0 there so.2.1 in
       let after = answered_more so.0 id (answered_for next.0 result) in
       let prints : PrintsParts words (opening_of (length results == 0)) id next.0 printed
       written_now result =
@@ -145,9 +151,9 @@ module _ (words : GetWords) (before middle now : Traffic) (old self new : Severa
   pub prints_more : ends_all result ≡ false
       → PrintsFirst words before now old new written written_now (take (place + 1) old.ids.items)
       (results ++ result ∷ [])
-  prints_more goes values start asked end is =
+  prints_more goes values wide start asked end is =
       let id = get_or read place 0 in
-      let so = prints_next values start asked end is in (
+      let so = prints_next values wide start asked end is in (
         answered_more so.0 id (answered_for so.1 result),
         so.2,
         goes_after so.0 id so.1 result goes so.3,
@@ -159,14 +165,14 @@ module _ (words : GetWords) (before middle now : Traffic) (old self new : Severa
   -- or no more are printed.
   pub prints_last : ends_all result ≡ true
       → StreamsSeveral words before now old new written written_now (results ++ result ∷ [])
-  prints_last ends values start asked end is =
+  prints_last ends values wide start asked end is =
       let id = get_or read place 0 in
-      let so = prints_next values start asked end is in (
+      let so = prints_next values wide start asked end is in (
         take (place + 1) old.ids.items,
         drop (place + 1) old.ids.items,
         answered_more so.0 id (answered_for so.1 result),
         sym is.streams ∙ sym (take-append-drop (place + 1) old.ids.items),
         so.2,
-        last_ends results result ends (ends_after values start now asked new so.0 id so.1
+        last_ends results result ends (ends_after values wide start now asked new so.0 id so.1
             result ends so.3),
       )

@@ -50,10 +50,10 @@ abbrev pub IsSame : (one two : AnsweredOn) → Type 0
 IsSame one two = (i : ℕ) → one i ≡ two i
 
 -- A client fetches still where the same was answered.
-pub coming_same : {values : Values} {start now : Traffic} {asked : List AskedOn}
+pub coming_same : {values : Values} {wide : ℕ} {start now : Traffic} {asked : List AskedOn}
     {fetch : SeveralFetch} {end : EndLog} {one : AnsweredOn} (two : AnsweredOn) → IsSame one two
-    → AreComing values start now asked fetch end one
-    → AreComing values start now asked fetch end two
+    → AreComing values wide start now asked fetch end one
+    → AreComing values wide start now asked fetch end two
 coming_same {fetch = fetch} two same is =
     record {
       fetching = is.fetching;
@@ -68,11 +68,11 @@ coming_same {fetch = fetch} two same is =
     }
 
 -- So it is where the fetch has ended early.
-pub stopped_same : {values : Values} {start now : Traffic} {asked : List AskedOn}
+pub stopped_same : {values : Values} {wide : ℕ} {start now : Traffic} {asked : List AskedOn}
     {fetch : SeveralFetch} {end : EndLog} {one : AnsweredOn} {error : LinkError}
     (two : AnsweredOn) → IsSame one two
-    → HaveStopped values start now asked fetch end one error
-    → HaveStopped values start now asked fetch end two error
+    → HaveStopped values wide start now asked fetch end one error
+    → HaveStopped values wide start now asked fetch end two error
 stopped_same {fetch = fetch} two same is =
     record {
       fetching = is.fetching;
@@ -92,10 +92,10 @@ more_same : {one : AnsweredOn} (two : AnsweredOn) → IsSame one two → (id : �
 more_same two same id more i =
     ap (λ (first : List OnStream). first ++ (if id == i then more else [])) (same i)
 
-pub stops_same : {values : Values} {start now : Traffic} {asked : List AskedOn}
+pub stops_same : {values : Values} {wide : ℕ} {start now : Traffic} {asked : List AskedOn}
     {fetch : SeveralFetch} {id : ℕ} {one : AnsweredOn} {error : LinkError}
-    (two : AnsweredOn) → IsSame one two → StopsOn values start now asked fetch id one error
-    → StopsOn values start now asked fetch id two error
+    (two : AnsweredOn) → IsSame one two → StopsOn values wide start now asked fetch id one error
+    → StopsOn values wide start now asked fetch id two error
 stops_same two same (all_stop after stopped) = all_stop after (stopped_same two same stopped)
 stops_same {id = id} two same (one_is_dropped after code is coming dropped) =
     one_is_dropped after code is
@@ -123,12 +123,12 @@ parts_joined answered id first second i =
     ∙ ap (λ (more : List OnStream). answered_more answered id more i)
     (sym (map-append PartOn first second))
 
-pub coming_joined : {values : Values} {start now : Traffic} {asked : List AskedOn}
+pub coming_joined : {values : Values} {wide : ℕ} {start now : Traffic} {asked : List AskedOn}
     {fetch : SeveralFetch} {end : EndLog} (answered : AnsweredOn) (id : ℕ)
     (first second : List Handed)
-    → AreComing values start now asked fetch end
+    → AreComing values wide start now asked fetch end
     (answered_more (answered_more answered id (parts_came first)) id (parts_came second))
-    → AreComing values start now asked fetch end
+    → AreComing values wide start now asked fetch end
     (answered_more answered id (parts_came (first ++ second)))
 coming_joined answered id first second =
     coming_same (answered_more answered id (parts_came (first ++ second)))
@@ -165,8 +165,8 @@ take_within (EndTook count None) may within =
 take_within (EndTook count (Some one)) may within =
     rw (taken_says may).handed (omega (arith, within, turns_of_take may))
 
-handed_within : {values : Values} {asked : List AskedOn} {end : EndLog}
-    → IsFetchingSeveral values asked end → IsWithinTurns end
+handed_within : {values : Values} {wide : ℕ} {asked : List AskedOn} {end : EndLog}
+    → IsFetchingSeveral values wide asked end → IsWithinTurns end
 unfolding MayAsk
 handed_within (begins range) = omega arith
 handed_within (requests {end = before} was id message may) =
@@ -216,10 +216,10 @@ on_at_most id (one ∷ handed) =
     )
 
 -- No more was answered of a stream than turns have passed.
-answered_within : {values : Values} {start now : Traffic} {asked : List AskedOn}
+answered_within : {values : Values} {wide : ℕ} {start now : Traffic} {asked : List AskedOn}
     {fetch : SeveralFetch} {end : EndLog} (answered : AnsweredOn) (id : ℕ) (came : List Handed)
     → Contains fetch.ids.items id
-    → AreComing values start now asked fetch end (answered_more answered id (parts_came came))
+    → AreComing values wide start now asked fetch end (answered_more answered id (parts_came came))
     → length came ≤ length end.log.turns
 answered_within {fetch = fetch} {end} answered id came there is =
     let kept = kept_on id fetch.kept.items in
@@ -242,32 +242,32 @@ pub part_comes : (before now : Traffic) (old new : SeveralFetch) (id : ℕ) (par
     → AnswersNextOn before now old new id (Ok (Part part))
     → AnswersPartOn before now old new id (Ok part)
 unfolding CameSo PartOnSo
-part_comes before now old new id part answers values start asked end answered there is =
-    let so = answers values start asked end answered there is in (so.0, so.1)
+part_comes before now old new id part answers values wide start asked end answered there is =
+    let so = answers values wide start asked end answered there is in (so.0, so.1)
 
 pub part_dropped : (before now : Traffic) (old new : SeveralFetch) (id code : ℕ)
     → AnswersNextOn before now old new id (Ok (Dropped code))
     → AnswersPartOn before now old new id (Err (errors.Reset code))
 unfolding CameSo PartOnSo
-part_dropped before now old new id code answers values start asked end answered there is =
-    let so = answers values start asked end answered there is in
+part_dropped before now old new id code answers values wide start asked end answered there is =
+    let so = answers values wide start asked end answered there is in
     one_is_dropped so.0 code refl so.1 (so.2 code refl)
 
 pub part_stops : (before now : Traffic) (old new : SeveralFetch) (id : ℕ) (error : LinkError)
     → AnswersNextOn before now old new id (Err error)
     → AnswersPartOn before now old new id (Err error)
 unfolding CameSo PartOnSo
-part_stops before now old new id error answers values start asked end answered there is =
-    let so = answers values start asked end answered there is in all_stop so.0 so.1
+part_stops before now old new id error answers values wide start asked end answered there is =
+    let so = answers values wide start asked end answered there is in all_stop so.0 so.1
 
 -- The client fetches still, and these parts, one in each round, have come of a stream, for which
 -- something holds.
-pub record IsPassingOn (P : List Handed → Type 0) (values : Values) (start now : Traffic)
+pub record IsPassingOn (P : List Handed → Type 0) (values : Values) (wide : ℕ) (start now : Traffic)
     (asked : List AskedOn) (fetch : SeveralFetch) (id : ℕ) (answered : AnsweredOn) (rounds : ℕ)
     : Type 0 where
   pub after : EndLog
   pub came : List Handed
-  pub coming : AreComing values start now asked fetch after
+  pub coming : AreComing values wide start now asked fetch after
       (answered_more answered id (parts_came came))
   pub holds : P came
   pub count : rounds ≡ length came
@@ -276,14 +276,14 @@ pub record IsPassingOn (P : List Handed → Type 0) (values : Values) (start now
 abbrev pub PartsOn : (P : List Handed → Type 0) → (before now : Traffic)
     → (old new : SeveralFetch) → (id rounds : ℕ) → Type 0
 PartsOn P before now old new id rounds =
-    (values : Values) (start : Traffic) (asked : List AskedOn) (end : EndLog)
+    (values : Values) (wide : ℕ) (start : Traffic) (asked : List AskedOn) (end : EndLog)
     (answered : AnsweredOn) → Contains old.ids.items id
-    → AreComing values start before asked old end answered
-    → IsPassingOn P values start now asked new id answered rounds
+    → AreComing values wide start before asked old end answered
+    → IsPassingOn P values wide start now asked new id answered rounds
 
 pub parts_first : (P : List Handed → Type 0) (now : Traffic) (fetch : SeveralFetch) (id : ℕ) → P []
     → PartsOn P now now fetch fetch id 0
-parts_first P now fetch id holds values start asked end answered there is =
+parts_first P now fetch id holds values wide start asked end answered there is =
     record {
       after = end;
       came = [];
@@ -296,11 +296,11 @@ parts_first P now fetch id holds values start asked end answered there is =
 abbrev pub PartsStop : (P : List Handed → Type 0) → (before now : Traffic)
     → (old new : SeveralFetch) → (id : ℕ) → LinkError → Type 0
 PartsStop P before now old new id error =
-    (values : Values) (start : Traffic) (asked : List AskedOn) (end : EndLog)
+    (values : Values) (wide : ℕ) (start : Traffic) (asked : List AskedOn) (end : EndLog)
     (answered : AnsweredOn) → Contains old.ids.items id
-    → AreComing values start before asked old end answered
+    → AreComing values wide start before asked old end answered
     → (came : List Handed)
-    × StopsOn values start now asked new id (answered_more answered id (parts_came came)) error
+    × StopsOn values wide start now asked new id (answered_more answered id (parts_came came)) error
     × P came
 
 module _ (P : List Handed → Type 0) (before middle now : Traffic) (old self new : SeveralFetch)
@@ -312,10 +312,10 @@ module _ (P : List Handed → Type 0) (before middle now : Traffic) (old self ne
         → AnswersPartOn middle now self new id (Ok part)
         → PartsOn Q before now old new id (rounds + 1)
     unfolding PartOnSo
-    parts_one Q part holds answers values start asked end answered there is =
-        let go = on values start asked end answered there is in
+    parts_one Q part holds answers values wide start asked end answered there is =
+        let go = on values wide start asked end answered there is in
         let one = handed_of id part in
-        let next = answers values start asked go.after
+        let next = answers values wide start asked go.after
         (answered_more answered id (parts_came go.came)) (rw ids there) go.coming in
         record {
           after = next.0;
@@ -329,10 +329,10 @@ module _ (P : List Handed → Type 0) (before middle now : Traffic) (old self ne
     pub parts_stop : (error : LinkError) → AnswersPartOn middle now self new id (Err error)
         → PartsStop P before now old new id error
     unfolding PartOnSo
-    parts_stop error answers values start asked end answered there is =
-        let go = on values start asked end answered there is in (
+    parts_stop error answers values wide start asked end answered there is =
+        let go = on values wide start asked end answered there is in (
           go.came,
-          answers values start asked go.after (answered_more answered id (parts_came go.came))
+          answers values wide start asked go.after (answered_more answered id (parts_came go.came))
               (rw ids there) go.coming,
           go.holds,
         )
@@ -341,8 +341,9 @@ module _ (P : List Handed → Type 0) (before middle now : Traffic) (old self ne
 pub no_part_left : (P : List Handed → Type 0) (before now : Traffic) (old new : SeveralFetch)
     (id rounds : ℕ) → 2 ^ 64 - 1 ≤ rounds → new.ids ≡ old.ids
     → PartsOn P before now old new id rounds → PartsStop P before now old new id errors.NoProgress
-no_part_left P before now old new id rounds all ids on values start asked end answered there is =
-    let go = on values start asked end answered there is in
+no_part_left P before now old new id rounds all ids on values wide start asked end answered there
+    is =
+    let go = on values wide start asked end answered there is in
     let within = answered_within answered id go.came (rw ids there) go.coming in (
       go.came,
       all_stop go.after (record {
@@ -366,8 +367,8 @@ pub head_comes_on : (before now : Traffic) (old new : SeveralFetch) (id rounds :
     → PartsOn (λ came. HeadCame id came head) before now old new id rounds
     → HeadComesOn before now old new id (Ok head)
 unfolding HeadOnSo
-head_comes_on before now old new id rounds head on values start asked end answered there is =
-    let go = on values start asked end answered there is in
+head_comes_on before now old new id rounds head on values wide start asked end answered there is =
+    let go = on values wide start asked end answered there is in
     (go.came, ((go.after, go.coming), go.holds))
 
 pub head_came : (id : ℕ) (part : ResponsePart) (head : ResponseHead) → head_in part ≡ Some head
@@ -384,8 +385,8 @@ pub head_stops_on : (before now : Traffic) (old new : SeveralFetch) (id : ℕ) (
     → PartsStop HasNoHead before now old new id error
     → HeadComesOn before now old new id (Err error)
 unfolding HeadOnSo
-head_stops_on before now old new id error stops values start asked end answered there is =
-    let so = stops values start asked end answered there is in (so.0, (so.1, so.2))
+head_stops_on before now old new id error stops values wide start asked end answered there is =
+    let so = stops values wide start asked end answered there is in (so.0, (so.1, so.2))
 
 -- The body has ended, and all of it was written;
 abbrev pub EndsWritten : (id : ℕ) → (written now : Option (List ℕ)) → Option (Vec Field Global)
@@ -408,9 +409,9 @@ pub body_whole_on : (before now : Traffic) (old new : SeveralFetch) (id rounds :
     → PartsOn (EndsWritten id written written_now trailers) before now old new id rounds
     → PassesBodyOn before now old new id written written_now (Ok trailers)
 unfolding PassedOnSo
-body_whole_on before now old new id rounds written written_now trailers on values start asked end
-    answered there is =
-    let go = on values start asked end answered there is in
+body_whole_on before now old new id rounds written written_now trailers on values wide start asked
+    end answered there is =
+    let go = on values wide start asked end answered there is in
     (go.came, ((go.after, go.coming), go.holds.0, go.holds.1))
 
 -- or only its first octets were written, and then a write has failed,
@@ -440,9 +441,9 @@ pub body_first_on : (before now : Traffic) (old new : SeveralFetch) (id rounds :
     → PartsOn (WritesFirst written written_now) before now old new id rounds
     → PassesBodyOn before now old new id written written_now (Err passes.Output)
 unfolding PassedOnSo
-body_first_on before now old new id rounds written written_now on values start asked end answered
-    there is =
-    let go = on values start asked end answered there is in
+body_first_on before now old new id rounds written written_now on values wide start asked end
+    answered there is =
+    let go = on values wide start asked end answered there is in
     (go.came, ((go.after, go.coming), go.holds))
 
 -- or the response has ended early.
@@ -451,6 +452,6 @@ pub body_stops_on : (before now : Traffic) (old new : SeveralFetch) (id : ℕ)
     → PartsStop (Written start written) before now old new id error
     → PassesBodyOn before now old new id start written (Err (passes.Link error))
 unfolding PassedOnSo
-body_stops_on before now old new id start written error stops values first asked end answered there
-    is =
-    let so = stops values first asked end answered there is in (so.0, (so.1, so.2))
+body_stops_on before now old new id start written error stops values wide first asked end answered
+    there is =
+    let so = stops values wide first asked end answered there is in (so.0, (so.1, so.2))

@@ -32,7 +32,8 @@ failed_never failures error goes = refl
 pub unopened : (words : GetWords) (is_first : Bool) (now : Traffic) (fetch : SeveralFetch) (id : ℕ)
     (written written_now : Option (List ℕ))
     → StreamsOn words is_first now now fetch fetch id written written_now (Err streams.Output)
-unopened words is_first now fetch id written written_now values start asked end answered there is =
+unopened words is_first now fetch id written written_now values wide start asked end answered there
+    is =
     ([], tt, (end, coming_same (answered_more answered id []) (none_answered answered id) is))
 
 -- Of a response that is whole with its head nothing follows that.
@@ -53,8 +54,8 @@ module _ (words : GetWords) (is_first : Bool) (before middle : Traffic) (old sel
       → StreamsOn words is_first before middle old self id written opened
       (Err (streams.Link error))
   unfolding HeadOnSo
-  printed_nothing error comes values start asked end answered there is =
-      let so = comes values start asked end answered there is in
+  printed_nothing error comes values wide start asked end answered there is =
+      let so = comes values wide start asked end answered there is in
       (so.0, (opened, opens, shows_nothing so.0 so.1.1 (Appends-nil opened)), so.1.0)
 
   module _ (head : ResponseHead) (comes : HeadComesOn before middle old self id (Ok head)) where
@@ -63,8 +64,8 @@ module _ (words : GetWords) (is_first : Bool) (before middle : Traffic) (old sel
         → StreamsOn words is_first before middle old self id written written_now
         (Err streams.Output)
     unfolding HeadOnSo
-    head_unprinted written_now values start asked end answered there is =
-        let so = comes values start asked end answered there is in (so.0, tt, so.1.0)
+    head_unprinted written_now values wide start asked end answered there is =
+        let so = comes values wide start asked end answered there is in (so.0, tt, so.1.0)
 
     module _ (fetched : Fetched) (is : fetched.head ≡ head.list) (printed : Option (List ℕ))
         (prints : PrintsHead words opened printed fetched.head.items) where
@@ -72,8 +73,8 @@ module _ (words : GetWords) (is_first : Bool) (before middle : Traffic) (old sel
       pub head_alone : fails_as_asked words fetched ≡ true
           → StreamsOn words is_first before middle old self id written printed (Ok fetched)
       unfolding HeadOnSo
-      head_alone fails values start asked end answered there coming =
-          let so = comes values start asked end answered there coming in (
+      head_alone fails values wide start asked end answered there coming =
+          let so = comes values wide start asked end answered there coming in (
             so.0,
             (
               opened,
@@ -88,8 +89,8 @@ module _ (words : GetWords) (is_first : Bool) (before middle : Traffic) (old sel
       pub whole_with_head : fails_as_asked words fetched ≡ false → head.end ≡ true
           → StreamsOn words is_first before middle old self id written printed (Ok fetched)
       unfolding HeadOnSo
-      whole_with_head good ends values start asked end answered there coming =
-          let so = comes values start asked end answered there coming in (
+      whole_with_head good ends values wide start asked end answered there coming =
+          let so = comes values wide start asked end answered there coming in (
             so.0,
             (
               opened,
@@ -119,11 +120,11 @@ module _ (words : GetWords) (is_first : Bool) (before middle : Traffic) (old sel
             → Appends written_now last (trailers_shown words.include (fields_in_trailers trailers))
             → StreamsOn words is_first before now old new id written last (Ok fetched)
         unfolding HeadOnSo PassedOnSo
-        printed_whole last trailers good goes passes trailing values start asked end answered there
-            coming =
-            let so = comes values start asked end answered there coming in
-            let next = passes values start asked so.1.0.0 (answered_more answered id (parts_came so.0))
-            (rw ids there) so.1.0.1 in (
+        printed_whole last trailers good goes passes trailing values wide start asked end answered
+            there coming =
+            let so = comes values wide start asked end answered there coming in
+            let next = passes values wide start asked so.1.0.0
+            (answered_more answered id (parts_came so.0)) (rw ids there) so.1.0.1 in (
               so.0 ++ next.0,
               (
                 opened,
@@ -151,10 +152,10 @@ module _ (words : GetWords) (is_first : Bool) (before middle : Traffic) (old sel
             → StreamsOn words is_first before now old new id written written_now
             (Err (streams.Link error))
         unfolding HeadOnSo PassedOnSo
-        printed_first error passes values start asked end answered there coming =
-            let so = comes values start asked end answered there coming in
-            let next = passes values start asked so.1.0.0 (answered_more answered id (parts_came so.0))
-            (rw ids there) so.1.0.1 in (
+        printed_first error passes values wide start asked end answered there coming =
+            let so = comes values wide start asked end answered there coming in
+            let next = passes values wide start asked so.1.0.0
+            (answered_more answered id (parts_came so.0)) (rw ids there) so.1.0.1 in (
               so.0 ++ next.0,
               (
                 opened,
@@ -171,10 +172,10 @@ module _ (words : GetWords) (is_first : Bool) (before middle : Traffic) (old sel
             → PassesBodyOn middle now self new id printed written_now (Ok trailers)
             → StreamsOn words is_first before now old new id written last (Err streams.Output)
         unfolding HeadOnSo PassedOnSo
-        trailers_unprinted last trailers passes values start asked end answered there coming =
-            let so = comes values start asked end answered there coming in
-            let next = passes values start asked so.1.0.0 (answered_more answered id (parts_came so.0))
-            (rw ids there) so.1.0.1 in (
+        trailers_unprinted last trailers passes values wide start asked end answered there coming =
+            let so = comes values wide start asked end answered there coming in
+            let next = passes values wide start asked so.1.0.0
+            (answered_more answered id (parts_came so.0)) (rw ids there) so.1.0.1 in (
               so.0 ++ next.0,
               tt,
               (next.1.0.0, coming_joined answered id so.0 next.0 next.1.0.1),
@@ -186,10 +187,10 @@ module _ (words : GetWords) (is_first : Bool) (before middle : Traffic) (old sel
             → StreamsOn words is_first before now old new id written written_now
             (Err streams.Output)
         unfolding HeadOnSo PassedOnSo
-        body_unprinted passes values start asked end answered there coming =
-            let so = comes values start asked end answered there coming in
-            let next = passes values start asked so.1.0.0 (answered_more answered id (parts_came so.0))
-            (rw ids there) so.1.0.1 in (
+        body_unprinted passes values wide start asked end answered there coming =
+            let so = comes values wide start asked end answered there coming in
+            let next = passes values wide start asked so.1.0.0
+            (answered_more answered id (parts_came so.0)) (rw ids there) so.1.0.1 in (
               so.0 ++ next.0,
               tt,
               (next.1.0.0, coming_joined answered id so.0 next.0 next.1.0.1),

@@ -39,7 +39,7 @@ pub rest_is_none : (names_file : Bool) (at : Traffic) (fetch : PartFetch)
     (written : Option (List ℕ)) → ShowsRest names_file true at at fetch fetch written written
     (Ok None)
 unfolding ShownSo
-rest_is_none names_file at fetch written values message start first is = (
+rest_is_none names_file at fetch written values message wide start first is = (
   first,
   [],
   (
@@ -55,7 +55,7 @@ pub file_not_made : (was_whole : Bool) (at : Traffic) (fetch : PartFetch)
     (written : Option (List ℕ))
     → ShowsRest true was_whole at at fetch fetch written written (Err streams.File)
 unfolding ShownSo
-file_not_made was_whole at fetch written values message start first is = (first, [], is)
+file_not_made was_whole at fetch written values message wide start first is = (first, [], is)
 
 module _ (before now : Traffic) (old new : PartFetch) (written written_now : Option (List ℕ)) where
   -- The body was printed,
@@ -63,31 +63,31 @@ module _ (before now : Traffic) (old new : PartFetch) (written written_now : Opt
       → PassesBody before now old new written written_now (Ok trailers)
       → ShowsRest false false before now old new written written_now (Ok trailers)
   unfolding PassedSo ShownSo
-  rest_printed_whole trailers passes values message start first is =
-      passes values message start first is
+  rest_printed_whole trailers passes values message wide start first is =
+      passes values message wide start first is
 
   -- or what of it came before the fetch has ended early,
   pub rest_printed_first : (error : LinkError)
       → PassesBody before now old new written written_now (Err (passes.Link error))
       → ShowsRest false false before now old new written written_now (Err (streams.Link error))
   unfolding PassedSo ShownSo
-  rest_printed_first error passes values message start first is =
-      passes values message start first is
+  rest_printed_first error passes values message wide start first is =
+      passes values message wide start first is
 
   -- or not all of it could be printed.
   pub rest_unprinted : PassesBody before now old new written written_now (Err passes.Output)
       → ShowsRest false false before now old new written written_now (Err streams.Output)
   unfolding PassedSo ShownSo
-  rest_unprinted passes values message start first is =
-      let so = passes values message start first is in (so.0, so.1, so.2.0)
+  rest_unprinted passes values message wide start first is =
+      let so = passes values message wide start first is in (so.0, so.1, so.2.0)
 
   -- The body was written into a file,
   pub rest_filed : (trailers : Option (Vec Field Global)) (shown : Option (List ℕ))
       → PassesBody before now old new written written_now (Ok trailers)
       → ShowsRest true false before now old new shown shown (Ok trailers)
   unfolding PassedSo ShownSo
-  rest_filed trailers shown passes values message start first is =
-      let so = passes values message start first is in
+  rest_filed trailers shown passes values message wide start first is =
+      let so = passes values message wide start first is in
       (so.0, so.1, (so.2.0, so.2.1, so.2.2, Appends-nil shown))
 
   -- or what of it came before the fetch has ended early,
@@ -95,8 +95,8 @@ module _ (before now : Traffic) (old new : PartFetch) (written written_now : Opt
       → PassesBody before now old new written written_now (Err (passes.Link error))
       → ShowsRest true false before now old new shown shown (Err (streams.Link error))
   unfolding PassedSo ShownSo
-  rest_filed_first error shown passes values message start first is =
-      let so = passes values message start first is in
+  rest_filed_first error shown passes values message wide start first is =
+      let so = passes values message wide start first is in
       (so.0, so.1, (so.2.0, so.2.1, Appends-nil shown))
 
   -- or not all of it could be written.
@@ -104,8 +104,8 @@ module _ (before now : Traffic) (old new : PartFetch) (written written_now : Opt
       → PassesBody before now old new written written_now (Err passes.Output)
       → ShowsRest true false before now old new shown shown (Err streams.File)
   unfolding PassedSo ShownSo
-  rest_unfiled shown passes values message start first is =
-      let so = passes values message start first is in (so.0, so.1, so.2.0)
+  rest_unfiled shown passes values message wide start first is =
+      let so = passes values message wide start first is in (so.0, so.1, so.2.0)
 
 -- Of a response without a body and trailers nothing follows the fields.
 body_none : (include : Bool) (fetched : Fetched) → fetched.body.items ≡ [] → fetched.trailers ≡ None
@@ -139,9 +139,9 @@ pub streams_nothing : (words : GetWords) (before now : Traffic) (old new : PartF
     → HeadComes before now old new (Err error)
     → StreamsResponse words before now old new written written (Err (streams.Link error))
 unfolding HeadComesSo StreamedSo
-streams_nothing words before now old new written error stream answers values message start first is
-    none =
-    let so = answers values message start first is in
+streams_nothing words before now old new written error stream answers values message wide start
+    first is none =
+    let so = answers values message wide start first is in
     let since = so.2.1 in
     let was : handed_on new.id first.handed ≡ [] = rw stream none in
     let handed : handed_on old.id so.0.handed ≡ so.1 ++ since.lost =
@@ -166,8 +166,8 @@ module _ (words : GetWords) (before middle : Traffic) (old self : PartFetch) (he
   pub streams_unprinted : (written written_now : Option (List ℕ))
       → StreamsResponse words before middle old self written written_now (Err streams.Output)
   unfolding HeadComesSo StreamedSo
-  streams_unprinted written written_now values message start first is none =
-      let so = answers values message start first is in (so.0, so.2.0)
+  streams_unprinted written written_now values message wide start first is none =
+      let so = answers values message wide start first is in (so.0, so.2.0)
 
   -- what has come with the head
   came_first : (first after : EndLog) (came : List Handed) → handed_on old.id first.handed ≡ []
@@ -183,8 +183,8 @@ module _ (words : GetWords) (before middle : Traffic) (old self : PartFetch) (he
     pub streams_failure : fails_as_asked words fetched ≡ true
         → StreamsResponse words before middle old self written printed (Ok fetched)
     unfolding HeadComesSo StreamedSo
-    streams_failure fails values message start first coming none =
-        let so = answers values message start first coming in
+    streams_failure fails values message wide start first coming none =
+        let so = answers values message wide start first coming in
         let came : handed_on old.id so.0.handed ≡ so.1 = came_first first so.0 so.1 none so.2.1 in (
           so.0,
           (
@@ -209,9 +209,9 @@ module _ (words : GetWords) (before middle : Traffic) (old self : PartFetch) (he
           → Appends written_now last (trailers_shown words.include (fields_in_trailers trailers))
           → StreamsResponse words before now old new written last (Ok fetched)
       unfolding HeadComesSo StreamedSo ShownSo
-      streams_whole last trailers good rest trailing values message start first coming none =
-          let so = answers values message start first coming in
-          let next = rest values message start so.0 so.2.0 in
+      streams_whole last trailers good rest trailing values message wide start first coming none =
+          let so = answers values message wide start first coming in
+          let next = rest values message wide start so.0 so.2.0 in
           let came : handed_on old.id so.0.handed ≡ so.1 =
           came_first first so.0 so.1 none so.2.1 in
           let was : handed_on new.id so.0.handed ≡ so.1 = rw (same, stream) came in
@@ -242,9 +242,9 @@ module _ (words : GetWords) (before middle : Traffic) (old self : PartFetch) (he
           (Err (streams.Link error))
           → StreamsResponse words before now old new written written_now (Err (streams.Link error))
       unfolding HeadComesSo StreamedSo ShownSo
-      streams_first error rest values message start first coming none =
-          let so = answers values message start first coming in
-          let next = rest values message start so.0 so.2.0 in
+      streams_first error rest values message wide start first coming none =
+          let so = answers values message wide start first coming in
+          let next = rest values message wide start so.0 so.2.0 in
           let since = next.2.1 in
           let came : handed_on old.id so.0.handed ≡ so.1 =
           came_first first so.0 so.1 none so.2.1 in
@@ -273,25 +273,25 @@ module _ (words : GetWords) (before middle : Traffic) (old self : PartFetch) (he
           (Ok trailers)
           → StreamsResponse words before now old new written last (Err streams.Output)
       unfolding HeadComesSo StreamedSo ShownSo
-      streams_unwritten last trailers rest values message start first coming none =
-          let so = answers values message start first coming in
-          let next = rest values message start so.0 so.2.0 in (next.0, next.2.0)
+      streams_unwritten last trailers rest values message wide start first coming none =
+          let so = answers values message wide start first coming in
+          let next = rest values message wide start so.0 so.2.0 in (next.0, next.2.0)
 
       streams_unshown : ShowsRest (is_some words.output) head.end middle now self new printed
           written_now (Err streams.Output)
           → StreamsResponse words before now old new written written_now (Err streams.Output)
       unfolding HeadComesSo StreamedSo ShownSo
-      streams_unshown rest values message start first coming none =
-          let so = answers values message start first coming in
-          let next = rest values message start so.0 so.2.0 in (next.0, next.2)
+      streams_unshown rest values message wide start first coming none =
+          let so = answers values message wide start first coming in
+          let next = rest values message wide start so.0 so.2.0 in (next.0, next.2)
 
       streams_unfiled : ShowsRest (is_some words.output) head.end middle now self new printed
           written_now (Err streams.File)
           → StreamsResponse words before now old new written written_now (Err streams.File)
       unfolding HeadComesSo StreamedSo ShownSo
-      streams_unfiled rest values message start first coming none =
-          let so = answers values message start first coming in
-          let next = rest values message start so.0 so.2.0 in (next.0, next.2)
+      streams_unfiled rest values message wide start first coming none =
+          let so = answers values message wide start first coming in
+          let next = rest values message wide start so.0 so.2.0 in (next.0, next.2)
 
       -- However the rest has ended early.
       pub streams_ended : (error : StreamError)

@@ -34,38 +34,39 @@ pub record IsWholeResponse (id : ℕ) (handed : List Handed) (fetched : Fetched)
 -- what a fetch has come to: a whole response; or it has ended early, or there is no memory for the
 -- body
 -- rule: engines (own) get without -o and --stream prints a response once it is whole
-unfoldable pub GatheredSo : Values → SentMessage → (start now : Traffic) → PartFetch → EndLog
-    → Result Fetched LinkError → Type 0
-GatheredSo values message start now fetch end (Ok fetched) =
-    IsComing values message start now fetch end
+unfoldable pub GatheredSo : Values → SentMessage → (wide : ℕ) → (start now : Traffic) → PartFetch
+    → EndLog → Result Fetched LinkError → Type 0
+GatheredSo values message wide start now fetch end (Ok fetched) =
+    IsComing values message wide start now fetch end
     × IsWholeResponse fetch.id (handed_on fetch.id end.handed) fetched
-GatheredSo values message start now fetch end (Err error) =
-    HasStopped values message start now fetch end error
-    ⊎ ((error ≡ errors.Memory) × IsComing values message start now fetch end)
+GatheredSo values message wide start now fetch end (Err error) =
+    HasStopped values message wide start now fetch end error
+    ⊎ ((error ≡ errors.Memory) × IsComing values message wide start now fetch end)
 
 -- What was gathered of the rest of a response after its head: all of it; or the fetch has ended
 -- early, or there is no memory for the body.
 -- rule: engines (own) get without -o and --stream prints a response once it is whole
-unfoldable pub GatheredRest : (was_whole : Bool) → Values → SentMessage → (start now : Traffic)
-    → PartFetch → (before after : EndLog) → (came : List Handed) → (body body_now : List ℕ)
-    → Result (Option (Vec Field Global)) LinkError → Type 0
-GatheredRest was_whole values message start now fetch before after came body body_now
+unfoldable pub GatheredRest : (was_whole : Bool) → Values → SentMessage → (wide : ℕ)
+    → (start now : Traffic) → PartFetch → (before after : EndLog) → (came : List Handed)
+    → (body body_now : List ℕ) → Result (Option (Vec Field Global)) LinkError → Type 0
+GatheredRest was_whole values message wide start now fetch before after came body body_now
     (Ok trailers) =
-    IsComing values message start now fetch after
+    IsComing values message wide start now fetch after
     × (handed_on fetch.id after.handed ≡ handed_on fetch.id before.handed ++ came)
     × IsWholeWith fetch.id was_whole came (fields_in_trailers trailers)
     × (body_now ≡ body ++ body_handed came)
-GatheredRest was_whole values message start now fetch before after came body body_now (Err error) =
-    HasStopped values message start now fetch after error
-    ⊎ ((error ≡ errors.Memory) × IsComing values message start now fetch after)
+GatheredRest was_whole values message wide start now fetch before after came body body_now
+    (Err error) =
+    HasStopped values message wide start now fetch after error
+    ⊎ ((error ≡ errors.Memory) × IsComing values message wide start now fetch after)
 
 abbrev pub GathersRest : (was_whole : Bool) → (before now : Traffic) → (old new : PartFetch)
     → (body body_now : List ℕ) → Result (Option (Vec Field Global)) LinkError → Type 0
 GathersRest was_whole before now old new body body_now result =
-    (values : Values) (message : SentMessage) (start : Traffic) (first : EndLog)
-    → IsComing values message start before old first
+    (values : Values) (message : SentMessage) (wide : ℕ) (start : Traffic) (first : EndLog)
+    → IsComing values message wide start before old first
     → (after : EndLog) × (came : List Handed)
-    × GatheredRest was_whole values message start now new first after came body body_now result
+    × GatheredRest was_whole values message wide start now new first after came body body_now result
 
 -- Whatever has happened at a client that fetches, of whose response nothing has come, that is kept
 -- until it is whole.
@@ -73,9 +74,9 @@ GathersRest was_whole before now old new body body_now result =
 abbrev pub Gathers : (before now : Traffic) → (old new : PartFetch) → Result Fetched LinkError
     → Type 0
 Gathers before now old new result =
-    (values : Values) (message : SentMessage) (start : Traffic) (first : EndLog)
-    → IsComing values message start before old first → handed_on old.id first.handed ≡ []
-    → (end : EndLog) × GatheredSo values message start now new end result
+    (values : Values) (message : SentMessage) (wide : ℕ) (start : Traffic) (first : EndLog)
+    → IsComing values message wide start before old first → handed_on old.id first.handed ≡ []
+    → (end : EndLog) × GatheredSo values message wide start now new end result
 
 -- This went over some link.
 abbrev pub GathersOver : (old new : PartFetch) → Result Fetched LinkError → Type 0

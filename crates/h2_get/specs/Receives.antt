@@ -73,23 +73,23 @@ head_in part = None
 
 -- The head that comes next was answered, or the fetch has ended early.
 -- rule: engines (own) get -o and --stream write the body as it comes, in order
-unfoldable pub HeadComesSo : Values → SentMessage → (start now : Traffic) → PartFetch
+unfoldable pub HeadComesSo : Values → SentMessage → (wide : ℕ) → (start now : Traffic) → PartFetch
     → (before after : EndLog) → (came : List Handed) → Result ResponseHead LinkError → Type 0
-HeadComesSo values message start now fetch before after came (Ok head) =
-    IsComing values message start now fetch after
+HeadComesSo values message wide start now fetch before after came (Ok head) =
+    IsComing values message wide start now fetch after
     × (handed_on fetch.id after.handed ≡ handed_on fetch.id before.handed ++ came)
     × HeadCame fetch.id came head
-HeadComesSo values message start now fetch before after came (Err error) =
-    HasStopped values message start now fetch after error
+HeadComesSo values message wide start now fetch before after came (Err error) =
+    HasStopped values message wide start now fetch after error
     × HandsSince fetch.id before after came error × HasNoHead came
 
 abbrev pub HeadComes : (before now : Traffic) → (old new : PartFetch)
     → Result ResponseHead LinkError → Type 0
 HeadComes before now old new result =
-    (values : Values) (message : SentMessage) (start : Traffic) (end : EndLog)
-    → IsComing values message start before old end
+    (values : Values) (message : SentMessage) (wide : ℕ) (start : Traffic) (end : EndLog)
+    → IsComing values message wide start before old end
     → (after : EndLog) × (came : List Handed)
-    × HeadComesSo values message start now new end after came result
+    × HeadComesSo values message wide start now new end after came result
 
 -- the fields of trailers
 abbrev pub fields_in_trailers : Option (Vec Field Global) → Option (List Field)
@@ -135,21 +135,21 @@ EndsBody id came (Some list) =
 -- What was written of the body that has come since: all of it, where the response is whole, and
 -- where the fetch has ended early; or only its first octets, where a write has failed.
 -- rule: engines (own) get -o and --stream write the body as it comes, in order
-unfoldable pub PassedSo : Values → SentMessage → (start now : Traffic) → PartFetch
+unfoldable pub PassedSo : Values → SentMessage → (wide : ℕ) → (start now : Traffic) → PartFetch
     → (before after : EndLog) → (came : List Handed) → (written written_now : Option (List ℕ))
     → Result (Option (Vec Field Global)) PassError → Type 0
-PassedSo values message start now fetch before after came written written_now (Ok trailers) =
-    IsComing values message start now fetch after
+PassedSo values message wide start now fetch before after came written written_now (Ok trailers) =
+    IsComing values message wide start now fetch after
     × (handed_on fetch.id after.handed ≡ handed_on fetch.id before.handed ++ came)
     × EndsBody fetch.id came (fields_in_trailers trailers) × Appends written written_now
     (body_handed came)
-PassedSo values message start now fetch before after came written written_now
+PassedSo values message wide start now fetch before after came written written_now
     (Err (passes.Link error)) =
-    HasStopped values message start now fetch after error
+    HasStopped values message wide start now fetch after error
     × HandsSince fetch.id before after came error × Appends written written_now (body_handed came)
-PassedSo values message start now fetch before after came written written_now
+PassedSo values message wide start now fetch before after came written written_now
     (Err passes.Output) =
-    IsComing values message start now fetch after
+    IsComing values message wide start now fetch after
     × (handed_on fetch.id after.handed ≡ handed_on fetch.id before.handed ++ came)
     × ((count : ℕ) × (count < length (body_handed came))
     × Appends written written_now (take count (body_handed came)))
@@ -165,7 +165,7 @@ abbrev pub PassesBody : (before now : Traffic) → (old new : PartFetch)
     → (written written_now : Option (List ℕ)) → Result (Option (Vec Field Global)) PassError
     → Type 0
 PassesBody before now old new written written_now result =
-    (values : Values) (message : SentMessage) (start : Traffic) (end : EndLog)
-    → IsComing values message start before old end
+    (values : Values) (message : SentMessage) (wide : ℕ) (start : Traffic) (end : EndLog)
+    → IsComing values message wide start before old end
     → (after : EndLog) × (came : List Handed)
-    × PassedSo values message start now new end after came written written_now result
+    × PassedSo values message wide start now new end after came written written_now result

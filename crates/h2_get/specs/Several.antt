@@ -41,73 +41,75 @@ abbrev pub parts_came : (came : List Handed) → List OnStream
 parts_came came = map PartOn came
 
 -- The fetch goes on, and this was answered of each stream.
-abbrev pub GoesOnWith : Values → (start now : Traffic) → List AskedOn → SeveralFetch → AnsweredOn
-    → Type 0
-GoesOnWith values start now asked fetch answered =
-    (after : EndLog) × AreComing values start now asked fetch after answered
+abbrev pub GoesOnWith : Values → (wide : ℕ) → (start now : Traffic) → List AskedOn → SeveralFetch
+    → AnsweredOn → Type 0
+GoesOnWith values wide start now asked fetch answered =
+    (after : EndLog) × AreComing values wide start now asked fetch after answered
 
 -- How a response has ended early: with the whole fetch, or with its stream, which was dropped with
 -- this code, while the fetch goes on, and that was answered too.
 -- rule: engines (own) Several responses are printed in the order of their URLs
-pub data StopsOn (values : Values) (start now : Traffic) (asked : List AskedOn) (fetch : SeveralFetch)
-    (id : ℕ) (answered : AnsweredOn) (error : LinkError) : Type 0 where
-  all_stop : (after : EndLog) → HaveStopped values start now asked fetch after answered error
-      → StopsOn values start now asked fetch id answered error
+pub data StopsOn (values : Values) (wide : ℕ) (start now : Traffic) (asked : List AskedOn)
+    (fetch : SeveralFetch) (id : ℕ) (answered : AnsweredOn) (error : LinkError) : Type 0 where
+  all_stop : (after : EndLog) → HaveStopped values wide start now asked fetch after answered error
+      → StopsOn values wide start now asked fetch id answered error
   one_is_dropped : (after : EndLog) (code : ℕ) → error ≡ errors.Reset code
-      → AreComing values start now asked fetch after (answered_more answered id (DropOn code ∷ []))
-      → WasDropped after id code → StopsOn values start now asked fetch id answered error
+      → AreComing values wide start now asked fetch after
+      (answered_more answered id (DropOn code ∷ []))
+      → WasDropped after id code → StopsOn values wide start now asked fetch id answered error
 
 -- the next part of the response on a stream, or how it has ended early
-unfoldable pub PartOnSo : Values → (start now : Traffic) → List AskedOn → SeveralFetch → (id : ℕ)
-    → AnsweredOn → Result ResponsePart LinkError → Type 0
-PartOnSo values start now asked fetch id answered (Ok part) =
-    GoesOnWith values start now asked fetch
+unfoldable pub PartOnSo : Values → (wide : ℕ) → (start now : Traffic) → List AskedOn → SeveralFetch
+    → (id : ℕ) → AnsweredOn → Result ResponsePart LinkError → Type 0
+PartOnSo values wide start now asked fetch id answered (Ok part) =
+    GoesOnWith values wide start now asked fetch
     (answered_more answered id (parts_came (handed_of id part ∷ [])))
-PartOnSo values start now asked fetch id answered (Err error) =
-    StopsOn values start now asked fetch id answered error
+PartOnSo values wide start now asked fetch id answered (Err error) =
+    StopsOn values wide start now asked fetch id answered error
 
 abbrev pub AnswersPartOn : (before now : Traffic) → (old new : SeveralFetch) → (id : ℕ)
     → Result ResponsePart LinkError → Type 0
 AnswersPartOn before now old new id result =
-    (values : Values) (start : Traffic) (asked : List AskedOn) (end : EndLog)
+    (values : Values) (wide : ℕ) (start : Traffic) (asked : List AskedOn) (end : EndLog)
     (answered : AnsweredOn) → Contains old.ids.items id
-    → AreComing values start before asked old end answered
-    → PartOnSo values start now asked new id answered result
+    → AreComing values wide start before asked old end answered
+    → PartOnSo values wide start now asked new id answered result
 
 -- the head of the response on a stream, which comes after these parts
-unfoldable pub HeadOnSo : Values → (start now : Traffic) → List AskedOn → SeveralFetch → (id : ℕ)
-    → AnsweredOn → (came : List Handed) → Result ResponseHead LinkError → Type 0
-HeadOnSo values start now asked fetch id answered came (Ok head) =
-    GoesOnWith values start now asked fetch (answered_more answered id (parts_came came))
+unfoldable pub HeadOnSo : Values → (wide : ℕ) → (start now : Traffic) → List AskedOn → SeveralFetch
+    → (id : ℕ) → AnsweredOn → (came : List Handed) → Result ResponseHead LinkError → Type 0
+HeadOnSo values wide start now asked fetch id answered came (Ok head) =
+    GoesOnWith values wide start now asked fetch (answered_more answered id (parts_came came))
     × HeadCame id came head
-HeadOnSo values start now asked fetch id answered came (Err error) =
-    StopsOn values start now asked fetch id (answered_more answered id (parts_came came)) error
+HeadOnSo values wide start now asked fetch id answered came (Err error) =
+    StopsOn values wide start now asked fetch id (answered_more answered id (parts_came came)) error
     × HasNoHead came
 
 abbrev pub HeadComesOn : (before now : Traffic) → (old new : SeveralFetch) → (id : ℕ)
     → Result ResponseHead LinkError → Type 0
 HeadComesOn before now old new id result =
-    (values : Values) (start : Traffic) (asked : List AskedOn) (end : EndLog)
+    (values : Values) (wide : ℕ) (start : Traffic) (asked : List AskedOn) (end : EndLog)
     (answered : AnsweredOn) → Contains old.ids.items id
-    → AreComing values start before asked old end answered
-    → (came : List Handed) × HeadOnSo values start now asked new id answered came result
+    → AreComing values wide start before asked old end answered
+    → (came : List Handed) × HeadOnSo values wide start now asked new id answered came result
 
 -- What was written of the body that has come on a stream since: all of it, where the response is
 -- whole, and where it has ended early; or only its first octets, where a write has failed.
-unfoldable pub PassedOnSo : Values → (start now : Traffic) → List AskedOn → SeveralFetch → (id : ℕ)
-    → AnsweredOn → (came : List Handed) → (written written_now : Option (List ℕ))
-    → Result (Option (Vec Field Global)) PassError → Type 0
-PassedOnSo values start now asked fetch id answered came written written_now (Ok trailers) =
-    GoesOnWith values start now asked fetch (answered_more answered id (parts_came came))
+unfoldable pub PassedOnSo : Values → (wide : ℕ) → (start now : Traffic) → List AskedOn
+    → SeveralFetch → (id : ℕ) → AnsweredOn → (came : List Handed)
+    → (written written_now : Option (List ℕ)) → Result (Option (Vec Field Global)) PassError
+    → Type 0
+PassedOnSo values wide start now asked fetch id answered came written written_now (Ok trailers) =
+    GoesOnWith values wide start now asked fetch (answered_more answered id (parts_came came))
     × EndsBody id came (fields_in_trailers trailers)
     × Appends written written_now (body_handed came)
-PassedOnSo values start now asked fetch id answered came written written_now
+PassedOnSo values wide start now asked fetch id answered came written written_now
     (Err (passes.Link error)) =
-    StopsOn values start now asked fetch id (answered_more answered id (parts_came came)) error
+    StopsOn values wide start now asked fetch id (answered_more answered id (parts_came came)) error
     × Appends written written_now (body_handed came)
-PassedOnSo values start now asked fetch id answered came written written_now
+PassedOnSo values wide start now asked fetch id answered came written written_now
     (Err passes.Output) =
-    GoesOnWith values start now asked fetch (answered_more answered id (parts_came came))
+    GoesOnWith values wide start now asked fetch (answered_more answered id (parts_came came))
     × ((count : ℕ) × (count < length (body_handed came))
     × Appends written written_now (take count (body_handed came)))
 
@@ -115,11 +117,11 @@ abbrev pub PassesBodyOn : (before now : Traffic) → (old new : SeveralFetch) �
     → (written written_now : Option (List ℕ)) → Result (Option (Vec Field Global)) PassError
     → Type 0
 PassesBodyOn before now old new id written written_now result =
-    (values : Values) (start : Traffic) (asked : List AskedOn) (end : EndLog)
+    (values : Values) (wide : ℕ) (start : Traffic) (asked : List AskedOn) (end : EndLog)
     (answered : AnsweredOn) → Contains old.ids.items id
-    → AreComing values start before asked old end answered
+    → AreComing values wide start before asked old end answered
     → (came : List Handed)
-    × PassedOnSo values start now asked new id answered came written written_now result
+    × PassedOnSo values wide start now asked new id answered came written written_now result
 
 -- What was printed of the parts that have come of a response, after an opening, by how that has
 -- ended; nothing is said where something could not be written.
@@ -137,12 +139,12 @@ PrintsParts words opening id came before after (Err (streams.Link error)) =
 PrintsParts words opening id came before after (Err error) = Unit {0}
 
 -- how a fetch stands once a response was printed, or has ended early
-abbrev pub StandsAfter : Values → (start now : Traffic) → List AskedOn → SeveralFetch → (id : ℕ)
-    → AnsweredOn → Result Fetched StreamError → Type 0
-StandsAfter values start now asked fetch id answered (Err (streams.Link error)) =
-    StopsOn values start now asked fetch id answered error
-StandsAfter values start now asked fetch id answered result =
-    GoesOnWith values start now asked fetch answered
+abbrev pub StandsAfter : Values → (wide : ℕ) → (start now : Traffic) → List AskedOn → SeveralFetch
+    → (id : ℕ) → AnsweredOn → Result Fetched StreamError → Type 0
+StandsAfter values wide start now asked fetch id answered (Err (streams.Link error)) =
+    StopsOn values wide start now asked fetch id answered error
+StandsAfter values wide start now asked fetch id answered result =
+    GoesOnWith values wide start now asked fetch answered
 
 -- what a response begins with: a line end, unless it is the first
 -- rule: engines (own) Several responses are printed in the order of their URLs
@@ -156,12 +158,13 @@ abbrev pub StreamsOn : GetWords → (is_first : Bool) → (before now : Traffic)
     → (old new : SeveralFetch) → (id : ℕ) → (written written_now : Option (List ℕ))
     → Result Fetched StreamError → Type 0
 StreamsOn words is_first before now old new id written written_now result =
-    (values : Values) (start : Traffic) (asked : List AskedOn) (end : EndLog)
+    (values : Values) (wide : ℕ) (start : Traffic) (asked : List AskedOn) (end : EndLog)
     (answered : AnsweredOn) → Contains old.ids.items id
-    → AreComing values start before asked old end answered
+    → AreComing values wide start before asked old end answered
     → (came : List Handed)
     × PrintsParts words (opening_of is_first) id came written written_now result
-    × StandsAfter values start now asked new id (answered_more answered id (parts_came came)) result
+    × StandsAfter values wide start now asked new id
+    (answered_more answered id (parts_came came)) result
 
 -- whether no more responses are printed after this one: the fetch has ended, or something could not
 -- be written
@@ -200,35 +203,35 @@ pub data PrintsSeveral (words : GetWords) (before : Option (List ℕ))
 
 -- how a fetch stands after a response that ends all
 -- rule: engines (own) Several responses are printed in the order of their URLs
-abbrev pub StandsAtEnd : Values → (start now : Traffic) → List AskedOn → SeveralFetch → AnsweredOn
-    → Result Fetched StreamError → Type 0
-StandsAtEnd values start now asked fetch answered (Err (streams.Link error)) =
-    (after : EndLog) × HaveStopped values start now asked fetch after answered error
-StandsAtEnd values start now asked fetch answered result =
-    GoesOnWith values start now asked fetch answered
+abbrev pub StandsAtEnd : Values → (wide : ℕ) → (start now : Traffic) → List AskedOn → SeveralFetch
+    → AnsweredOn → Result Fetched StreamError → Type 0
+StandsAtEnd values wide start now asked fetch answered (Err (streams.Link error)) =
+    (after : EndLog) × HaveStopped values wide start now asked fetch after answered error
+StandsAtEnd values wide start now asked fetch answered result =
+    GoesOnWith values wide start now asked fetch answered
 
 -- How a fetch stands once responses were printed, of whose streams this was answered: all were, and
 -- it goes on; or the last of them has ended all.
 -- rule: engines (own) Several responses are printed in the order of their URLs
-pub data StandSo (values : Values) (start now : Traffic) (asked : List AskedOn)
+pub data StandSo (values : Values) (wide : ℕ) (start now : Traffic) (asked : List AskedOn)
     (fetch : SeveralFetch) (more : List ℕ) (answered : AnsweredOn)
     : List (Result Fetched StreamError) → Type 0 where
   all_printed : (results : List (Result Fetched StreamError)) → AllGoOn results → more ≡ []
-      → GoesOnWith values start now asked fetch answered
-      → StandSo values start now asked fetch more answered results
+      → GoesOnWith values wide start now asked fetch answered
+      → StandSo values wide start now asked fetch more answered results
   last_ends : (printed : List (Result Fetched StreamError)) (result : Result Fetched StreamError)
-      → ends_all result ≡ true → StandsAtEnd values start now asked fetch answered result
-      → StandSo values start now asked fetch more answered (printed ++ result ∷ [])
+      → ends_all result ≡ true → StandsAtEnd values wide start now asked fetch answered result
+      → StandSo values wide start now asked fetch more answered (printed ++ result ∷ [])
 
--- The responses of these requests were printed, in their order: all of them, or those up to one that
--- ends all.
+-- The responses of these requests were printed, in their order: all of them, or those up to one
+-- that ends all.
 -- rule: engines (own) Several responses are printed in the order of their URLs
-abbrev pub StreamedSeveral : GetWords → Values → (start now : Traffic) → List AskedOn
+abbrev pub StreamedSeveral : GetWords → Values → (wide : ℕ) → (start now : Traffic) → List AskedOn
     → SeveralFetch → (before after : Option (List ℕ)) → List (Result Fetched StreamError) → Type 0
-StreamedSeveral words values start now asked fetch before after results =
+StreamedSeveral words values wide start now asked fetch before after results =
     (ids more : List ℕ) × (answered : AnsweredOn) × (map (λ one. one.0) asked ≡ ids ++ more)
     × PrintsSeveral words before ids after answered results
-    × StandSo values start now asked fetch more answered results
+    × StandSo values wide start now asked fetch more answered results
 
 -- Of a client that has made several requests, of whose responses nothing came before, they were
 -- printed.
@@ -236,9 +239,9 @@ StreamedSeveral words values start now asked fetch before after results =
 abbrev pub StreamsSeveral : GetWords → (before now : Traffic) → (old new : SeveralFetch)
     → (written written_now : Option (List ℕ)) → List (Result Fetched StreamError) → Type 0
 StreamsSeveral words before now old new written written_now results =
-    (values : Values) (start : Traffic) (asked : List AskedOn) (end : EndLog)
-    → AreComing values start before asked old end (λ id. [])
-    → StreamedSeveral words values start now asked new written written_now results
+    (values : Values) (wide : ℕ) (start : Traffic) (asked : List AskedOn) (end : EndLog)
+    → AreComing values wide start before asked old end (λ id. [])
+    → StreamedSeveral words values wide start now asked new written written_now results
 
 -- This went over some link.
 abbrev pub SeveralOver : GetWords → (old new : SeveralFetch)
@@ -254,8 +257,8 @@ results_of (Err ending) = Err ending.error
 
 -- The requests were made at once over a new connection with the window that the words ask for, and
 -- their responses were printed one after another, however that has ended; or no connection could be
--- made, or one of the requests was not accepted, and nothing was printed. Out of memory for what came
--- of them says nothing.
+-- made, or one of the requests was not accepted, and nothing was printed. Out of memory for what
+-- came of them says nothing.
 -- rule: engines (own) Several responses are printed in the order of their URLs
 -- rule: engines (own) get has the window of --window, for the connection and for each stream
 pub data StreamsRequests (words : GetWords) (messages : List SentMessage)

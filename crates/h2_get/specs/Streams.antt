@@ -69,32 +69,32 @@ pub data ShowsSoFar (words : GetWords) (id : ℕ) (before after : Option (List �
 -- What was passed on of the rest of a response: all of it, where it is whole, and what came, where
 -- the fetch has ended early. What goes into a file isn't shown.
 -- rule: engines (own) get -o and --stream write the body as it comes, in order
-unfoldable pub ShownSo : (names_file was_whole : Bool) → Values → SentMessage
+unfoldable pub ShownSo : (names_file was_whole : Bool) → Values → SentMessage → (wide : ℕ)
     → (start now : Traffic) → PartFetch → (before after : EndLog) → (came : List Handed)
     → (written written_now : Option (List ℕ)) → Result (Option (Vec Field Global)) StreamError
     → Type 0
-ShownSo names_file was_whole values message start now fetch before after came written written_now
-    (Ok trailers) =
-    IsComing values message start now fetch after
+ShownSo names_file was_whole values message wide start now fetch before after came written
+    written_now (Ok trailers) =
+    IsComing values message wide start now fetch after
     × (handed_on fetch.id after.handed ≡ handed_on fetch.id before.handed ++ came)
     × IsWholeWith fetch.id was_whole came (fields_in_trailers trailers)
     × Appends written written_now (if names_file then [] else body_handed came)
-ShownSo names_file was_whole values message start now fetch before after came written written_now
-    (Err (streams.Link error)) =
-    HasStopped values message start now fetch after error
+ShownSo names_file was_whole values message wide start now fetch before after came written
+    written_now (Err (streams.Link error)) =
+    HasStopped values message wide start now fetch after error
     × HandsSince fetch.id before after came error
     × Appends written written_now (if names_file then [] else body_handed came)
-ShownSo names_file was_whole values message start now fetch before after came written written_now
-    (Err error) = IsComing values message start now fetch after
+ShownSo names_file was_whole values message wide start now fetch before after came written
+    written_now (Err error) = IsComing values message wide start now fetch after
 
 abbrev pub ShowsRest : (names_file was_whole : Bool) → (before now : Traffic)
     → (old new : PartFetch) → (written written_now : Option (List ℕ))
     → Result (Option (Vec Field Global)) StreamError → Type 0
 ShowsRest names_file was_whole before now old new written written_now result =
-    (values : Values) (message : SentMessage) (start : Traffic) (first : EndLog)
-    → IsComing values message start before old first
+    (values : Values) (message : SentMessage) (wide : ℕ) (start : Traffic) (first : EndLog)
+    → IsComing values message wide start before old first
     → (after : EndLog) × (came : List Handed)
-    × ShownSo names_file was_whole values message start now new first after came written
+    × ShownSo names_file was_whole values message wide start now new first after came written
     written_now result
 
 -- A response that is whole was printed: its head, the octets of the body, and its trailers.
@@ -124,19 +124,21 @@ pub record ShowsFailure (words : GetWords) (id : ℕ) (before after : Option (Li
 -- what is said of the response once it was printed as it came; of what was printed nothing, where
 -- something could not be written
 -- rule: engines (own) get -o and --stream write the body as it comes, in order
-unfoldable pub StreamedSo : GetWords → (id : ℕ) → Values → SentMessage → (start now : Traffic)
-    → PartFetch → EndLog → (before after : Option (List ℕ)) → Result Fetched StreamError → Type 0
-StreamedSo words id values message start now fetch end before after (Ok fetched) =
-    IsComing values message start now fetch end
+unfoldable pub StreamedSo : GetWords → (id : ℕ) → Values → SentMessage → (wide : ℕ)
+    → (start now : Traffic) → PartFetch → EndLog → (before after : Option (List ℕ))
+    → Result Fetched StreamError → Type 0
+StreamedSo words id values message wide start now fetch end before after (Ok fetched) =
+    IsComing values message wide start now fetch end
     × MatchBool (fails_as_asked words fetched)
     (ShowsFailure words id before after (handed_on id end.handed) fetched)
     (ShowsWhole words id before after (handed_on id end.handed) fetched)
-StreamedSo words id values message start now fetch end before after (Err (streams.Link error)) =
-    HasStopped values message start now fetch end error
+StreamedSo words id values message wide start now fetch end before after
+    (Err (streams.Link error)) =
+    HasStopped values message wide start now fetch end error
     × ((shown lost : List Handed) × (handed_on id end.handed ≡ shown ++ lost)
     × (error ≢ errors.Memory → lost ≡ []) × ShowsSoFar words id before after shown)
-StreamedSo words id values message start now fetch end before after (Err error) =
-    IsComing values message start now fetch end
+StreamedSo words id values message wide start now fetch end before after (Err error) =
+    IsComing values message wide start now fetch end
 
 -- Whatever has happened at a client that fetches, of whose response nothing has come, that is
 -- printed as it comes.
@@ -144,10 +146,10 @@ StreamedSo words id values message start now fetch end before after (Err error) 
 abbrev pub StreamsResponse : GetWords → (before now : Traffic) → (old new : PartFetch)
     → (written written_now : Option (List ℕ)) → Result Fetched StreamError → Type 0
 StreamsResponse words before now old new written written_now result =
-    (values : Values) (message : SentMessage) (start : Traffic) (first : EndLog)
-    → IsComing values message start before old first → handed_on old.id first.handed ≡ []
-    → (end : EndLog) × StreamedSo words old.id values message start now new end written written_now
-    result
+    (values : Values) (message : SentMessage) (wide : ℕ) (start : Traffic) (first : EndLog)
+    → IsComing values message wide start before old first → handed_on old.id first.handed ≡ []
+    → (end : EndLog)
+    × StreamedSo words old.id values message wide start now new end written written_now result
 
 -- This went over some link.
 abbrev pub StreamsOver : GetWords → (old new : PartFetch) → (written written_now : Option (List ℕ))

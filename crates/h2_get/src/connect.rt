@@ -1,9 +1,10 @@
 //! The link of a response that is fetched in parts.
 
 ghost use Rattle.std.specs.Prelude.{◌≡◌, ◌⊎◌, ◌<◌, ◌-◌, ◌^◌, IfErr, IfOk};
+ghost use Rattle.h2_net.specs.Endings.{HasClientHint, IsClientHint};
 
-use h2_cli::{Hint, hint_at_client, hint_of_connecting, hint_of_device};
-use h2_net::{Ending, LinkError, Location, StreamLink, Why, WriteParts};
+use h2_cli::hint_of_connecting;
+use h2_net::{Ending, LinkError, Location, StreamLink, Why, WriteParts, client_hint};
 use std::alloc::Global;
 use std::io::Read;
 use std::net::{Net, OpenStream, TcpStream};
@@ -25,6 +26,7 @@ where
     ensures new { IfOk result (λ link. link.failures ≡ 0) }
     ensures err { IfErr result (λ ending. (ending.error ≡ LinkError.Device)
         ⊎ (ending.error ≡ LinkError.Memory)) }
+    ensures hint { IfErr result HasClientHint }
 {
     match TcpStream::connect(net, (location.host.as_str(), location.port)) {
         Ok(stream) => match StreamLink::new(alloc, stream) {
@@ -49,8 +51,9 @@ pub(crate) fn end_fetch<S: Read + WriteParts + OpenStream>(
 ) -> Ending
     ensures error { result.error ≡ error }
     ensures why { result.why ≡ why }
+    ensures hint { IsClientHint error link.old.first.items link.old.last_error result.hint }
 {
-    let hint = hint_of(link, error);
+    let hint = client_hint(error, link.first_octets(), link.last_error());
     if error != LinkError::Device {
         send_held(link);
     }
@@ -62,20 +65,5 @@ pub(crate) fn end_fetch<S: Read + WriteParts + OpenStream>(
 pub(crate) fn send_held<S: Read + WriteParts + OpenStream>(link: &mut StreamLink<S>) {
     if h2_engines::Link::failures(link) == 0 {
         let _ = link.flush();
-    }
-}
-
-/// The hint for an error over a link: for N1 by its last error, for N2 by its first octets.
-fn hint_of<S: Read + WriteParts + OpenStream>(
-    link: &StreamLink<S>,
-    error: LinkError,
-) -> Option<Hint> {
-    match error {
-        LinkError::Stream(code) => hint_at_client(code, link.first_octets()),
-        LinkError::Device => match link.last_error() {
-            Some(kind) => hint_of_device(kind),
-            None => None,
-        },
-        _ => None,
     }
 }

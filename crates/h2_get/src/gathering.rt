@@ -6,9 +6,10 @@ ghost use Rattle.h2_spec_log.specs.Log.{Log};
 ghost use Rattle.h2_conn.specs.Conn.{ConnRepresents};
 ghost use Rattle.h2_conn.specs.Why.{IsWhy};
 ghost use Rattle.h2_message.specs.Values.{message_value};
+ghost use Rattle.h2_engines.specs.Failures.{CutsOffAtEnd, failures_at_end};
 ghost use Rattle.h2_engines.specs.Linked.{traffic};
 ghost use Rattle.h2_args.specs.Words.{asked_by};
-ghost use Rattle.h2_net.specs.Endings.{without_hint};
+ghost use Rattle.h2_net.specs.Endings.{HasClientHint, without_hint};
 ghost use Rattle.h2_get.specs.Gathers.{Gathers, GathersOver, GathersRequest, GathersRest};
 
 use crate::begin::{begin_fetch, window_of};
@@ -44,8 +45,9 @@ pub fn gather_location<N: Net>(
 ) -> Result<Fetched, Ending>
 where
     N::Stream: WriteParts,
-    ensures { GathersRequest (asked_by options.now) (message_value message)
+    ensures gathers { GathersRequest (asked_by options.now) (message_value message)
         (without_hint result) }
+    ensures hint { IfErr result HasClientHint }
 {
     let mut link = match connect_to(net, alloc, location) {
         Ok(link) => link,
@@ -67,6 +69,7 @@ fn gather_with_hint<S: Read + WriteParts + OpenStream>(
 ) -> Result<Fetched, Ending>
     requires { link.old.failures ≡ 0 }
     ensures gathers { GathersOver fetch.old fetch.new (without_hint result) }
+    ensures hint { IfErr result HasClientHint }
     ensures why { IfErr result (λ ending. (ending.why ≡ None) ⊎ ((values : Values) (log : Log)
         → ConnRepresents values fetch.new.client.end.conn log → IsWhy values log ending.why)) }
 {
@@ -94,10 +97,13 @@ pub fn gather<L: Link>(
     link: &mut L,
 ) -> Result<Fetched, LinkError>
     requires { L.faults link.old < 2 ^ 64 - 1 }
-    ensures { Gathers
+    ensures gathers { Gathers
         (traffic (L.given link.old) (L.taken link.old) (L.stalled link.old))
         (traffic (L.given link.new) (L.taken link.new) (L.stalled link.new))
         fetch.old fetch.new result }
+    ensures cut_off { CutsOffAtEnd result (L.ended link.new) }
+    ensures failures { L.faults link.new ≡ failures_at_end (L.faults link.old) result }
+    ensures stream { fetch.new.id ≡ fetch.old.id }
 {
     let head = match next_head(fetch, link) {
         Ok(head) => head,
@@ -127,6 +133,8 @@ fn gather_rest<L: Link>(
         (traffic (L.given link.old) (L.taken link.old) (L.stalled link.old))
         (traffic (L.given link.new) (L.taken link.new) (L.stalled link.new))
         fetch.old fetch.new body.old.items body.new.items result }
+    ensures cut_off { CutsOffAtEnd result (L.ended link.new) }
+    ensures failures { L.faults link.new ≡ failures_at_end (L.faults link.old) result }
     ensures stream { fetch.new.id ≡ fetch.old.id }
 {
     if is_whole {

@@ -3,7 +3,6 @@ use Rattle.std.specs.Prelude.{◌≡◌, ◌⊎◌, ℕ, Bool, true, false, List
 use Rattle.std.specs.Prelude.{Result, Ok, Err, take, drop, if◌then◌else◌, ◌==◌, length, not}
 use Rattle.h2_frame.specs.declared.code.Code.TheVariants.{InternalError}
 use Rattle.h2_spec_log.specs.Acts.{Values, Act, Answer, Fail, PutOut, Release, SendGoAway}
-use Rattle.h2_spec_log.specs.Acts.{Widen}
 use Rattle.h2_spec_log.specs.Log.{active}
 use Rattle.h2_spec_log.specs.LogCalls.{MayAnswer, with_call}
 use Rattle.h2_laws_pair.specs.Pairs.{given_out}
@@ -130,12 +129,11 @@ abbrev pub given_between : (end after : EndLog) → List ℕ
 given_between end after = drop (length (given_out end.log)) (given_out after.log)
 
 -- The call is one that is made for the connection, and not for an answer: GOAWAY, credit that is
--- returned, the end of the connection, or a wider window of it.
+-- returned, or the end of the connection.
 abbrev pub IsOwnCall : Act → Type 0
 IsOwnCall SendGoAway = Unit {0}
 IsOwnCall (Release id count) = Unit {0}
 IsOwnCall (Fail code) = Unit {0}
-IsOwnCall (Widen count) = Unit {0}
 IsOwnCall act = ⊥
 
 -- One step of a server with its handler, in which it has used these octets of its input and given

@@ -46,12 +46,9 @@ impl<W: Drop, H: Handler<Work = W>> Handled<H, W> {
     ///
     /// Those of [`Server::widen`]. Nothing has changed.
     pub fn widen(&mut self, count: u32) -> Result<(), Refusal>
-        ensures handles { Handles (relations H.heads H.bodies H.trails H.gives H.ends) []
-            self.old.server.end (handling_of self.old.exchanges) self.new.server.end
-            (handling_of self.new.exchanges) }
         ensures answers { EndAnswers self.old.server.end (Widen count)
             (answer_by (λ done. Done) result) self.new.server.end }
-        ensures exchanges { self.new.exchanges ≡ self.old.exchanges }
+        ensures rest { self.new ≡ record self.old { server = self.new.server } }
     {
         self.server.widen(count)
     }

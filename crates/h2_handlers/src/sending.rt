@@ -1,6 +1,10 @@
 //! What a server with a handler sends in one call.
 
-ghost use Rattle.std.specs.Prelude.{◌≡◌, [], length};
+ghost use Rattle.std.specs.Prelude.{◌≡◌, ◌-◌, [], length};
+ghost use Rattle.h2_spec_log.specs.Acts.{Values};
+ghost use Rattle.h2_spec_log.specs.Log.{Log};
+ghost use Rattle.h2_conn.specs.Conn.{ConnRepresents};
+ghost use Rattle.h2_handlers.specs.Credit.{is_credit_due_in_all, nat_part};
 ghost use Rattle.h2_handlers.specs.Exchanges.{handling_of, relations};
 ghost use Rattle.h2_handlers.specs.Steps.{Handles};
 
@@ -10,14 +14,16 @@ use crate::handler::Handler;
 use crate::parts::send_part;
 use crate::stop::{Stop, stop_of, unless_full};
 use h2_ends::{EndRefusal, Server};
+use h2_flow::is_credit_due;
 
 /// The octets sent of each complete body in one call.
 const SHARE: usize = 16_384;
 
 impl<W: Drop, H: Handler<Work = W>> Handled<H, W> {
     // rule (tested): handlers (own) Whole bodies have their share before a part is asked for
-    /// Sends what can go: returns credit for what the handler has used, sends the responses that
-    /// waited because the output was full, up to 16,384 octets of each complete body, and then one
+    /// Sends what can go: returns credit for what the handler has used (if `waits`, which says that
+    /// the next read may wait, all of it; otherwise only once it is half of the connection's
+    /// window), sends the responses that waited because the output was full, up to 16,384 octets of each complete body, and then one
     /// part of one response, for which it asks the handler. Complete bodies go first:
     /// otherwise parts could fill the output and use up the connection's window in each call, and
     /// complete bodies would never be sent. `room` is scratch space for the part.
@@ -25,7 +31,7 @@ impl<W: Drop, H: Handler<Work = W>> Handled<H, W> {
     /// # Errors
     ///
     /// [`Stop`] says why the connection cannot go on.
-    pub fn send_some(&mut self, room: &mut [u8]) -> Result<(), Stop>
+    pub fn send_some(&mut self, room: &mut [u8], waits: bool) -> Result<(), Stop>
         ensures handles { Handles (relations H.heads H.bodies H.trails H.gives H.ends) []
             self.old.server.end (handling_of self.old.exchanges) self.new.server.end
             (handling_of self.new.exchanges) }
@@ -34,12 +40,44 @@ impl<W: Drop, H: Handler<Work = W>> Handled<H, W> {
         if let Some(code) = self.server.conn().failed() {
             return Err(Stop::Failed(code));
         }
-        self.release()?;
+        self.return_credit(waits)?;
         self.give_waiting()?;
         self.pump()?;
         self.ask(room)?;
         self.settle();
         Ok(())
+    }
+
+    // rule: 6.9 (own) Credit is returned by half of a window
+    /// Returns credit for what the handler has used: all of it if the next read may wait, or once
+    /// it is half of the connection's window.
+    fn return_credit(&mut self, waits: bool) -> Result<(), Stop>
+        ensures { Handles (relations H.heads H.bodies H.trails H.gives H.ends) []
+            self.old.server.end (handling_of self.old.exchanges) self.new.server.end
+            (handling_of self.new.exchanges) }
+    {
+        if waits || self.is_credit_due() {
+            return self.release();
+        }
+        Ok(())
+    }
+
+    // rule: 6.9 (own) Credit is returned by half of a window
+    /// Whether credit for what the handler has used is due: once it is half of the connection's
+    /// window.
+    fn is_credit_due(&self) -> bool
+        ensures { (values : Values) (log : Log) → ConnRepresents values self.now.server.end.conn log
+            → result ≡ is_credit_due_in_all log self.now.exchanges.totals.unused }
+    {
+        let conn = self.server.conn();
+        match conn.peer_room(0) {
+            Some(left) => {
+                let granted = conn.granted().saturating_sub(conn.due());
+                let used = used_of(granted, left, self.exchanges.totals.unused);
+                is_credit_due(i64::from(used), left)
+            }
+            None => false,
+        }
     }
 
     /// Returns the credit for all that is owed, except what the handler has not used.
@@ -264,6 +302,15 @@ impl<W: Drop, H: Handler<Work = W>> Handled<H, W> {
             None => false,
         }
     }
+}
+
+/// How many of these octets are neither left to the peer nor unused.
+fn used_of(granted: u32, left: i64, unused: u64) -> u32
+    ensures { result ≡ (granted - nat_part left) - unused }
+{
+    let left = u64::try_from(left).unwrap_or(0);
+    let owed = u64::from(granted).saturating_sub(left);
+    owed.saturating_sub(unused) as u32
 }
 
 /// The number of octets that both windows allow on a stream.

@@ -1,7 +1,7 @@
 //! A connection that shuts down gracefully once its host is asked to end, and whose window is
 //! widened as a body comes.
 
-ghost use Rattle.std.specs.Prelude.{◌≡◌, ⊤, IfOk, false, true};
+ghost use Rattle.std.specs.Prelude.{◌≡◌, ⊤, ℕ, Bool, IfOk, false, is_some, true};
 ghost use Rattle.h2_hosting.specs.Guests.{IsTimeStep, WidensAfter};
 
 use crate::window::{Widened, Windows};
@@ -37,24 +37,28 @@ impl<W: Drop, H: Handler<Work = W>> Leaves for Seat<H, W> {
 
 /// A connection whose window can be widened.
 pub trait Widens {
-    /// Relates the states before and after [`Widens::widen`].
-    ghost widens: { Self → Self → Type 0 } = { λ _ _. ⊤ };
+    /// Relates a state and what [`Widens::is_receiving`] says of it.
+    ghost receives: { Self → Bool → Type 0 } = { λ _ _. ⊤ };
 
-    /// Whether a body is being received, of which more is to come.
-    fn is_receiving(&self) -> bool;
+    /// Relates the states before and after [`Widens::widen`], with its number and its result.
+    ghost widens: { Self → ℕ → Bool → Self → Type 0 } = { λ _ _ _ _. ⊤ };
+
+    /// Whether octets of bodies have come, and a request is incomplete.
+    fn is_receiving(&self) -> bool
+        ensures { receives self.now result };
 
     /// Lets the peer send `count` octets more on the connection, for good. Returns false if the
     /// call was refused.
     fn widen(&mut self, count: u32) -> bool
-        ensures { widens self.old self.new };
+        ensures { widens self.old count result self.new };
 }
 
 impl<W: Drop, H: Handler<Work = W>> Widens for Seat<H, W> {
-    ghost use Rattle.h2_handlers.specs.Exchanges.{relations};
-    ghost use Rattle.h2_hosting.specs.Guests.{SeatWidens};
+    ghost use Rattle.h2_seat.specs.Seats.{SeatWidens, is_seat_receiving};
 
-    ghost widens = { λ old new.
-        SeatWidens (relations H.heads H.bodies H.trails H.gives H.ends) old new };
+    ghost receives = { λ seat result. result ≡ is_seat_receiving seat };
+
+    ghost widens = { λ old count result new. SeatWidens old count result new };
 
     fn is_receiving(&self) -> bool {
         Seat::is_receiving(self)
@@ -96,6 +100,8 @@ impl<'a, P: Drop> Guest<'a, P> {
     ) -> Result<Guest<'a, P>, AllocError>
         ensures party { IfOk result (λ guest. guest.party.value ≡ party) }
         ensures asked { IfOk result (λ guest. guest.asked ≡ false) }
+        ensures widened { IfOk result (λ guest. is_some guest.widened ≡ false) }
+        ensures windows { IfOk result (λ guest. guest.windows.now ≡ windows.now) }
     {
         Ok(Guest {
             party: Box::new(alloc, party)?,
@@ -125,7 +131,10 @@ impl<'a, P: Party + Widens> Guest<'a, P> {
     /// now, what was left for it stays for others.
     fn widen_after(&mut self, own: Own)
         ensures asked { self.new.asked ≡ self.old.asked }
-        ensures widened { WidensAfter P.widens own self.old.party.value self.new.party.value }
+        ensures windows { self.new.windows ≡ self.old.windows }
+        ensures widened { WidensAfter P.receives P.widens self.old.windows.now.window own
+            (is_some self.old.widened) self.old.party.value (is_some self.new.widened)
+            self.new.party.value }
     {
         let Own::Came = own else {
             return;
@@ -145,7 +154,7 @@ impl<'a, P: Party + Leaves + Widens> Party for Guest<'a, P> {
     ghost use Rattle.h2_hosting.specs.Guests.{GuestSteps};
 
     ghost steps = { λ old own octets answer new.
-        GuestSteps P.leaves P.steps P.widens old own octets answer new };
+        GuestSteps P.leaves P.steps P.receives P.widens old own octets answer new };
 
     ghost held_of = { λ guest. P.held_of guest.party.value };
 

@@ -1,5 +1,7 @@
 //! Serves many connections with handlers of any type.
 
+ghost use Rattle.std.specs.Prelude.{◌≡◌, ◌-◌, ◌^◌, ◌/◌, min};
+
 use crate::guest::Guest;
 use crate::guests::{Guests, Makes};
 use crate::journal::Journal;
@@ -61,7 +63,10 @@ where
 // rule: hosts (own) A connection is widened once, as a body comes, by what is left
 /// The window of a connection is that of its streams, but at most half of what it may hold, and
 /// all are widened by at most half of what all may hold.
-fn windows_of(settings: &HostSettings) -> Windows {
+fn windows_of(settings: &HostSettings) -> Windows
+    ensures { result.window ≡ min settings.now.config.initial_window
+        (min (2 ^ 32 - 1) (settings.now.place.limits.held / 2)) }
+{
     let limits = settings.place.limits;
     let most = u32::try_from(limits.held / 2).unwrap_or(u32::MAX);
     Windows::new(

@@ -1,5 +1,8 @@
 //! The windows of the connections of a host.
 
+ghost use Rattle.std.specs.Prelude.{◌≡◌, ◌⊎◌, ◌-◌, ◌^◌, if◌then◌else◌, min, nat_le};
+ghost use Rattle.h2_hosting.specs.Guests.{lacking_of};
+
 use h2_frame::limits::FIRST_WINDOW;
 use std::cell::Cell;
 
@@ -13,7 +16,9 @@ pub struct Windows {
 
 impl Windows {
     /// Creates one that widens each connection to this window, and all by at most this many octets.
-    pub fn new(window: u32, most: u64) -> Windows {
+    pub fn new(window: u32, most: u64) -> Windows
+        ensures { result.window ≡ window }
+    {
         Windows {
             window,
             left: Cell::new(most),
@@ -22,11 +27,12 @@ impl Windows {
 
     /// Takes the octets by which one connection is widened: all that it lacks, or none if fewer
     /// are left.
-    pub(crate) fn take(&self) -> Widened<'_> {
+    pub(crate) fn take(&self) -> Widened<'_>
+        ensures { (result.count ≡ 0) ⊎ (result.count ≡ lacking_of self.now.window) }
+    {
         let left = self.left.get();
-        let wanted = u64::from(self.window.saturating_sub(FIRST_WINDOW));
-        let count = if wanted <= left { wanted } else { 0 };
-        self.left.set(left - count);
+        let count = share_of(self.window, left);
+        self.left.set(left - u64::from(count));
         Widened {
             windows: self,
             count,
@@ -34,22 +40,38 @@ impl Windows {
     }
 }
 
+/// What a connection lacks of this window, if as many octets are left; otherwise 0.
+fn share_of(window: u32, left: u64) -> u32
+    ensures { result ≡ (if nat_le (lacking_of window) left then lacking_of window else 0) }
+{
+    let lacking = window.saturating_sub(FIRST_WINDOW);
+    if u64::from(lacking) <= left {
+        lacking
+    } else {
+        0
+    }
+}
+
 /// The octets by which a connection is widened. Dropped with it, they are left for others.
 pub(crate) struct Widened<'a> {
     windows: &'a Windows,
-    count: u64,
+    count: u32,
 }
 
 impl Widened<'_> {
     /// The number of octets.
-    pub(crate) fn count(&self) -> u32 {
-        u32::try_from(self.count).unwrap_or(u32::MAX)
+    pub(crate) fn count(&self) -> u32
+        ensures { result ≡ min (2 ^ 32 - 1) self.now.count }
+    {
+        self.count
     }
 }
 
 impl Drop for Widened<'_> {
     fn drop(self) {
         let Widened { windows, count } = self;
-        windows.left.set(windows.left.get().saturating_add(count));
+        windows
+            .left
+            .set(windows.left.get().saturating_add(u64::from(count)));
     }
 }

@@ -3,7 +3,7 @@
 use Rattle.std.specs.FinMap as map
 use Rattle.h2_laws_machine.proofs.Names
 use Names.{◌≡◌, ◌≢◌, ℕ, ◌+◌, ◌<◌, ◌≤◌, None, Option, Some, refl, ◌∙◌, arith, nat_cmp, Frame, Values}
-use Names.{Act, refusal_of, Decoded, value_after, StreamView, first_window, Role, End, StreamEntry}
+use Names.{Act, refusal_of, Decoded, value_after, StreamView, Role, End, StreamEntry}
 use Names.{StreamMap, active_entry, reset_entry, end_view, stream_in, owed_entry, owed_total}
 use Names.{close_stream, shifted_entry, recv_shifted_entry, each_entry, new_stream, after_frame}
 use Names.{after_call, new_end, KeepsConnectionWindow, get_set_other, get_removed_none}

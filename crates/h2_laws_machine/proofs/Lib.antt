@@ -37,6 +37,7 @@ mod OneItemMore
 mod OwedAtClose
 pub mod OwedOnStreams
 pub mod OwedSums
+pub mod PeerRoom
 mod QuietNumbers
 pub mod RangesOfSteps
 pub mod ReadLimits

@@ -13,6 +13,7 @@ ghost use Rattle.h2_spec_log.specs.LogView.{log_view};
 ghost use Rattle.h2_spec_log.specs.ItemRules.{Decoded, frame_step, verdict_of};
 ghost use Rattle.h2_spec_log.specs.ItemEffects.{events_of};
 ghost use Rattle.h2_spec_log.specs.CallRules.{answer_of, reader_room, reader_owed, reader_due};
+ghost use Rattle.h2_spec_log.specs.CallRules.{has_failed};
 ghost use Rattle.h2_spec_machine.specs.End.{end_view, End, stream_at};
 ghost use Rattle.h2_spec_machine.specs.Machine.{with_begun, first_active};
 ghost use Rattle.h2_spec_machine.specs.Represents.{Represents};
@@ -62,4 +63,15 @@ pub fn machines_answer_alike()
     ensures live { (values : Values) (e : End) (log : Log) (id : ℕ) → Represents values e log
         → (if is_some e.failed || first_active id (map.entries e.streams.entries) == 0 then None
         else Some (first_active id (map.entries e.streams.entries))) ≡ reader_next_live log id }
+{}
+
+/// What the peer may still send on the connection (0) or a stream is, by a machine, what the log
+/// says that it represents; nothing once the connection has failed.
+pub fn receive_windows_are_alike()
+    ensures { (values : Values) (e : End) (log : Log) (id : ℕ) → Represents values e log
+        → (if is_some e.failed then None else if id == 0 then Some (pos e.windows.recv)
+        else option_map (λ stream. stream.recv_window) (stream_at e id))
+        ≡ (if has_failed (log_view log) then None
+        else if id == 0 then Some (log_view log).recv_window
+        else option_map (λ stream. stream.recv_window) ((log_view log).stream id)) }
 {}

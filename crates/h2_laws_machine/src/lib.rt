@@ -8,7 +8,7 @@ mod bounds;
 mod machine;
 mod windows;
 
-pub use answers::{frames_are_taken_alike, machines_answer_alike};
+pub use answers::{frames_are_taken_alike, machines_answer_alike, receive_windows_are_alike};
 pub use bounds::{
     connection_window_is_kept, entries_are_counted, everything_is_bounded, logs_are_bounded,
     values_are_in_range,
@@ -18,5 +18,6 @@ pub use machine::{
     steps_preserve_representation, steps_without_frames_preserve_representation,
 };
 pub use windows::{
-    connection_window_is_conserved, connection_window_of_a_log, owed_on_all_streams,
+    connection_updates_are_covered, connection_window_is_conserved, connection_window_of_a_log,
+    owed_on_all_streams,
 };

@@ -1,10 +1,12 @@
 //! The connection's window, by an end's log and between two ends (RFC 9113, section 6.9).
 
-ghost use Rattle.std.specs.Prelude.{◌≡◌, ℕ, ◌+◌, ◌<◌, None, List, ◌++◌, pos, ◌+ℤ◌};
+ghost use Rattle.std.specs.Prelude.{◌≡◌, ℕ, ◌+◌, ◌<◌, ◌≤◌, None, List, ◌++◌, pos, ◌+ℤ◌};
 ghost use Rattle.h2_block.specs.Grouping.{Item};
 ghost use Rattle.h2_spec_log.specs.Items.{data_of, increment_on, total};
 ghost use Rattle.h2_spec_log.specs.Acts.{Values};
-ghost use Rattle.h2_spec_log.specs.Log.{Log, owed, granted};
+ghost use Rattle.h2_spec_log.specs.Histories.{IsLog};
+ghost use Rattle.h2_spec_log.specs.declared.role.Role.{Role};
+ghost use Rattle.h2_spec_log.specs.Log.{Log, owed, granted, widened};
 ghost use Rattle.h2_spec_machine.specs.End.{End, owed_total};
 ghost use Rattle.h2_spec_machine.specs.Represents.{Represents};
 ghost use Rattle.h2_spec_log.specs.Windows.{connection_send_window, connection_recv_window};
@@ -24,6 +26,16 @@ pub fn connection_window_of_a_log()
         → e.failed ≡ None → e.streams.highest < n
         → connection_recv_window log.received log.sent
         +ℤ pos (sum_below n (owed log) + log.unreturned) ≡ pos (granted log) }
+{}
+
+// contract: 6.9 Nothing of the window of the connection is lost
+/// What an end has returned on the connection in all, by WINDOW_UPDATE on stream 0, is no more than
+/// what it has read of bodies, padding and padding lengths too, and what the window was widened by,
+/// as long as it has not failed.
+pub fn connection_updates_are_covered()
+    ensures { (role : Role) (values : Values) (log : Log) → IsLog role values log
+        → log.failed ≡ None
+        → total (increment_on 0) log.sent ≤ total data_of log.received + widened log.calls }
 {}
 
 // contract: 6.9 Nothing of the window of the connection is lost

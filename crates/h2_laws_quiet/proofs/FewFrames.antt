@@ -1,13 +1,9 @@
--- How many DATA a pump writes, and how long they make the output: one for each stream on which
--- octets have room, and one more for each 16,384 octets. It stops where the output is full.
-use Rattle.std.proofs.Common.{◌≡◌, ◌≢◌, ◌⊎◌, inl, inr, ℕ, ◌+◌, ◌*◌, ◌-◌, ◌≤◌, ◌<◌}
-use Rattle.std.proofs.Common.{◌&&◌, nat_lt, min, Bool, true, false, List, [], ◌∷◌}
-use Rattle.std.proofs.Common.{length, length-append, Option}
-use Rattle.std.proofs.Common.{None, Some, Ok, refl, sym, ap, ◌∙◌, arith}
-use Rattle.std.proofs.Common.{if◌then◌else◌}
-use Rattle.std.proofs.lemmas.Bool.{both_ways, cases_Bool, cases_eq, and_parts, and_from}
+-- How many DATA a pump writes, and how long they make the output. A full output stops it.
+use Rattle.std.proofs.Common.{◌≡◌, ◌≢◌, ◌⊎◌, inl, inr, ℕ, ◌+◌, ◌*◌, ◌-◌, ◌≤◌, ◌<◌, ◌&&◌, nat_lt}
+use Rattle.std.proofs.Common.{min, Bool, true, false, List, [], ◌∷◌, length, length-append, Option}
+use Rattle.std.proofs.Common.{None, Some, Ok, refl, sym, ap, ◌∙◌, arith, if◌then◌else◌}
+use Rattle.std.proofs.lemmas.Bool.{both_ways, cases_Bool, cases_eq, and_parts, and_from, eq-eqb}
 use Rattle.std.proofs.lemmas.Bool.{false_from_ne_true, lt-ltb, ltb-false, ltb-true, leb-false}
-use Rattle.std.proofs.lemmas.Bool.{eq-eqb}
 use Rattle.h2_block.specs.Grouping.{Item}
 use Rattle.h2_spec_log.specs.declared.refusal.Refusal.{Refusal}
 use Rattle.h2_spec_log.specs.declared.refusal.Refusal.TheVariants.{OutputFull}
@@ -413,8 +409,7 @@ few_by role values end after is writes few =
       ];
     }
 
--- How much a pump sends where so much waits: it begins no call where the output is full, and no call
--- sends more than 65,536 octets.
+-- How much a pump sends where so much waits: no call at a full output, 65,536 octets by a call.
 pub record SendsFew (end after : EndLog) : Type 0 where
   pub some : waiting end.log < full_output
       → total data_of after.log.sent + waiting end.log ≤ total data_of end.log.sent + 131071

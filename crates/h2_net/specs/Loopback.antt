@@ -59,7 +59,7 @@ PostsOn count result fetcher =
 -- request's stream, whole.
 pub record FetchesPost (count : ℕ) (fetched : Fetched) : Type 0 where
   pub end : EndLog
-  pub fetching : IsFetching default_values (post_request count) end
+  pub fetching : IsFetching default_values (post_request count) 0 end
   pub id : ℕ
   pub accepted : said_for id end.accepted ≡ Some (at_once (post_request count))
   pub is : IsFetched (parts_on id end.handed) fetched

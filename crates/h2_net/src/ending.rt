@@ -75,13 +75,10 @@ fn write_why<E: Write>(ending: Ending, err: &mut E) -> io::Result<()> {
 
 // rule: engines (own) A hint after the line names the likely cause of N1 and N2
 // contract: engines (own) A hint after the line names the likely cause of N1 and N2
-// The hint of a client for this error, by the first octets that it read and the last error of
-// its link.
-pub(crate) fn client_hint(
-    error: LinkError,
-    first: &[u8],
-    last_error: Option<ErrorKind>,
-) -> Option<Hint>
+/// Returns the hint for the error with which a client's connection ended: for N2
+/// ([`LinkError::Stream`]) by the first octets that the client read, for N1
+/// ([`LinkError::Device`]) by the last error of its link.
+pub fn client_hint(error: LinkError, first: &[u8], last_error: Option<ErrorKind>) -> Option<Hint>
     ensures { IsClientHint error first.now last_error result }
 {
     match error {

@@ -17,7 +17,7 @@ mod sending;
 mod serving;
 mod stream_link;
 
-pub use ending::{Ending, report, status_of};
+pub use ending::{Ending, client_hint, report, status_of};
 pub use get::{
     fetch_location, get_location, get_over, head_to, phrase, print_response, status_value,
     write_status,

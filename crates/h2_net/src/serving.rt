@@ -19,7 +19,7 @@ use std::alloc::Global;
 use std::io::{Read, Write};
 use std::net::{Ipv4Addr, Net, OpenListener, OpenStream, SocketAddr, TcpListener};
 
-// rule: engines (own) h2 serve serves so many connections, one after another
+// rule: engines (own) h2 serve serves COUNT connections, one after another
 /// Serves `count` connections to a port on 127.0.0.1, one after another, as
 /// [`h2_engines::serve_link`] does with the default [`Config`]. Returns the status of the first
 /// that ended early, or [`Status::Good`].
@@ -50,7 +50,7 @@ where
     }
 }
 
-// rule: engines (own) h2 serve serves so many connections, one after another
+// rule: engines (own) h2 serve serves COUNT connections, one after another
 /// Serves `count` connections of a listener, as [`serve_port`] does. A failed accept counts as a
 /// connection that ended with [`LinkError::Device`] (N1).
 pub fn serve_connections<L: OpenListener, E: Write>(

@@ -1,7 +1,7 @@
 -- What a handler hears of a response, one part after another.
 use Rattle.h2_engines.proofs.Names
-use Names.{◌≡◌, ◌≢◌, ◌≤◌, ◌<◌, ◌+◌, ◌-◌, ◌^◌, ℕ, Bool, true, false, List, [], ◌∷◌, ◌++◌, length}
-use Names.{Result, Ok, Err, refl, sym, ap, ◌∙◌, subst, inl, inr, arith, append-nil}
+use Names.{◌≡◌, ◌≤◌, ◌+◌, ◌-◌, ◌^◌, ℕ, Bool, true, false, List, [], ◌∷◌, ◌++◌, length}
+use Names.{Result, Ok, Err, refl, sym, ap, ◌∙◌, subst, inr, arith, append-nil}
 use Names.{Values, SentMessage, EndLog, Handed, LinkError, Traffic}
 use Rattle.std.proofs.Common.{map as each}
 use Rattle.std.proofs.lemmas.List.{map-append}
@@ -9,7 +9,7 @@ use Rattle.h2_laws_pair.proofs.Lists.{all_both}
 use Rattle.h2_engines.proofs.MachineViews.{all_in_part}
 use Rattle.h2_engines.specs.Failures.{CutsOffAtEnd, failures_at_end}
 use Rattle.h2_engines.specs.Fetches.{IsNotAccepted}
-use Rattle.h2_fetch.specs.Comings.{AnswersNext, BeginsFetch, ComesSo, HasStopped, IsComing}
+use Rattle.h2_fetch.specs.Comings.{AnswersNext, BeginsFetch, ComesSo, IsComing}
 use Rattle.h2_receive.specs.Heard.{FetchesBy, ReceivesBy}
 use Rattle.h2_fetch.specs.Parts.{handed_of, handed_on}
 use Rattle.h2_fetch.specs.declared.fetch.PartFetch.{PartFetch}
@@ -26,11 +26,11 @@ use Rattle.h2_receive.specs.Heard.{is_refused, is_whole, none_heard, one_heard}
 -- have passed.
 pub record IsHearing {H : Type 0}
     (hears : H → ResponsePart → Result (Unit {0}) HandlerFault → H → Type 0) (values : Values)
-    (message : SentMessage) (start now : Traffic) (old new : H) (fetch : PartFetch) (rounds : ℕ)
-    : Type 0 where
+    (message : SentMessage) (wide : ℕ) (start now : Traffic) (old new : H) (fetch : PartFetch)
+    (rounds : ℕ) : Type 0 where
   pub end : EndLog
   pub heard : List ResponsePart
-  pub coming : IsComing values message start now fetch end
+  pub coming : IsComing values message wide start now fetch end
   pub goes : GoOn heard
   pub has : HasHeard hears old heard new
   pub hands : HandsParts fetch end heard []
@@ -41,29 +41,29 @@ abbrev pub HearsOn : {H : Type 0}
     (hears : H → ResponsePart → Result (Unit {0}) HandlerFault → H → Type 0) (first : PartFetch)
     (before now : Traffic) (old new : H) (fetch : PartFetch) (rounds : ℕ) → Type 0
 HearsOn hears first before now old new fetch rounds =
-    (values : Values) (message : SentMessage) (start : Traffic) (end : EndLog)
-    → IsComing values message start before first end → handed_on first.id end.handed ≡ []
-    → IsHearing hears values message start now old new fetch rounds
+    (values : Values) (message : SentMessage) (wide : ℕ) (start : Traffic) (end : EndLog)
+    → IsComing values message wide start before first end → handed_on first.id end.handed ≡ []
+    → IsHearing hears values message wide start now old new fetch rounds
 
 -- One more part has come, and wasn't heard yet.
 pub record HasPart {H : Type 0}
     (hears : H → ResponsePart → Result (Unit {0}) HandlerFault → H → Type 0) (values : Values)
-    (message : SentMessage) (start now : Traffic) (old new : H) (fetch : PartFetch) (rounds : ℕ)
-    (part : ResponsePart) : Type 0 where
+    (message : SentMessage) (wide : ℕ) (start now : Traffic) (old new : H) (fetch : PartFetch)
+    (rounds : ℕ) (part : ResponsePart) : Type 0 where
   pub end : EndLog
   pub heard : List ResponsePart
-  pub coming : IsComing values message start now fetch end
+  pub coming : IsComing values message wide start now fetch end
   pub goes : GoOn heard
   pub has : HasHeard hears old heard new
   pub hands : HandsParts fetch end (heard ++ part ∷ []) []
   pub turns : rounds + 1 ≤ length end.log.turns
 
 module _ {H : Type 0} {hears : H → ResponsePart → Result (Unit {0}) HandlerFault → H → Type 0}
-    {values : Values} {message : SentMessage} {start : Traffic} {old : H} where
+    {values : Values} {message : SentMessage} {wide : ℕ} {start : Traffic} {old : H} where
   -- At first none have come.
   pub hears_first : {now : Traffic} (fetch : PartFetch) (end : EndLog)
-      → IsComing values message start now fetch end → handed_on fetch.id end.handed ≡ []
-      → IsHearing hears values message start now old old fetch 0
+      → IsComing values message wide start now fetch end → handed_on fetch.id end.handed ≡ []
+      → IsHearing hears values message wide start now old old fetch 0
   hears_first fetch end coming none = record {
     end = end;
     heard = [];
@@ -78,11 +78,11 @@ module _ {H : Type 0} {hears : H → ResponsePart → Result (Unit {0}) HandlerF
   pub hears_next : {before now : Traffic} {new : H} {rounds : ℕ} (fetch next : PartFetch)
       (part : ResponsePart) → AnswersNext before now fetch next (Ok part)
       → next.id ≡ fetch.id
-      → IsHearing hears values message start before old new fetch rounds
-      → HasPart hears values message start now old new next rounds part
+      → IsHearing hears values message wide start before old new fetch rounds
+      → HasPart hears values message wide start now old new next rounds part
   unfolding ComesSo
   hears_next fetch next part answers same is =
-      let (after, (coming, handed, turns)) = answers values message start is.end is.coming in
+      let (after, (coming, handed, turns)) = answers values message wide start is.end is.coming in
       let before : handed_on next.id is.end.handed ≡ each (handed_of next.id) is.heard ++ [] =
       subst (λ (i : ℕ). handed_on i is.end.handed ≡ each (handed_of i) is.heard ++ []) (sym same)
       is.hands in record {
@@ -102,11 +102,11 @@ module _ {H : Type 0} {hears : H → ResponsePart → Result (Unit {0}) HandlerF
   -- or the fetch has ended early.
   pub hears_no_more : {before now : Traffic} {new : H} {rounds : ℕ} (fetch next : PartFetch)
       (error : LinkError) → AnswersNext before now fetch next (Err error) → next.id ≡ fetch.id
-      → IsHearing hears values message start before old new fetch rounds
-      → HearsAll hears values message start now old new (Err (faults.Link error))
+      → IsHearing hears values message wide start before old new fetch rounds
+      → HearsAll hears values message wide start now old new (Err (faults.Link error))
   unfolding ComesSo
   hears_no_more fetch next error answers same is =
-      let (after, (stopped, since)) = answers values message start is.end is.coming in
+      let (after, (stopped, since)) = answers values message wide start is.end is.coming in
       let before : handed_on next.id is.end.handed ≡ each (handed_of next.id) is.heard ++ [] =
       subst (λ (i : ℕ). handed_on i is.end.handed ≡ each (handed_of i) is.heard ++ []) (sym same)
       is.hands in
@@ -117,9 +117,9 @@ module _ {H : Type 0} {hears : H → ResponsePart → Result (Unit {0}) HandlerF
 
   -- A part that is heard may be the last one;
   pub heard_whole : {now : Traffic} {new next : H} {rounds : ℕ} {fetch : PartFetch}
-      {part : ResponsePart} → HasPart hears values message start now old new fetch rounds part
+      {part : ResponsePart} → HasPart hears values message wide start now old new fetch rounds part
       → hears new part (Ok tt) next → ends_response part ≡ true
-      → HearsAll hears values message start now old next (Ok tt)
+      → HearsAll hears values message wide start now old next (Ok tt)
   heard_whole {new = new} {next = next} {fetch = fetch} {part = part} is took ends =
       is_whole fetch is.end is.heard part is.coming is.goes
       (one_heard is.heard new next part is.has took) is.hands ends
@@ -127,17 +127,17 @@ module _ {H : Type 0} {hears : H → ResponsePart → Result (Unit {0}) HandlerF
   -- or be refused;
   pub heard_refused : {now : Traffic} {new next : H} {rounds : ℕ} {fetch : PartFetch}
       {part : ResponsePart} (fault : HandlerFault)
-      → HasPart hears values message start now old new fetch rounds part
+      → HasPart hears values message wide start now old new fetch rounds part
       → hears new part (Err fault) next
-      → HearsAll hears values message start now old next (Err (faults.Handler fault))
+      → HearsAll hears values message wide start now old next (Err (faults.Handler fault))
   heard_refused {new = new} {fetch = fetch} {part = part} fault is refused =
       is_refused fetch is.end is.heard part new fault is.coming is.goes is.has refused is.hands
 
   -- or more come.
   pub heard_on : {now : Traffic} {new next : H} {rounds : ℕ} {fetch : PartFetch}
-      {part : ResponsePart} → HasPart hears values message start now old new fetch rounds part
+      {part : ResponsePart} → HasPart hears values message wide start now old new fetch rounds part
       → hears new part (Ok tt) next → ends_response part ≡ false
-      → IsHearing hears values message start now old next fetch (rounds + 1)
+      → IsHearing hears values message wide start now old next fetch (rounds + 1)
   heard_on {new = new} {next = next} {part = part} is took goes = record {
     end = is.end;
     heard = is.heard ++ part ∷ [];
@@ -151,8 +151,8 @@ module _ {H : Type 0} {hears : H → ResponsePart → Result (Unit {0}) HandlerF
 
   -- After so many rounds none is made any more.
   pub hears_no_round : {now : Traffic} {new : H} {rounds : ℕ} {fetch : PartFetch}
-      → 2 ^ 64 - 1 ≤ rounds → IsHearing hears values message start now old new fetch rounds
-      → HearsAll hears values message start now old new (Err (faults.Link errors.NoProgress))
+      → 2 ^ 64 - 1 ≤ rounds → IsHearing hears values message wide start now old new fetch rounds
+      → HearsAll hears values message wide start now old new (Err (faults.Link errors.NoProgress))
   hears_no_round {fetch = fetch} most is =
       ends_early fetch is.end is.heard [] errors.NoProgress (record {
         fetching = is.coming.fetching;
@@ -164,7 +164,7 @@ module _ {H : Type 0} {hears : H → ResponsePart → Result (Unit {0}) HandlerF
 
   -- The message was not accepted.
   pub hears_none : (error : LinkError) → IsNotAccepted values message (Err error)
-      → HearsAll hears values message start start old old (Err (faults.Link error))
+      → HearsAll hears values message wide start start old old (Err (faults.Link error))
   hears_none error refused = is_not_accepted error refused refl refl
 
 -- A fetch that has begun over a link is received so,
@@ -174,9 +174,9 @@ pub receives_begun : {H : Type 0}
     {message : SentMessage} {before now : Traffic} {old new : H}
     {result : Result (Unit {0}) FetchError} (fetch : PartFetch) → BeginsFetch values message fetch
     → ReceivesBy hears ends fetch before now old new result
-    → FetchesBy hears ends values message before now old new result
+    → FetchesBy hears ends values message 0 before now old new result
 receives_begun {values = values} {message = message} {before = before} fetch begins receives =
-    receives values message before begins.end (begins.coming before) begins.none
+    receives values message 0 before begins.end (begins.coming before) begins.none
 
 -- or its message was not accepted.
 pub not_begun : {H : Type 0}
@@ -184,13 +184,14 @@ pub not_begun : {H : Type 0}
     {ends : H → Result (Unit {0}) FetchError → H → Type 0} {values : Values}
     {message : SentMessage} {before : Traffic} {old new : H} (error : LinkError)
     → IsNotAccepted values message (Err error) → ends old (Err (faults.Link error)) new
-    → FetchesBy hears ends values message before before old new (Err (faults.Link error))
+    → FetchesBy hears ends values message 0 before before old new (Err (faults.Link error))
 not_begun {old = old} error refused over =
     record { mid = old; heard = hears_none error refused; over = over }
 
 -- What an error of the fetch says of the link, it says as the end of the hearing.
 pub cuts_heard : (error : LinkError) (ended : Bool)
-    → CutsOffAtEnd {A = ResponsePart} (Err error) ended → CutsOffHeard (Err (faults.Link error)) ended
+    → CutsOffAtEnd {A = ResponsePart} (Err error) ended
+    → CutsOffHeard (Err (faults.Link error)) ended
 cuts_heard errors.CutOff ended is = is
 cuts_heard error ended is = tt
 

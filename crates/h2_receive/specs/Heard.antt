@@ -53,50 +53,50 @@ HandsParts fetch end heard lost =
 -- rule: engines (own) A handler hears a response part by part, as it comes
 pub data HearsAll {H : Type 0}
     (hears : H → ResponsePart → Result (Unit {0}) HandlerFault → H → Type 0) (values : Values)
-    (message : SentMessage) (start now : Traffic) (old new : H)
+    (message : SentMessage) (wide : ℕ) (start now : Traffic) (old new : H)
     : Result (Unit {0}) FetchError → Type 0 where
   is_whole : (fetch : PartFetch) (end : EndLog) (before : List ResponsePart) (part : ResponsePart)
-      → IsComing values message start now fetch end → GoOn before
+      → IsComing values message wide start now fetch end → GoOn before
       → HasHeard hears old (before ++ part ∷ []) new
       → HandsParts fetch end (before ++ part ∷ []) [] → ends_response part ≡ true
-      → HearsAll hears values message start now old new (Ok tt)
+      → HearsAll hears values message wide start now old new (Ok tt)
   is_refused : (fetch : PartFetch) (end : EndLog) (before : List ResponsePart)
       (part : ResponsePart) (mid : H) (fault : HandlerFault)
-      → IsComing values message start now fetch end → GoOn before
+      → IsComing values message wide start now fetch end → GoOn before
       → HasHeard hears old before mid
       → hears mid part (Err fault) new → HandsParts fetch end (before ++ part ∷ []) []
-      → HearsAll hears values message start now old new (Err (faults.Handler fault))
+      → HearsAll hears values message wide start now old new (Err (faults.Handler fault))
   ends_early : (fetch : PartFetch) (end : EndLog) (heard : List ResponsePart)
       (lost : List Handed) (error : LinkError)
-      → HasStopped values message start now fetch end error → GoOn heard
+      → HasStopped values message wide start now fetch end error → GoOn heard
       → HasHeard hears old heard new
       → HandsParts fetch end heard lost → (error ≢ Memory → lost ≡ [])
-      → HearsAll hears values message start now old new (Err (faults.Link error))
+      → HearsAll hears values message wide start now old new (Err (faults.Link error))
   is_not_accepted : (error : LinkError) → IsNotAccepted values message (Err error)
       → now ≡ start → new ≡ old
-      → HearsAll hears values message start now old new (Err (faults.Link error))
+      → HearsAll hears values message wide start now old new (Err (faults.Link error))
 
 -- A response was heard so, and then the handler has learned how that has ended.
 -- rule: engines (own) A handler hears a response part by part, as it comes
 pub record FetchesBy {H : Type 0}
     (hears : H → ResponsePart → Result (Unit {0}) HandlerFault → H → Type 0)
     (ends : H → Result (Unit {0}) FetchError → H → Type 0) (values : Values)
-    (message : SentMessage) (start now : Traffic) (old new : H)
+    (message : SentMessage) (wide : ℕ) (start now : Traffic) (old new : H)
     (result : Result (Unit {0}) FetchError) : Type 0 where
   pub mid : H
-  pub heard : HearsAll hears values message start now old mid result
+  pub heard : HearsAll hears values message wide start now old mid result
   pub over : ends mid result new
 
--- The response to this fetch is heard, whatever has happened at it, if nothing was handed out of the
--- response before.
+-- The response to this fetch is heard, whatever has happened at it, if nothing was handed out of
+-- the response before.
 -- rule: engines (own) A handler hears a response part by part, as it comes
 abbrev pub HearsFetch : {H : Type 0}
     (hears : H → ResponsePart → Result (Unit {0}) HandlerFault → H → Type 0) → PartFetch
     → (before now : Traffic) → (old new : H) → Result (Unit {0}) FetchError → Type 0
 HearsFetch hears fetch before now old new result =
-    (values : Values) (message : SentMessage) (start : Traffic) (end : EndLog)
-    → IsComing values message start before fetch end → handed_on fetch.id end.handed ≡ []
-    → HearsAll hears values message start now old new result
+    (values : Values) (message : SentMessage) (wide : ℕ) (start : Traffic) (end : EndLog)
+    → IsComing values message wide start before fetch end → handed_on fetch.id end.handed ≡ []
+    → HearsAll hears values message wide start now old new result
 
 -- So it is, and then the handler has learned how that has ended.
 -- rule: engines (own) A handler hears a response part by part, as it comes
@@ -105,9 +105,9 @@ abbrev pub ReceivesBy : {H : Type 0}
     (ends : H → Result (Unit {0}) FetchError → H → Type 0) → PartFetch → (before now : Traffic)
     → (old new : H) → Result (Unit {0}) FetchError → Type 0
 ReceivesBy hears ends fetch before now old new result =
-    (values : Values) (message : SentMessage) (start : Traffic) (end : EndLog)
-    → IsComing values message start before fetch end → handed_on fetch.id end.handed ≡ []
-    → FetchesBy hears ends values message start now old new result
+    (values : Values) (message : SentMessage) (wide : ℕ) (start : Traffic) (end : EndLog)
+    → IsComing values message wide start before fetch end → handed_on fetch.id end.handed ≡ []
+    → FetchesBy hears ends values message wide start now old new result
 
 -- N4 is answered only where the link has met the end of its input.
 -- rule: engines (own) N4 comes only where the input ended early

@@ -18,7 +18,8 @@ use std::alloc::Global;
 // rule: engines (own) A handler hears a response part by part, as it comes
 /// Makes a request over a link, and calls the handler with each part of the response as it
 /// arrives, until it is complete. Then, or if it ends early, [`ResponseHandler::over`] is
-/// called. Before each read, credit is returned and queued output is written.
+/// called. Before each read, credit is returned as [`PartFetch`] says, and queued output is
+/// written.
 ///
 /// The caller should flush a link over a stream, which may still hold output, and close it: it
 /// cannot serve another connection.
@@ -41,7 +42,7 @@ pub fn fetch_handler<H: ResponseHandler, L: Link>(
     handler: &mut H,
 ) -> Result<(), FetchError>
     requires { L.faults link.old < 2 ^ 64 - 1 }
-    ensures fetches { FetchesBy H.hears H.ends (values_of config) (message_value message)
+    ensures fetches { FetchesBy H.hears H.ends (values_of config) (message_value message) 0
         (traffic (L.given link.old) (L.taken link.old) (L.stalled link.old))
         (traffic (L.given link.new) (L.taken link.new) (L.stalled link.new))
         handler.old handler.new result }

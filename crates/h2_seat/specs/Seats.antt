@@ -1,15 +1,17 @@
 -- What a step makes of a connection of a host.
 use Rattle.std.specs.Prelude.{◌≡◌, ◌⊎◌, ◌+◌, ◌*◌, ◌-◌, ◌^◌, ℕ, Bool, true, false, Option, Some}
 use Rattle.std.specs.Prelude.{None, if◌then◌else◌, min, max, nat_le, nat_lt, ◌==◌, ◌&&◌, ◌||◌, not}
-use Rattle.std.specs.Prelude.{is_some, length}
+use Rattle.std.specs.Prelude.{Result, is_ok, is_some, length}
 use Rattle.h2_frame.specs.declared.code.Code.TheVariants.{EnhanceYourCalm}
-use Rattle.h2_spec_log.specs.Acts.{Values}
+use Rattle.h2_spec_log.specs.declared.refusal.Refusal.{Refusal}
+use Rattle.h2_spec_log.specs.Acts.{Done, Values, Widen}
 use Rattle.h2_spec_log.specs.Counted.{counted, empty_among, resets_among}
 use Rattle.h2_spec_log.specs.Counted.{pings_among, settings_among}
 use Rattle.h2_spec_log.specs.Limits.{full_output}
 use Rattle.h2_spec_log.specs.Log.{Log, waiting}
 use Rattle.h2_conn.specs.declared.conn.Conn.{Conn}
-use Rattle.h2_conn.specs.Conn.{ConnRepresents}
+use Rattle.h2_conn.specs.Conn.{ConnRepresents, answer_by}
+use Rattle.h2_ends.specs.Represents.{EndAnswers}
 use Rattle.h2_host.specs.declared.party.Answer.{Answer}
 use Rattle.h2_host.specs.declared.party.Answer.TheVariants as answers
 use Rattle.h2_host.specs.declared.party.Bound.TheVariants as bounds
@@ -163,6 +165,27 @@ pub record Acts {H W : Type 0} (rel : Relations H W) (old : Seat H W) (own : Own
 -- what is answered
 abbrev pub answer_in : Phase → Answer
 answer_in phase = if is_phase_over phase then answers.Over else answers.Goes
+
+-- Whether it is up, octets of bodies have come, and a request is incomplete.
+abbrev pub is_seat_receiving : {H W : Type 0} → Seat H W → Bool
+is_seat_receiving seat =
+    (not (is_some (why_of seat.phase)) && nat_lt 0 seat.handled.exchanges.totals.body)
+    && nat_lt 0 seat.handled.exchanges.totals.reading
+
+-- Its connection's window was widened by a call of the connection, which was done or refused; and
+-- nothing else of it has changed but what is counted.
+-- rule: 6.9.2 (own) The window of the connection is widened by a call, for good
+pub record SeatWidens {H W : Type 0} (old : Seat H W) (count : ℕ) (done : Bool) (new : Seat H W)
+    : Type 0 where
+  pub result : Result (Unit {0}) Refusal
+  pub answers : EndAnswers old.handled.server.end (Widen count) (answer_by (λ done. Done) result)
+      new.handled.server.end
+  pub is_done : done ≡ is_ok result
+  pub rest : new ≡ record old {
+    handled = record old.handled { server = new.handled.server };
+    holds = new.holds;
+    ready = new.ready;
+  }
 
 -- A step of a host: only what may happen at a server with its handler has happened; one that is
 -- over stays so; another has made the step, and then what follows from it.

@@ -8,7 +8,7 @@ ghost use Rattle.h2_handlers.specs.Exchanges.{handling_of, relations};
 ghost use Rattle.h2_seat.specs.declared.seat.Phase.TheVariants as phases;
 ghost use Rattle.h2_seat.specs.declared.why.Why.TheVariants as whys;
 ghost use Rattle.h2_seat.specs.Seats.{SeatHandles, is_phase_over, why_of, IsFailedOrOver, TakesNow};
-ghost use Rattle.h2_seat.specs.Seats.{phase_left, why_stopped};
+ghost use Rattle.h2_seat.specs.Seats.{SeatWidens, is_seat_receiving, phase_left, why_stopped};
 
 use crate::limits::SeatLimits;
 use crate::why::Why;
@@ -121,7 +121,9 @@ impl<W: Drop, H: Handler<Work = W>> Seat<H, W> {
     }
 
     /// Whether it is up, octets of bodies have come, and some request is incomplete.
-    pub fn is_receiving(&self) -> bool {
+    pub fn is_receiving(&self) -> bool
+        ensures { result ≡ is_seat_receiving self.now }
+    {
         let is_up = matches!(self.phase, Phase::Up);
         is_up && self.handled.body() > 0 && self.handled.is_reading()
     }
@@ -130,9 +132,7 @@ impl<W: Drop, H: Handler<Work = W>> Seat<H, W> {
     /// Lets the client send `count` octets more on the connection, for good; see
     /// [`Handled::widen`]. Returns false if the call was refused.
     pub fn widen(&mut self, count: u32) -> bool
-        ensures handles { SeatHandles (relations H.heads H.bodies H.trails H.gives H.ends) self.old
-            self.new }
-        ensures phase { self.new.phase ≡ self.old.phase }
+        ensures { SeatWidens self.old count result self.new }
     {
         let widened = self.handled.widen(count);
         self.count();

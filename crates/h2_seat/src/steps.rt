@@ -169,7 +169,7 @@ impl<W: Drop, H: Handler<Work = W>> Seat<H, W> {
         if self.is_failed() {
             return;
         }
-        if let Err(stop) = self.handled.send_some(room) {
+        if let Err(stop) = self.handled.send_some(room, !self.reads) {
             self.stop(stop);
             return;
         }
@@ -368,6 +368,10 @@ impl<W: Drop, H: Handler<Work = W>> Seat<H, W> {
     pub(crate) fn count(&mut self)
         ensures same { self.new.handled ≡ self.old.handled }
         ensures phase { self.new.phase ≡ self.old.phase }
+        ensures rest { self.new ≡ record self.old {
+          holds = self.new.holds;
+          ready = self.new.ready;
+        } }
         ensures holds { is_phase_over self.old.phase ≡ true → self.new.holds ≡ 0 }
         ensures ready { is_phase_over self.old.phase ≡ true → self.new.ready ≡ true }
     {

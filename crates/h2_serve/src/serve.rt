@@ -98,12 +98,14 @@ fn drive<W: Drop, H: Handler<Work = W>, L: Link>(
     ensures failures { L.faults link.new ≡ failures_at_end (L.faults link.old) result }
     ensures err { IfErr result IsOfDriving }
 {
+    let mut waits = true;
     for _ in 0..u64::MAX {
-        send_all(handled, room, link)?;
+        send_all(handled, room, waits, link)?;
         let count = link.read(input)?;
         if count == 0 {
             return Ok(());
         }
+        waits = count < input.len();
         handled.ask_again();
         take_all(handled, &input[..count], room, link)?;
     }
@@ -137,16 +139,18 @@ fn take_all<W: Drop, H: Handler<Work = W>, L: Link>(
         if used == piece.len() && !handled.is_full() {
             return Ok(());
         }
-        send_all(handled, room, link)?;
+        send_all(handled, room, false, link)?;
     }
     Err(LinkError::NoProgress)
 }
 
 // rule: engines (own) A handler answers over any link
-/// Returns credit, sends everything that can be sent, and writes it.
+/// Returns credit (all of it if the next read may wait), sends everything that can be sent, and
+/// writes it.
 fn send_all<W: Drop, H: Handler<Work = W>, L: Link>(
     handled: &mut Handled<H, W>,
     room: &mut [u8],
+    waits: bool,
     link: &mut L,
 ) -> Result<(), LinkError>
     requires { L.faults link.old < 2 ^ 64 - 1 }
@@ -159,7 +163,7 @@ fn send_all<W: Drop, H: Handler<Work = W>, L: Link>(
     ensures err { IfErr result IsOfDriving }
 {
     for _ in 0..u64::MAX {
-        if let Err(stop) = handled.send_some(room) {
+        if let Err(stop) = handled.send_some(room, waits) {
             return Err(end_for(handled, link, stop));
         }
         let is_full = handled.is_full();

@@ -1,5 +1,4 @@
--- What each frame and each call makes of an end as values. Decisions are the rules', over the end's
--- view.
+-- What each frame and each call makes of an end as values. The rules decide, over its view.
 use Rattle.std.specs.Prelude.{ℕ, ◌+◌, ◌-◌, ◌%◌, ◌==◌, nat_lt, not, ◌||◌, ◌&&◌, min, max, Bool, true}
 use Rattle.std.specs.Prelude.{false, if◌then◌else◌, pos, ◌+ℤ◌, ◌-ℤ◌, List, [], ◌∷◌, ◌++◌, length}
 use Rattle.std.specs.Prelude.{drop, Option, Some, None, is_some, map as each}
@@ -30,8 +29,6 @@ use Rattle.h2_spec_log.specs.CallRules.{data_items, refuse_fault, items_of, answ
 use Rattle.h2_spec_log.specs.CallRules.{encoder_after_call, opening_pairs}
 use Rattle.h2_spec_machine.specs.End.{StreamEntry, active_entry, reset_entry, StreamMap, End}
 use Rattle.h2_spec_machine.specs.End.{stream_at, owed_entry, end_view}
-
--- Small steps.
 
 -- an end with another table of the peer's, or block that has begun
 abbrev pub with_begun : End → Option Begun → End

@@ -37,7 +37,8 @@ goaway_sent_last (alone (GoAway last code debug) ∷ items) = last
 goaway_sent_last (_ ∷ items) = goaway_sent_last items
 
 -- The connection's receive window is conserved: what the peer may send, what is owed on all
--- streams, and what is unreturned, are what it was made (RFC 9113, section 6.9).
+-- streams, and what is unreturned, add up to 65,535 octets and what it was widened by (RFC 9113,
+-- section 6.9).
 abbrev pub ConservesConnectionWindow : End → Type 0
 ConservesConnectionWindow e = e.windows.recv + (owed_total e.streams.entries + e.windows.unreturned)
     ≡ e.windows.granted

@@ -15,8 +15,8 @@ pub struct TimeLimits {
     pub least_body: u64,
     /// For the next octet of output to be written, while some is queued.
     pub writing: u64,
-    /// For the next octet of any response's body to be sent, while some open request has a
-    /// response.
+    /// For the next octet of any response's body to be sent, while an exchange whose response has
+    /// begun is open.
     pub answering: u64,
     /// For the next request, while no exchange is open.
     pub idle: u64,

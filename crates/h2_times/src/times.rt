@@ -16,7 +16,7 @@ pub enum Late {
     Body,
     /// The peer accepted no output.
     Writing,
-    /// No octet of a response could be sent.
+    /// No octet of a response's body was sent.
     Answering,
     /// No request came.
     Idle,
@@ -40,7 +40,7 @@ pub struct Progress {
     pub waits: bool,
     /// The octets of output written.
     pub went: u64,
-    /// Whether a response waits.
+    /// Whether an exchange whose response has begun is open.
     pub answering: bool,
     /// The octets of bodies sent.
     pub sent: u64,

@@ -27,6 +27,7 @@ use Rattle.h2_args.specs.Words.{loop_options_of, asks_messages}
 use Rattle.h2_args.specs.declared.sockets.LoopOptions.{LoopOptions}
 use Rattle.h2_args.specs.Words.{FollowAsked, asks_follow, follow_asked_of, follow_faults}
 use Rattle.h2_args.specs.Words.{HostAsked, host_faults, host_words_of, loop_faults, program_faults}
+use Rattle.h2_args.specs.Windows.{window_or}
 use Rattle.h2_args.specs.declared.sockets.ServeOptions.{ServeOptions}
 use Rattle.h2_hosting.specs.Ending.{EndsHosting}
 use Rattle.h2_link.specs.declared.error.LinkError.{LinkError}
@@ -395,17 +396,26 @@ EndsLoop words before after status =
     × PostsSo options.count before after status)
     ⊎ EndsByWords (loop_faults words) before after status
 
--- The status with words that have no fault: that of a host, or its address is none.
+-- the window of a connection that the words ask for, if that is the size of one: 1 MiB without
+-- --window
+-- rule: engines (own) The size of --window is a number of octets, with k or m for more
+abbrev pub host_window : HostAsked → Option ℕ
+host_window asked = window_or asked.window 1048576
+
+-- The status with words that have no fault: that of a host; or its address is none, or the size of
+-- its window, for which nothing is served.
 -- rule: hosts (own) A host ends with one of three statuses
-abbrev pub EndsHostAsked : Status → Type 0
-EndsHostAsked status = EndsHosting status ⊎ (status ≡ Usage)
+pub record EndsHostAsked (asked : HostAsked) (status : Status) : Type 0 where
+  pub ends : EndsHosting status ⊎ (status ≡ Usage)
+  pub window : host_window asked ≡ None → status ≡ Usage
+  pub serves : asked.address ≡ None → host_window asked ≢ None → EndsHosting status
 
 -- How `h2 host` ends: by its words; or, with words that have no fault, as a host does, or since its
--- address is none.
+-- address or the size of its window is none.
 -- rule: hosts (own) The words of host say what is served, where, and for how long
 abbrev pub EndsHost : (words : List (List ℕ)) → (before after : Option (List ℕ)) → Status → Type 0
 EndsHost words before after status =
-    ((asked : HostAsked) × (host_words_of words ≡ Some asked) × EndsHostAsked status)
+    ((asked : HostAsked) × (host_words_of words ≡ Some asked) × EndsHostAsked asked status)
     ⊎ EndsByWords (host_faults words) before after status
 
 -- The first of the words, if there is one, is no command's name.

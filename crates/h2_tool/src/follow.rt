@@ -133,7 +133,7 @@ fn give_hint<E: Write>(hint: Option<FollowHint>, err: &mut E) {
         ),
         Some(FollowHint::NotChecked) => writeln!(
             err,
-            "hint: SETTINGS allow more than h2 supports: a fault after `not checked` may not be one"
+            "hint: SETTINGS allow more than h2 supports: after `not checked` a fault may be none"
         ),
         Some(FollowHint::Table) => writeln!(
             err,

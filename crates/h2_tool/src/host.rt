@@ -2,6 +2,7 @@
 
 ghost use Rattle.std.specs.Prelude.{◌≡◌, map, string_bytes, unwrap_or};
 ghost use Rattle.h2_cli.specs.declared.status.Status.TheVariants.{Usage};
+ghost use Rattle.h2_args.specs.Words.{host_asked_by};
 ghost use Rattle.h2_tool.specs.Commands.{EndsHost, EndsHostAsked};
 
 use crate::get::refuse_window;
@@ -55,7 +56,7 @@ fn serve_asked<'x, N: Net + Files + Clock, W: Write, E: Write>(
     out: &mut W,
     err: &mut E,
 ) -> Status
-    ensures { EndsHostAsked result }
+    ensures { EndsHostAsked (host_asked_by asked.entry) result }
 {
     let address = match asked.address {
         Some(text) => match text.parse::<IpAddr>() {

@@ -178,18 +178,20 @@ const PING: [u8; 8] = *b"are you?";
 // end
 
 // calling: h2_conn widen
-ghost use Rattle.h2_spec_log.specs.Acts.{Widen, Refused};
+ghost use Rattle.std.specs.Prelude.{IfErr};
+ghost use Rattle.h2_spec_log.specs.Acts.{Widen, Done, Refused};
 
 /// Lets the peer send `more` octets more on the connection, for good. Returns whether that is
-/// done: if the output is full, write it and make the call again. A window that would be larger
-/// than the greatest stays as it is.
+/// done: if the output is full, write it and make the call again.
 pub fn widen(conn: &mut Conn, more: u32) -> Result<bool, Refusal>
-    ensures widens { result ≡ Ok false → ConnAnswers conn.old (Widen more)
+    ensures done { result ≡ Ok true → ConnAnswers conn.old (Widen more) Done conn.new }
+    ensures full { result ≡ Ok false → ConnAnswers conn.old (Widen more)
         (Refused Refusal.OutputFull) conn.new }
-    ensures full { (result ≢ Err Refusal.OutputFull) × (result ≢ Err Refusal.WindowTooLarge) }
+    ensures refused { IfErr result (λ refusal. (refusal ≢ Refusal.OutputFull)
+        × ConnAnswers conn.old (Widen more) (Refused refusal) conn.new) }
 {
     match conn.widen(more) {
-        Ok(()) | Err(Refusal::WindowTooLarge) => Ok(true),
+        Ok(()) => Ok(true),
         Err(Refusal::OutputFull) => Ok(false),
         Err(refusal) => Err(refusal),
     }

@@ -139,6 +139,7 @@ fn laws_of_h2_laws_end_second() {
 #[test]
 fn laws_of_h2_laws_machine_first() {
     h2_laws_machine::calls_preserve_representation();
+    h2_laws_machine::connection_updates_are_covered();
     h2_laws_machine::connection_window_is_conserved();
     h2_laws_machine::connection_window_is_kept();
     h2_laws_machine::connection_window_of_a_log();
@@ -154,6 +155,7 @@ fn laws_of_h2_laws_machine_second() {
     h2_laws_machine::machines_answer_alike();
     h2_laws_machine::new_end_represents();
     h2_laws_machine::owed_on_all_streams();
+    h2_laws_machine::receive_windows_are_alike();
     h2_laws_machine::steps_preserve_representation();
     h2_laws_machine::steps_without_frames_preserve_representation();
     h2_laws_machine::values_are_in_range();

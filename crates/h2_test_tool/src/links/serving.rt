@@ -88,7 +88,7 @@ where
 }
 
 // rule: engines (own) A link over TCP counts the calls that have failed
-// rule: engines (own) h2 serve serves so many connections, one after another
+// rule: engines (own) h2 serve serves COUNT connections, one after another
 #[test]
 fn connections_one_after_another(rt: HostRuntime) -> Result<(), Fail> {
     let rows: [(&[Client<'_>], &str, Status); 4] = [

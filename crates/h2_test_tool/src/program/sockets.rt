@@ -197,7 +197,7 @@ fn serve_at_a_taken_port(rt: HostRuntime) -> Result<(), Fail> {
     Ok(())
 }
 
-// rule: engines (own) h2 serve serves so many connections, one after another
+// rule: engines (own) h2 serve serves COUNT connections, one after another
 #[test]
 fn serving_a_port_that_is_taken(rt: HostRuntime) -> Result<(), Fail> {
     let listener = TcpListener::bind(&rt, SocketAddr::from((Ipv4Addr::LOCALHOST, 0)))?;

@@ -5,6 +5,9 @@ use Rattle.h2_ends.specs.declared.refusal.EndRefusal.TheVariants as refusals
 use Rattle.std.proofs.Common.{Ok}
 use Rattle.h2_fetch.proofs.sending.return_credit.Goals as goal
 
+pub returns-in-Kept : goal.returns-in-Kept
+returns-in-Kept c = rw c.in-Kept.is (λ values end represents up. (end, (refl, refl), represents))
+
 pub returns-then-owed-eq0 : goal.returns-then-owed-eq0
 returns-then-owed-eq0 c =
     rw c.in-On.is (returns_nothing c.args.client.now.end c.in-On.id c.owed-owed.result

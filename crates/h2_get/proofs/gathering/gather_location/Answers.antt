@@ -6,16 +6,17 @@ use Rattle.h2_get.specs.Gathers.{is_gathered, not_accepted, not_connected}
 use Rattle.h2_get.specs.Windows.{IsNotWidened, fetch_values}
 use Rattle.h2_get.proofs.gathering.gather_location.Goals as goal
 
-pub returns-in-Err : goal.returns-in-Err
-returns-in-Err g c = not_connected c.in-Err.ending.error c.in-Err.ensures.err
+pub returns-in-Err-clause-gathers : goal.returns-in-Err-clause-gathers
+returns-in-Err-clause-gathers g c = not_connected c.in-Err.ending.error c.in-Err.ensures.err
 
-pub returns-in-Err-begin_fetch : goal.returns-in-Err-begin_fetch
-returns-in-Err-begin_fetch g c =
-    rw c.from.ensures (not_accepted c.in-Err-begin_fetch.error
+pub returns-in-Err-begin_fetch-clause-gathers : goal.returns-in-Err-begin_fetch-clause-gathers
+returns-in-Err-begin_fetch-clause-gathers g c =
+    let error = c.in-Err-begin_fetch.error in
+    rw c.from.ensures (not_accepted error
     (subst (λ (window : ℕ). IsNotAccepted (fetch_values window) (message_value c.args.message)
-    (Err c.in-Err-begin_fetch.error) ⊎ IsNotWidened c.in-Err-begin_fetch.error) c.window_of.ensures c.in-Err-begin_fetch.ensures.refused))
+    (Err error) ⊎ IsNotWidened error) c.window_of.ensures c.in-Err-begin_fetch.ensures.refused))
 
-pub returns : goal.returns
-returns g c =
+pub returns-clause-gathers : goal.returns-clause-gathers
+returns-clause-gathers g c =
     is_gathered c.in-Ok-begin_fetch.fetch _ _
     (rw c.window_of.ensures at c.in-Ok-begin_fetch.ensures.ok) c.gather_with_hint.ensures.gathers

@@ -16,6 +16,6 @@ pub returns : goal.returns
 returns g c =
     rw (sym c.is_in_parts.ensures ∙ c.if-is_in_parts.false) (
       without_hint c.gather_location-got.result,
-      c.gather_location-got.ensures,
+      c.gather_location-got.ensures.gathers,
       c.end_get.ensures,
     )

@@ -5,5 +5,5 @@ use Rattle.h2_fetch.proofs.several.SeveralFetch.widen.Goals as goal
 
 pub returns-clause-widens : goal.returns-clause-widens
 returns-clause-widens c =
-    widens_several c.args.count c.widen.result c.args.self.now _ (omega arith) c.widen.ensures refl refl refl
-    refl
+    widens_several c.args.count c.widen.result c.args.self.now _ (omega arith) c.widen.ensures refl
+    refl refl refl

@@ -8,18 +8,18 @@ returns-in-Some-clause-handles g c =
 
 pub returns-in_err-give_waiting-clause-handles : goal.returns-in_err-give_waiting-clause-handles
 returns-in_err-give_waiting-clause-handles g c =
-    then_handles c.release.ensures c.give_waiting.ensures
+    then_handles c.return_credit.ensures c.give_waiting.ensures
 
 pub returns-in_err-pump-clause-handles : goal.returns-in_err-pump-clause-handles
 returns-in_err-pump-clause-handles g c =
-    then_handles (then_handles c.release.ensures c.give_waiting.ensures) c.pump.ensures
+    then_handles (then_handles c.return_credit.ensures c.give_waiting.ensures) c.pump.ensures
 
 pub returns-in_err-ask-clause-handles : goal.returns-in_err-ask-clause-handles
 returns-in_err-ask-clause-handles g c =
-    then_handles (then_handles (then_handles c.release.ensures c.give_waiting.ensures)
+    then_handles (then_handles (then_handles c.return_credit.ensures c.give_waiting.ensures)
     c.pump.ensures) c.ask.ensures.handles
 
 pub returns-clause-handles : goal.returns-clause-handles
 returns-clause-handles g c =
-    then_handles (then_handles (then_handles (then_handles c.release.ensures
+    then_handles (then_handles (then_handles (then_handles c.return_credit.ensures
     c.give_waiting.ensures) c.pump.ensures) c.ask.ensures.handles) c.settle.ensures
