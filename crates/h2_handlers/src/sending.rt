@@ -21,12 +21,15 @@ const SHARE: usize = 16_384;
 
 impl<W: Drop, H: Handler<Work = W>> Handled<H, W> {
     // rule (tested): handlers (own) Whole bodies have their share before a part is asked for
-    /// Sends what can go: returns credit for what the handler has used (if `waits`, which says that
-    /// the next read may wait, all of it; otherwise only once it is half of the connection's
-    /// window), sends the responses that waited because the output was full, up to 16,384 octets of each complete body, and then one
-    /// part of one response, for which it asks the handler. Complete bodies go first:
-    /// otherwise parts could fill the output and use up the connection's window in each call, and
-    /// complete bodies would never be sent. `room` is scratch space for the part.
+    /// Sends what can go: returns credit, sends the responses that waited because the output was
+    /// full, up to 16,384 octets of each complete body, and then one part of one response, for
+    /// which it asks the handler. Complete bodies go first: otherwise parts could fill the output
+    /// and use up the connection's window in each call, and complete bodies would never be sent.
+    /// `room` is scratch space for the part.
+    ///
+    /// `waits` says that the next read may wait for input: then credit is returned for all that the
+    /// handler has used. Otherwise it is once that is as much as the client may still send on the
+    /// connection, or both together are less than 65,535 octets.
     ///
     /// # Errors
     ///
@@ -49,8 +52,7 @@ impl<W: Drop, H: Handler<Work = W>> Handled<H, W> {
     }
 
     // rule: 6.9 (own) Credit is returned by half of a window
-    /// Returns credit for what the handler has used: all of it if the next read may wait, or once
-    /// it is half of the connection's window.
+    /// Returns credit for what the handler has used, if the next read may wait or it is due.
     fn return_credit(&mut self, waits: bool) -> Result<(), Stop>
         ensures { Handles (relations H.heads H.bodies H.trails H.gives H.ends) []
             self.old.server.end (handling_of self.old.exchanges) self.new.server.end
@@ -63,8 +65,8 @@ impl<W: Drop, H: Handler<Work = W>> Handled<H, W> {
     }
 
     // rule: 6.9 (own) Credit is returned by half of a window
-    /// Whether credit for what the handler has used is due: once it is half of the connection's
-    /// window.
+    /// Whether credit for what the handler has used is due, by what the client may still send on
+    /// the connection.
     fn is_credit_due(&self) -> bool
         ensures { (values : Values) (log : Log) → ConnRepresents values self.now.server.end.conn log
             → result ≡ is_credit_due_in_all log self.now.exchanges.totals.unused }
