@@ -98,10 +98,10 @@ enum {
   BJ_TOO_MANY_RESETS = -29,   /* 1,000 streams were already reset by this endpoint */
   BJ_LIST_TOO_LARGE = -30,    /* the field list is larger than allowed: 65,536 octets, except in
                                * bj_encode and bj_decode */
-  BJ_NOT_OWED = -31,          /* nothing was released, or more than is owed on the stream */
+  BJ_NOT_OWED = -31,          /* the count is 0, or more than is owed on the stream */
   BJ_MEMORY = -32,            /* out of memory */
   BJ_SETTINGS_WAIT = -33,     /* the last SETTINGS are not acknowledged yet */
-  BJ_WINDOW_TOO_LARGE = -34,  /* a window is widened by nothing, or to more than 2^31 - 1 octets */
+  BJ_WINDOW_TOO_LARGE = -34,  /* the count is 0, or would widen the window above 2^31 - 1 octets */
 
   /* Rules that a message breaks, the first of several. */
   BJ_BAD_NAME = -41,         /* a field name is empty or has a forbidden octet */

@@ -51,10 +51,10 @@ refusal_texts =
     (28, codes "C8 PingWaits: the last PING is not answered yet") ∷
     (29, codes "C9 TooManyResets: 1,000 streams were already reset") ∷
     (30, codes "C10 ListTooLarge: the field list is larger than 65,536 octets") ∷
-    (31, codes "C11 NotOwed: nothing was released, or more than is owed on the stream") ∷
+    (31, codes "C11 NotOwed: the count is 0, or more than is owed on the stream") ∷
     (32, codes "C12 Memory: out of memory") ∷
     (33, codes "C13 SettingsWait: the last SETTINGS are not acknowledged yet") ∷
-    (34, codes "C14 WindowTooLarge: a window is widened by 1 or more, to 2,147,483,647 at most") ∷
+    (34, codes "C14 WindowTooLarge: the count is 0, or would widen the window above 2^31 - 1") ∷
     []
 
 -- errors of messages: M1 to M12, and E3 and E4

@@ -112,10 +112,10 @@ fn text_of_refusal(number: u32) -> &'static [u8]
         28 => b"C8 PingWaits: the last PING is not answered yet\0",
         29 => b"C9 TooManyResets: 1,000 streams were already reset\0",
         30 => b"C10 ListTooLarge: the field list is larger than 65,536 octets\0",
-        31 => b"C11 NotOwed: nothing was released, or more than is owed on the stream\0",
+        31 => b"C11 NotOwed: the count is 0, or more than is owed on the stream\0",
         32 => b"C12 Memory: out of memory\0",
         33 => b"C13 SettingsWait: the last SETTINGS are not acknowledged yet\0",
-        34 => b"C14 WindowTooLarge: a window is widened by 1 or more, to 2,147,483,647 at most\0",
+        34 => b"C14 WindowTooLarge: the count is 0, or would widen the window above 2^31 - 1\0",
         _ => b"unknown error\0",
     }
 }

@@ -25,8 +25,8 @@ pub struct FollowWords<'a> {
 const FOLLOW: &str = "follow";
 
 const FOLLOW_HELP: &str = r"Show both sides of a connection from the text printed by
-tshark; takes only --max-frame, and --page FILE to write
-an HTML page instead of lines";
+tshark; the only other options accepted are --max-frame,
+and --page FILE, which writes an HTML page";
 
 const PAGE: &str = "page";
 

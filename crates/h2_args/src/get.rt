@@ -173,8 +173,8 @@ const VERBOSE: &str = "verbose";
 
 const VERBOSE_HELP: &str = r"Print the frames of both sides on standard error,
 in the format of show --follow, but check neither
-against the other's SETTINGS; the body is printed
-as with --stream";
+against the other's SETTINGS; the body is printed,
+or with --output written, as it arrives";
 
 const GET_WINDOW: &str = "window";
 
@@ -195,12 +195,13 @@ to connect (name resolution, and a write to a pipe, are not interrupted).
 Several URLs are requested at once, each with the same fields and the same body.
 The responses are printed in the order of the URLs, with a newline between them.
 The current one is printed as it arrives, as with --stream; what arrives of
-later ones in the meantime is kept. That is at most the size of --window: each
-of N responses has a window of that size divided by N, which opens again only
-for the current one, so a long body takes N times the round trips. A response
-that is reset, or fails by --fail, does not end the others, and a hint names its
-URL; the exit status is that of the first failure. At most 100 URLs are
-accepted, all of the same host and port.
+later ones in the meantime is kept. That is at most the size of --window, once
+the server has acknowledged the windows: each of N responses has a window of
+that size divided by N, which opens again only for the current one, so a long
+body takes N times the round trips. A response that is reset, or fails by
+--fail, does not end the others, and a hint names its URL; the exit status is
+that of the first failure. At most 100 URLs are accepted, all of the same host
+and port.
 
 The server may send as many octets of bodies as --window says before they are
 read: so a window divided by the round-trip time is the most that arrives per
@@ -214,8 +215,8 @@ and little of it is kept: if the response is reset or cut off, what arrived
 before is already there. The file is created or truncated once the head of the
 response has arrived. If --fail makes the response a failure, the file is left
 alone, and no more of the response is fetched; with several URLs, no more of
-its body arrives than its window allows. `--output -` writes a file of that
-name. --output cannot be used with several URLs.
+its body arrives than its window allows. `--output -` writes a file named `-`.
+--output cannot be used with several URLs.
 
 With --verbose, each frame is printed on standard error when it is sent, after
 `> `, or received, after `< `, in the format of h2 show --follow. With --output
@@ -237,8 +238,8 @@ Exit status (lines in backquotes go to standard error):
   1  `N2 Stream CODE`: the connection failed with this code (RFC 9113,
      section 7)
      `N4 CutOff`: the connection ended before the response was complete
-     `N6 Reset CODE`: the request was reset with this code, or with 7 if it was
-     not processed
+     `N6 Reset CODE`: the request was reset with this code; CODE is 7 also if it
+     was not processed
      `error: status NUMBER`: with --fail, the status of the response is 400 or
      above
   2  invalid arguments, or a URL that cannot be fetched

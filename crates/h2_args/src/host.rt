@@ -88,8 +88,8 @@ const CONNECTIONS_HELP: &str = r"Maximum number of connections at once, 1 to 104
 
 const IDLE: &str = "idle";
 
-const IDLE_HELP: &str = r"Close a connection after this many seconds without a
-request, 0 to 86400; 0 means never [default: 75]";
+const IDLE_HELP: &str = r"Close a connection after this many seconds without an
+open request, 0 to 86400; 0 means never [default: 75]";
 
 const LOG: &str = "log";
 
@@ -115,10 +115,10 @@ its own body.
 With --root, GET and HEAD are answered with a file below that folder, of any
 size, with its type, length, `etag`, `last-modified` and `date`. Conditional
 requests and single ranges are supported (RFC 9110, sections 13 and 14). A path
-that ends with a slash is the `index.html` of that folder. The body of an error,
-except to HEAD, is its status and phrase:
-  400, 414  the path cannot be decoded or has a control character, or it has
-            more than 4096 octets
+that ends with a slash is the `index.html` of that folder. The body of an error
+is its status and phrase, except to HEAD, and except in a 500 because memory for
+the answer ran out:
+  400       the path cannot be decoded or has a control character
   403       a symbolic link or anything below one, a file that is not regular,
             or one that may not be read
   404       the file does not exist, the path is a folder without a trailing
@@ -127,8 +127,10 @@ except to HEAD, is its status and phrase:
   405       another method than GET or HEAD
   412       `if-match` or `if-unmodified-since` is false (`if-none-match` and
             `if-modified-since` give 304, without a body)
+  414       the path, without its query, has more than 4096 octets
   416       the range is beyond the file
-  500, 503  the file system failed, or memory or file descriptors ran out
+  500       the file system failed, or memory for the answer ran out
+  503       file descriptors, or memory to find or read the file, ran out
 Symbolic links are not followed: the file and the folders on its path are
 checked before and after it is opened. Someone who can write below the folder
 could still swap a link in and out again between the two checks. If a file
@@ -136,12 +138,14 @@ shrinks while it is sent, the stream is reset with code 2.
 
 A connection that has no open request for --idle seconds is closed gracefully.
 A connection is closed with code 4 if the preface and the first frame take more
-than 10 seconds, and with code 11
-- if a later frame, a field block of several frames, or the next 1024 octets of
-  request bodies (of all streams together) take more than 30 seconds;
+than 10 seconds, and with code 11 in these cases:
+- if a later frame or a field block of several frames takes more than 30
+  seconds, or if, while a request is incomplete, 1024 octets of request bodies
+  (of all streams together) take more than 30 seconds;
 - if output is queued and none of it is written for 60 seconds, or if no octet
-  of any response body is sent for 60 seconds while some request has a response
-  and is not finished (request and response not both complete);
+  of any response body is sent for 60 seconds while some exchange is open whose
+  response has begun (an exchange is open until its request and its response are
+  both complete);
 - if, within one of consecutive periods of 10 seconds,
   - the client sends more than 500 RST_STREAM frames or more than 500 empty
     frames;
@@ -155,9 +159,11 @@ than 10 seconds, and with code 11
 
 A client may send as many octets of bodies as --window says before they are
 used, in one request, and in all requests of a connection together. A
-connection's window is 65535 octets at first. Once part of a body has arrived
-and more is to come, it is widened to that size. All connections together are
-widened by at most 128 MiB. A size below 65535 limits only each request.
+connection's window is 65535 octets at first. Once octets of some body have come
+and some request is incomplete, it is widened to that size if what it lacks (the
+size less 65535) is left of the 128 MiB by which all connections together may be
+widened; otherwise that is tried again each time octets come. So a size above
+134283263 widens none. A size below 65535 limits only each request.
 
 With --until-closed, GOAWAY is sent on all connections once standard input is
 closed, and pending requests are answered. A connection that takes longer than 5
@@ -180,8 +186,8 @@ Exit status (lines in backquotes go to standard error):
   2  invalid arguments, `error: not an IP address: ADDR`, or an `error:` line
      for --window
   3  `N1 Device`: the port or the folder is not available, standard input
-     cannot be polled (a file, for example), or waiting or writing the log
-     failed
+     cannot be polled (a file, for example), or the clock, the wait for sockets
+     or a write of the log failed
   4  `N3 Memory`: out of memory
 
 A hint may follow that line. It is meant for people; the exit status does not

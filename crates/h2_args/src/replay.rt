@@ -74,8 +74,9 @@ fn messages_arg<'a>(alloc: Global) -> Arg<'a>
 const EVENTS_AND_STATUSES: &str =
     r"The input is fed to one endpoint of a new connection. The endpoint has the
 default settings and makes no calls of its own: it answers no request, opens no
-stream and releases no octets. So the 101st request is reset with code 7, a body
-above 65535 octets is a fault, and so is a response to a client.
+stream and releases no octets. So the 101st request is reset with code 7, bodies
+of more than 65535 octets in all are a fault, and with --as client any response
+is a fault.
 
 Each event is printed on one line:
   fields ID          a field block was received on stream ID; `end` after it, as

@@ -199,7 +199,8 @@ what the type adds, in this order:
                      GOAWAY: the last stream, the error code, and the number of
                      octets of debug data
   add=N              the window size increment
-  KIND66, flags=N    a frame type that RFC 9113 does not define, and its flags
+  flags=N            the flags of a frame whose type RFC 9113 does not define;
+                     its type is printed as KIND and a number, such as KIND66
 PING adds its eight octets in hexadecimal, and PRIORITY adds nothing. The fields
 of a block follow the frame that ends it. Other lines:
   preface            the client connection preface
@@ -215,12 +216,12 @@ of a block follow the frame that ends it. Other lines:
 
 With --names, a known setting is printed by name instead of by number, and an
 error code is followed by its name: code=8 CANCEL. With --offsets, the preface
-and each frame are preceded by the position of their first octet, in ten digits
-or more and a space, counted as in `fault CODE at N`; other lines have none.
+and each frame are preceded by the position of their first octet (ten digits or
+more, counted from 1) and a space; other lines have none.
 With --color always, frame types are bold, fields are faint, and `fault`, `rest`
 and `unfinished block` lines are red. With --json, each line is a JSON object,
-and --names and --offsets have no effect. --follow accepts none of these
-options.
+and --names, --offsets and --color have no effect. With --follow, only
+--max-frame and --page are accepted.
 
 --client FILE --server FILE shows both sides of a connection, each from a file
 of its own: first all lines of the client, prefixed with `> `, then those of the
@@ -245,8 +246,9 @@ Exit status (lines in backquotes go to standard error):
 A hint may follow on standard error. It is meant for people; the exit status
 does not depend on it.
 
-A packet capture is not a stream of octets. tshark extracts both sides of its
-first connection (inside TLS, given the keys, with follow,tls,raw,0):
+A packet capture is not a stream of octets. tshark extracts both sides of the
+first connection in it (if that is inside TLS, use follow,tls,raw,0, and give
+tshark the keys):
   $ tshark -r FILE -q -z follow,tcp,raw,0 | h2 show --follow
 Lines of the client are prefixed with `> `, those of the server with `< `, and
 each is printed where the last octet of its frame arrived. A fault ends its

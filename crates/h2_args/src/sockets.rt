@@ -118,8 +118,8 @@ Exit status (lines in backquotes go to standard error):
   0  every connection was served until its client ended it
   1  `N2 Stream CODE`: the connection failed with this code (RFC 9113,
      section 7); or CODE is 11, and a stream had to be reset after 1000 others
-     `N4 CutOff`: it ended inside the preface or a frame, or while a stream was
-     active
+     `N4 CutOff`: the connection ended inside the preface or a frame, or while a
+     stream was active
   2  invalid arguments
   3  `N1 Device`: the port is not available, or a read or a write failed
      `N5 NoProgress`: a write accepted no octets
@@ -144,12 +144,13 @@ most 4096 octets, which the other then reads.
 Exit status (lines in backquotes go to standard error, except `sent`):
   0  the response is complete: `sent N got M status 200` on standard output,
      with M = N + 7; with --each-way, also a line such as
-     `0.070000 MB posted, 0.070007 MB got, 0.004321 s` (1 MB is 10^6 octets)
+     `0.070000 MB posted, 0.070007 MB got, S s` (1 MB is 10^6 octets; S is the
+     seconds taken)
   1  `N4 CutOff`: the response is incomplete, and neither side writes any more
      `N2 Stream CODE` and `N6 Reset CODE`: as for `h2 get`
   2  invalid arguments
   3  `N1 Device`: the connection cannot be made, or a read or a write failed
-     `N5 NoProgress`: one side cannot go on
+     `N5 NoProgress`: 2^64 - 1 rounds were made, or h2 itself is at fault
   4  `N3 Memory`: out of memory
 
 Example:

@@ -52,8 +52,8 @@ impl Gather {
     ///
     /// # Errors
     ///
-    /// - [`BlockFault::Interrupted`] where a frame other than a CONTINUATION of the same stream
-    ///   comes inside a block, of an unknown type too;
+    /// - [`BlockFault::Interrupted`] where, inside a block, any frame comes that is not a
+    ///   CONTINUATION of the same stream, even one of an unknown type;
     /// - [`BlockFault::Stray`] where a CONTINUATION comes outside a block;
     /// - [`BlockFault::TooLong`] where the block, with this frame, has more than 65,552 octets;
     /// - [`BlockFault::Memory`] where an allocation was refused: nothing has changed, and the

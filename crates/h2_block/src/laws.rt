@@ -19,9 +19,9 @@ pub fn one_grouping()
 {}
 
 // contract: 4.3 Each list of frames groups or has a fault; prefixes agree
-/// If the last of some frames is at fault, they have no grouping, whatever follows them: neither
-/// that frame nor a later one is part of an item (a block, or a frame outside blocks). That fault
-/// is their only one, and no later frame has another.
+/// If the last frame of a list is at fault, the list has no grouping, whatever frames follow it:
+/// neither that frame nor a later one is part of an item (a block, or a frame outside blocks). This
+/// fault is the only one, and no later frame has another.
 pub fn no_grouping_past_a_fault()
     ensures grouping { (frames more : List Frame) (items others : List Item) (fault : BlockFault)
         (begun : Option Begun)

@@ -10,7 +10,7 @@ use h2_frame::Code;
 use std::fmt;
 use std::io::{self, ErrorKind, Write};
 
-/// The likely cause of a failure. Its text is that of the line, after `hint: `.
+/// The likely cause of a failure. It is printed as a line: `hint: `, and then its text.
 #[derive(Clone, Copy, Debug, PartialEq, Eq)]
 pub enum Hint {
     /// The input is a packet capture, not octets of HTTP/2.

@@ -82,9 +82,9 @@ impl Conn {
     }
 
     // contract: calls (own) A call that sends nothing takes no memory
-    /// Sends octets of a body as [`Conn::data`] does, and doesn't copy them for a DATA frame
-    /// with 4,096 octets or more: the queue shares them until they are put out or consumed. If
-    /// an allocation for that is refused, they are copied.
+    /// Sends octets of a body as [`Conn::data`] does. Those of a DATA frame with 4,096 octets or
+    /// more are not copied: the queue shares them until they are put out or consumed. If an
+    /// allocation for that is refused, they are copied.
     ///
     /// # Errors
     ///
@@ -111,7 +111,7 @@ impl Conn {
         self.inner.end.send_shared_data(id, octets, end)
     }
 
-    /// Returns `count` octets of flow-control window to the peer (RFC 9113, section 6.9): by
+    /// Gives `count` octets of flow-control window back to the peer (RFC 9113, section 6.9): by
     /// WINDOW_UPDATE on the connection and, unless the peer has sent END_STREAM, on the stream.
     /// They must be owed ([`Conn::owed`]): reported by [`Event::Data`] as `flow`, and not yet
     /// released.
@@ -129,16 +129,17 @@ impl Conn {
     }
 
     // contract: 6.9.2 (own) The window of the connection is widened by a call, for good
-    /// Lets the peer send `count` octets more on the connection, for good (sections 6.9 and
-    /// 6.9.2): WINDOW_UPDATE on stream 0 joins the output. A connection begins with 65,535 octets,
-    /// whatever [`Config`] says of streams, so a peer can send that much per round trip, and with a
-    /// wider window more.
+    /// Lets the peer send `count` octets more on the connection, for good (sections 6.9 and 6.9.2):
+    /// a WINDOW_UPDATE on stream 0 is queued. A connection begins with 65,535 octets, whatever
+    /// [`Config`] says of streams, so a peer can send that much per round trip, and with a wider
+    /// window more.
     ///
     /// # Errors
     ///
     /// [`Refusal::Closed`] (C1), [`Refusal::OutputFull`] (C7), [`Refusal::WindowTooLarge`] (C14)
-    /// where `count` is 0, or above 2^31 - 1 less [`Conn::granted`] (so at most 2,147,418,112 in
-    /// all), and [`Refusal::Memory`] (C12), in this order. Nothing has changed.
+    /// where `count` is 0, or greater than 2^31 - 1 minus [`Conn::granted`] (all calls together can
+    /// add at most 2,147,418,112), and [`Refusal::Memory`] (C12), in this order. Nothing has
+    /// changed.
     pub fn widen(&mut self, count: u32) -> Result<(), Refusal>
         ensures { ConnAnswers self.old (Widen count) (answer_by (λ done. Done) result) self.new }
     {
@@ -233,16 +234,16 @@ impl Conn {
 
     // contract: 6.5.3 (own) Own SETTINGS are changed once those before are acknowledged
     // rule: 6.5.3 (own) Own SETTINGS are changed once those before are acknowledged
-    /// Changes this end's settings (section 6.5). The SETTINGS that it sends has the header
-    /// table's limit, the initial window, at a server the number of streams, and the maximum
-    /// frame size if that differs from the last one sent. The values come into force with the
+    /// Changes this end's settings (section 6.5). The SETTINGS frame that it sends has the header
+    /// table's limit, the initial window, at a server also the number of streams, and the maximum
+    /// frame size if that differs from the one sent last. The values come into force with the
     /// peer's acknowledgment, which [`Event::Acked`] reports; a greater maximum frame size is
     /// accepted at once, since the peer may have applied it before its acknowledgment arrives.
     ///
     /// # Errors
     ///
     /// The first that holds of [`Refusal::Closed`] (C1), [`Refusal::OutputFull`] (C7),
-    /// [`Refusal::SettingsWait`] (C13: the last SETTINGS of this end, be it the first one, are
+    /// [`Refusal::SettingsWait`] (C13: this end's last SETTINGS frame, which may be its first, is
     /// not acknowledged yet) and [`Refusal::Memory`] (C12). A refused call changes nothing.
     pub fn change_settings(&mut self, config: Config) -> Result<(), Refusal>
         ensures { ConnAnswers self.old (ChangeSettings (values_of config))

@@ -85,9 +85,9 @@ impl Conn {
     /// # Errors
     ///
     /// [`ConnFault`] where the connection fails, and at every call from then on. INTERNAL_ERROR
-    /// (2) is not the peer's fault: the caller gave that code to [`Conn::fail`], or an allocation
-    /// was refused, to keep a frame that is cut in two, to process a frame, to return credit, or
-    /// to reset a stream by [`Conn::refuse`].
+    /// (2) is not the peer's fault: the caller gave that code to [`Conn::fail`] or
+    /// [`Conn::refuse`], or an allocation was refused that was needed to keep a frame that is cut
+    /// in two, to process a frame, to return credit, or to reset a stream by [`Conn::refuse`].
     pub fn advance(&mut self, piece: &[u8]) -> Result<Progress, ConnFault>
         ensures used { IfOk result (λ progress. progress.used ≤ length piece.now) }
         ensures lies { LiesThere self.new.inner.cutter piece.now (code_result result) }
@@ -133,10 +133,11 @@ impl Conn {
     }
 
     // rule: calls (own) An event has the octets, the fields and the numbers of its frame
-    /// Lends the octets of the body that [`Conn::advance`] has reported for this piece. `None`
-    /// if the piece, or what the connection keeps, is too short to hold them. Pass the piece that
-    /// `advance` was given, before any other call of `advance` or `take`. This isn't checked:
-    /// otherwise whatever octets lie at that place are lent. It takes no memory.
+    /// Lends the octets of the body that [`Conn::advance`] has reported for this piece. `None` if
+    /// the piece, or what the connection keeps, is too short to hold them. Pass the piece that
+    /// `advance` was given, before any other call of `advance` or `take`. That is not checked: with
+    /// another piece, or after another call, it lends whatever octets lie at that place. It takes
+    /// no memory.
     pub fn octets<'a>(&'a self, piece: &'a [u8], body: Complete) -> Option<&'a [u8]>
         ensures { MatchOption result (body_at self.now.inner.cutter piece.now body ≡ None)
             (λ octets. body_at self.now.inner.cutter piece.now body ≡ Some octets.now) }
@@ -158,9 +159,9 @@ impl Conn {
     /// # Errors
     ///
     /// [`ConnFault`] where the connection fails, and at every call from then on. INTERNAL_ERROR
-    /// (2) is not the peer's fault: the caller gave that code to [`Conn::fail`], or an allocation
-    /// was refused, to keep a frame that is cut in two, to process a frame, to return credit, or
-    /// to reset a stream by [`Conn::refuse`].
+    /// (2) is not the peer's fault: the caller gave that code to [`Conn::fail`] or
+    /// [`Conn::refuse`], or an allocation was refused that was needed to keep a frame that is cut
+    /// in two, to process a frame, to return credit, or to reset a stream by [`Conn::refuse`].
     pub fn take<'a>(&'a mut self, piece: &'a [u8]) -> Result<Taken<'a>, ConnFault>
         ensures used { IfOk result (λ taken. taken.used ≤ length piece.now) }
 

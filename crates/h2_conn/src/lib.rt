@@ -1,9 +1,9 @@
 //! One end of an HTTP/2 connection over cleartext that does no input or output: octets and
 //! calls go in, events and octets come out (RFC 9113, sections 3 to 8).
 //!
-//! The contract of each call holds after any history. For every log (the acts of an end so far)
-//! that a connection represents, it says which answer the call gives, and that the connection
-//! then represents the log with this call appended.
+//! A log is all that has happened at an end so far. A connection *represents* each log that could
+//! have led to its state. For every such log the contract of each call says which answer it gives,
+//! and that the connection then represents this log with the call appended.
 #![tactic(auto)]
 
 mod calls;

@@ -83,7 +83,7 @@ impl Conn {
     ///
     /// # Errors
     ///
-    /// [`Refusal::Memory`] (C12), only where a WINDOW_UPDATE is queued; nothing has changed.
+    /// [`Refusal::Memory`] (C12), only where a WINDOW_UPDATE has to be queued; nothing has changed.
     pub fn ready(&mut self) -> Result<(), Refusal>
         ensures answers { ConnAnswers self.old (PutOut 0)
             (answer_by (λ done. Count 0) result) self.new }

@@ -39,9 +39,9 @@ impl Conn {
     }
 
     // contract: 10.5 (own) What an end holds of a stream is bounded
-    /// Returns the number of octets taken of a preface or of a frame that is not complete: at
-    /// most 9 and the greatest payload that this end reads, so 16,393 with the default
-    /// configuration and 1,048,585 with the greatest one. 0 once the connection has failed.
+    /// Returns the number of octets taken of a preface or of a frame that is not complete: at most
+    /// 9 plus the greatest payload that this end reads, so 16,393 with the default configuration
+    /// and 1,048,585 with the greatest one. 0 once the connection has failed.
     pub fn held(&self) -> usize
         ensures value { (values : Values) (log : Log) → ConnRepresents values self.now log
             → result ≡ reader_held log }
@@ -64,8 +64,8 @@ impl Conn {
         self.inner.end.room(id)
     }
 
-    /// Returns the number of octets of an active stream that were reported and are not released
-    /// yet. 0 for other streams, and once the connection has failed.
+    /// Returns the number of octets of DATA on an active stream, padding included, that were
+    /// reported and are not released yet. 0 for other streams, and once the connection has failed.
     pub fn owed(&self, id: u32) -> u32
         ensures { (values : Values) (log : Log) → ConnRepresents values self.now log
             → result ≡ reader_owed (log_view log) id }
@@ -83,8 +83,8 @@ impl Conn {
         self.inner.end.due()
     }
 
-    /// The number of octets that the peer may send on the connection before any of them is
-    /// returned: 65,535, and what [`Conn::widen`] has added. 0 once the connection has failed.
+    /// Returns how many octets the peer may send on the connection before this end gives any credit
+    /// back: 65,535, plus what [`Conn::widen`] has added. 0 once the connection has failed.
     pub fn granted(&self) -> u32
         ensures { (values : Values) (log : Log) → ConnRepresents values self.now log
             → result ≡ reader_granted (log_view log) }
@@ -92,9 +92,9 @@ impl Conn {
         self.inner.end.granted()
     }
 
-    /// The largest payload of a frame that this end reads, in octets (sections 4.2 and 6.5.3): by
-    /// its SETTINGS in force, and by those that the peer has not acknowledged yet. Of no use once
-    /// the connection has failed.
+    /// Returns the largest frame payload, in octets, that this end reads (sections 4.2 and 6.5.3):
+    /// the greatest of the value in force and those sent but not yet acknowledged. Not specified
+    /// once the connection has failed.
     pub fn payload_limit(&self) -> u32
         ensures { (values : Values) (log : Log) → ConnRepresents values self.now log
             → log.failed ≡ None → result ≡ payload_limit (acked log) log.sent }
@@ -102,8 +102,8 @@ impl Conn {
         self.inner.end.payload_limit()
     }
 
-    /// Returns the least number above `above` of an active stream. `None` if there is none, and
-    /// once the connection has failed.
+    /// Returns the lowest number greater than `above` of an active stream. `None` if there is none,
+    /// and once the connection has failed. It may go over all active streams.
     pub fn next_live(&self, above: u32) -> Option<u32>
         ensures number { (values : Values) (log : Log) → ConnRepresents values self.now log
             → result ≡ reader_next_live log above }
@@ -163,7 +163,7 @@ impl Conn {
     }
 
     /// Returns the number of the stream that a client opens next: 1, 3, 5 and so on (section
-    /// 5.1.1); a number above 2^31 - 1 is none that can be opened (C5). `None` at a server, and
+    /// 5.1.1); a stream with a number above 2^31 - 1 cannot be opened (C5). `None` at a server, and
     /// once the connection has failed.
     pub fn next_number(&self) -> Option<u32>
         ensures { (values : Values) (log : Log) → ConnRepresents values self.now log
@@ -190,11 +190,11 @@ impl Conn {
 
     // contract: 6.1 The complete payload of DATA, padding included, counts for windows
     /// Returns the number of octets of the last DATA frame's payload, padding included (section
-    /// 6.1), whether the frame was reported or ignored; not of one whose head or payload is at
-    /// fault, or for which memory was refused. 0 before any. After
-    /// [`Event::Data`](crate::Event::Data) it is the event's `flow`: if it is not 0 and the
-    /// stream is still active, release it ([`Conn::release`]) once the octets are used. It
-    /// works after a failure too.
+    /// 6.1), whether the frame was reported, was ignored, or ended the connection. A frame whose
+    /// head or payload is at fault, or for which memory was refused, does not count. 0 before any.
+    /// After [`Event::Data`](crate::Event::Data) it is the event's `flow`: if it is not 0 and the
+    /// stream is still active, release it ([`Conn::release`]) once the octets are used. It works
+    /// after a failure too.
     pub fn last_flow(&self) -> u32
         ensures { (values : Values) (log : Log) → ConnRepresents values self.now log
             → result ≡ last_flow log.frames }
@@ -229,10 +229,10 @@ impl Conn {
     }
 
     // contract: 10.5 (own) Frames that cost a peer little are counted
-    /// Returns the number of PING frames received without ACK (section 6.7), up to
+    /// Returns the number of PING frames without ACK that were received (section 6.7), at most
     /// 2<sup>32</sup> - 1. Each costs this end an answer. The queued answers are limited, to
-    /// 262,144 octets with all other output, but the PINGs of a peer that reads its answers are
-    /// not (section 10.5). A PING whose head or payload is at fault, or for which memory was
+    /// 262,144 octets with all other output, but the PINGs of a peer that reads the answers are not
+    /// limited (section 10.5). A PING whose head or payload is at fault, or for which memory was
     /// refused, is not counted. It works after a failure too.
     pub fn pings_received(&self) -> u32
         ensures { (values : Values) (log : Log) → ConnRepresents values self.now log
@@ -243,8 +243,8 @@ impl Conn {
 
     // contract: 10.5 (own) Frames that cost a peer little are counted
     /// Returns the number of SETTINGS frames received without ACK (section 6.5), up to
-    /// 2<sup>32</sup> - 1; the first is among them, and none whose head or payload is at
-    /// fault, or for which memory was refused. It works after a failure too.
+    /// 2<sup>32</sup> - 1; the first counts. One whose head or payload is at fault, or for which
+    /// memory was refused, does not. It works after a failure too.
     pub fn settings_received(&self) -> u32
         ensures { (values : Values) (log : Log) → ConnRepresents values self.now log
             → result ≡ counted (settings_among log.frames) }

@@ -50,7 +50,7 @@ pub enum Why {
     /// CONTINUATION came outside a field block (section 6.10): PROTOCOL_ERROR.
     #[error("CONTINUATION outside a field block (PROTOCOL_ERROR)")]
     StrayContinuation,
-    /// A field block has more than 65,552 octets (own; section 10.5): ENHANCE_YOUR_CALM.
+    /// A field block has more than 65,552 octets (own; section 10.5.1): ENHANCE_YOUR_CALM.
     #[error("a field block of more than 65,552 octets (ENHANCE_YOUR_CALM)")]
     BlockTooLong,
     /// A field block does not decode (section 4.3): COMPRESSION_ERROR.
@@ -61,11 +61,13 @@ pub enum Why {
     /// there.
     #[error("a frame other than HEADERS or PRIORITY on an idle stream (PROTOCOL_ERROR)")]
     FrameOnIdleStream,
-    /// DATA came on a closed stream (section 5.1; own: a connection error): STREAM_CLOSED.
+    /// DATA came on a closed stream that this end has closed neither by RST_STREAM nor by GOAWAY
+    /// (section 5.1; own: a connection error): STREAM_CLOSED.
     #[error("DATA on a closed stream (STREAM_CLOSED)")]
     DataOnClosedStream,
-    /// A field block came on a closed stream (section 5.1; own), or on a number that the peer
-    /// has skipped (section 5.1.1): PROTOCOL_ERROR.
+    /// A field block came on a closed stream that this end has closed neither by RST_STREAM nor by
+    /// GOAWAY (section 5.1; own), or on a number that the peer has skipped (section 5.1.1):
+    /// PROTOCOL_ERROR.
     #[error("HEADERS on a closed stream (PROTOCOL_ERROR)")]
     BlockOnClosedStream,
     /// A field block came on an idle stream that the peer may not open: any at a client, an

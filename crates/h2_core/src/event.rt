@@ -22,8 +22,8 @@ pub enum Event<F, B> {
         id: u32,
         /// The octets, without padding.
         bytes: B,
-        /// The octets that it took of the windows, padding included; they are now owed on the
-        /// stream.
+        /// The octets that the frame took from the windows, padding included; they are owed on the
+        /// stream if it is still active.
         flow: u32,
         /// Whether END_STREAM is set: no fields or DATA follow; a reset may.
         end: bool,
@@ -39,7 +39,7 @@ pub enum Event<F, B> {
     },
     /// GOAWAY was received: the peer takes no streams above `last` (section 6.8).
     GoAway {
-        /// The least last stream that the peer's GOAWAY frames have named.
+        /// The lowest of the last-stream numbers in the peer's GOAWAY frames so far.
         last: u32,
         /// The error code (section 7).
         code: u32,
@@ -60,8 +60,8 @@ pub enum Event<F, B> {
 
 impl<F, B> Event<F, B> {
     // rule: calls (own) An event has the octets, the fields and the numbers of its frame
-    /// Returns the same event with `list` for its fields or `bytes` for its octets; what it has
-    /// no use for is dropped.
+    /// Returns the same event with `list` in place of its fields or `bytes` in place of its octets.
+    /// Of `list` and `bytes`, what the event has no place for is dropped.
     pub fn with_parts<G, C>(self, list: G, bytes: C) -> Event<G, C>
     where
         F: Drop,

@@ -107,12 +107,11 @@ impl Client {
     }
 
     // contract: 8.1 (own) A part of a message is sent where one was begun, and is checked
-    /// Sends octets of the body of a message that was begun, and returns how many: as many as
-    /// both windows allow, at most 65,536 a call (see [`Conn::data`]), perhaps none. With
-    /// `end`, END_STREAM goes with the last of them once all are sent. The unsent octets are
-    /// not kept, so give them again: once the output is written, if it was full; and once
-    /// [`Client::take`] has received credit, if [`Conn::room`] of the stream or of the
-    /// connection (0) is 0 or less.
+    /// Sends octets of the body of a message that was begun, and returns how many: as many as both
+    /// windows allow, at most 65,536 a call (see [`Conn::data`]), perhaps none. With `end`,
+    /// END_STREAM goes with the last of them once all are sent. The unsent octets are not kept, so
+    /// give them again: after writing, if the output was full; after [`Client::take`] has received
+    /// credit, if [`Conn::room`] of `id` or of 0 (the connection) is 0 or less.
     ///
     /// # Errors
     ///
@@ -152,9 +151,9 @@ impl Client {
     // contract: 8.1 What was sent on a stream is a prefix of its message
     // contract: 8.1 (own) pump sends the lower streams first, and all that can go
     /// Sends waiting bodies and trailers, streams in rising order, each as far as its windows
-    /// allow, until nothing more can go or 65,536 octets or more of output wait. Returns how
-    /// many octets of bodies were sent. A long body on a low stream goes before those on higher
-    /// ones; [`Client::pump_some`] takes turns.
+    /// allow, until nothing more can go or 65,536 octets or more of output wait. Returns how many
+    /// octets of bodies were sent. A long body on a stream with a lower number goes before those on
+    /// streams with higher ones; [`Client::pump_some`] takes turns.
     ///
     /// # Errors
     ///
@@ -170,18 +169,18 @@ impl Client {
     /// Sends a share of what waits on each stream, in turn, and returns how many octets of
     /// bodies were sent.
     ///
-    /// A call makes one pass over the streams on which something waits: in rising order from
-    /// the stream with which the pass begins, then from the lowest. A share is at most `most`
-    /// octets of the body (0 counts as 1, and more than 65,536 as 65,536), and no more than the
-    /// windows of the stream and of the connection allow. Without trailers END_STREAM is on the
-    /// last DATA; trailers follow in the same share, unless the output is full then.
+    /// A call makes one pass over the streams on which something waits: in rising order from the
+    /// stream with which the pass begins, then from the lowest. A share is at most `most` octets of
+    /// the body (0 counts as 1, and more than 65,536 as 65,536), and no more than the windows of
+    /// the stream and of the connection allow. If there are no trailers, the last DATA has
+    /// END_STREAM; if there are, they follow in the same share, unless the output is full by then.
     ///
-    /// The pass ends early where a share is cut short, because 65,536 octets of output wait or
-    /// the connection's window is used up. The next pass then begins with that stream and the
+    /// The pass ends early if a share is cut short by a full output (65,536 octets wait) or by the
+    /// connection's window, which is used up. The next pass then begins with that stream and the
     /// rest of its share; otherwise it begins with the same stream as this one. So no long body
     /// keeps the others waiting: between two shares of one stream every other stream on which
-    /// something waits gets a share. A share that was cut short and its rest in the next pass
-    /// count as one.
+    /// something waits gets a share. A share that was cut short and its rest in the next pass count
+    /// as one.
     ///
     /// [`Client::pump`] sends lower streams first instead. It also goes on where the
     /// connection's window is used up, and sends trailers of later streams, which this call
@@ -199,9 +198,9 @@ impl Client {
     }
 
     // contract: 8.1 What was sent on a stream is a prefix of its message
-    /// Returns how many octets of the body that was given for a stream wait for
-    /// [`Client::pump`] or [`Client::pump_some`]. It is 0 where the stream isn't active, where
-    /// trailers alone wait, and for a message sent in parts, since nothing waits of such a one.
+    /// Returns how many octets of a stream's body still wait for [`Client::pump`] or
+    /// [`Client::pump_some`]. It is 0 where the stream isn't active, where only trailers wait, and
+    /// for a message sent in parts, of which nothing ever waits.
     pub fn unsent(&self, id: u32) -> usize
         ensures { (values : Values) (end : EndLog) → EndRepresents values self.now.end end
             → result ≡ unsent_on end id }
@@ -211,10 +210,9 @@ impl Client {
 
     // contract: 8.1.1 (own) A part that is refused breaks a rule, the least of which is named
     /// Returns the stream of the last part of a response that [`Client::take`] refused, and the
-    /// first rule of [`Malformed`] (M1 to M12) that the part breaks after the parts that came
-    /// before. `None` until a part is refused; kept after the connection has failed. A field
-    /// list above the limit, and a fault of a frame, are not refused parts, and do not change
-    /// the result.
+    /// first rule of [`Malformed`] (M1 to M12) that this part breaks, given the parts before it.
+    /// `None` until a part is refused; kept after the connection has failed. A field list above the
+    /// limit, and a fault of a frame, are not refused parts, and do not change the result.
     pub fn last_malformed(&self) -> Option<(u32, Malformed)>
         ensures { (values : Values) (end : EndLog) → EndRepresents values self.now.end end
             → result ≡ end.malformed }
@@ -235,7 +233,7 @@ impl Client {
     }
 
     // contract: 6.9 (own) release_all releases what is owed on each active stream
-    /// Returns all flow-control credit that is owed to the server (WINDOW_UPDATE; RFC 9113,
+    /// Gives back all flow-control credit that is owed to the server (WINDOW_UPDATE; RFC 9113,
     /// section 6.9), streams in rising order.
     ///
     /// # Errors
@@ -249,10 +247,10 @@ impl Client {
     }
 
     // contract: 8.1 (own) The other calls of a client and a server are the connection's
-    /// Releases `count` octets of bodies that were handed out on a stream, so that the peer may
-    /// send as many more: see [`Conn::release`]. For a caller that uses bodies slowly;
-    /// [`Client::release_all`] releases everything. [`Conn::owed`] returns how much of a stream
-    /// is not released.
+    /// Releases `count` octets of DATA that were received on a stream, padding included
+    /// ([`Client::last_flow`]), so that the peer may send as many more: see [`Conn::release`]. For
+    /// a caller that uses bodies slowly; [`Client::release_all`] releases everything.
+    /// [`Conn::owed`] returns how much of a stream is not released.
     ///
     /// # Errors
     ///
@@ -360,10 +358,10 @@ impl Client {
     }
 
     // contract: calls (own) An end answers of its state, and of little once it has failed
-    /// Returns whether no output waits and either no stream is active or the connection has
-    /// failed. Once true after GOAWAY or a failure, the writing side can be closed (RFC 9113,
-    /// section 6.8); read and drop what still comes before the transport is closed. It costs a
-    /// call of [`Conn::next_live`].
+    /// Returns whether no output waits and either no stream is active or the connection has failed.
+    /// Once true after GOAWAY or a failure, the writing side can be closed (RFC 9113, section 6.8);
+    /// read and drop what still comes before the transport is closed. It may go over all active
+    /// streams, as [`Conn::next_live`] does.
     pub fn is_drained(&self) -> bool
         ensures { (values : Values) (log : Log) → ConnRepresents values self.now.end.conn log
             → (result ≡ true) ↔ ((waiting log ≡ 0) × (reader_next_live log 0 ≡ None)) }
@@ -372,11 +370,12 @@ impl Client {
     }
 
     // contract: 8.1 (own) An end is quiet where nothing waits, is owed or could be sent
-    /// Returns whether the connection is up and has nothing to do: no output waits, no credit
-    /// is owed or still to be returned, and nothing that waits of messages could be sent. An
-    /// incomplete frame may be held, and `take` may still return an event that needs no octets.
-    /// Its cost grows with the number of active streams from the first to the last on which a
-    /// message waits, and from the first to the last on which octets may be owed.
+    /// Returns whether the connection is up and has nothing to do: no output waits, no credit is
+    /// owed ([`Conn::owed`]) or due ([`Conn::due`]), and no waiting part of a message could be
+    /// sent. An incomplete frame may be held, and `take` may still return an event that needs no
+    /// octets. Its cost grows with the number of active streams between the lowest and the highest
+    /// on which a message waits, and between the lowest and the highest on which octets may be
+    /// owed.
     pub fn is_quiet(&self) -> bool
         ensures { (values : Values) (end : EndLog) → EndRepresents values self.now.end end
             → (result ≡ true) ↔ IsQuietEnd end }
@@ -406,9 +405,8 @@ impl Client {
     }
 
     // contract: calls (own) An end lends its output, and says the place of a fault
-    /// Lends the queued output from a place on, as much as lies there in one piece: see
-    /// [`Conn::waiting_from`]. After [`Client::ready`] the queue holds all that can be written
-    /// now.
+    /// Lends the queued output from offset `at` on, as much as lies there in one piece: see
+    /// [`Conn::waiting_from`]. After [`Client::ready`] the queue holds all that can be written now.
     pub fn waiting_from(&self, at: usize) -> &[u8]
         ensures { LendsFrom self.now.end.conn at result.now }
     {

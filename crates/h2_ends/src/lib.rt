@@ -3,8 +3,8 @@
 //!
 //! [`Client::request`] and [`Server::respond`] take a complete message, and its body is sent as
 //! windows allow. [`Client::begin`] and [`Server::begin`] send a head alone; `send_body` and
-//! `send_trailers` send the rest as the application has it. What the peer sends is handed out
-//! part by part, and only as long as the parts so far can begin a message that breaks no rule.
+//! `send_trailers` send the rest as it becomes available. What the peer sends is handed out part by
+//! part, and only as long as the parts so far can begin a message that breaks no rule.
 //!
 //! A loop that reads and writes makes these calls:
 //!
@@ -14,7 +14,8 @@
 //! - `pump`, `put_out` and a write, repeated until `put_out` returns 0, since `pump` stops once
 //!   65,536 octets of output wait.
 //!
-//! Repeat a call that was refused with [`Refusal::OutputFull`] (C7) once output was written.
+//! If a call was refused with [`Refusal::OutputFull`] (C7), write output, and then make the call
+//! again.
 #![tactic(auto)]
 
 mod body;

@@ -35,7 +35,8 @@ use std::alloc::Global;
 /// - [`LinkError::Memory`] (N3) where an allocation was refused.
 /// - [`LinkError::CutOff`] (N4) where the input ended before the response was complete.
 /// - [`LinkError::NoProgress`] (N5) where a write took nothing; also, though neither is expected,
-///   after 2^64 - 1 rounds, or where the end refuses the request otherwise than with N3 or N7.
+///   after 2^64 - 1 rounds, or where the client refuses the request for a reason that is neither N3
+///   nor N7 here.
 /// - [`LinkError::Reset`] (N6) where either end reset the stream, or the server did not process
 ///   the request.
 /// - [`LinkError::Refused`] (N7) where the message breaks a rule, or its head or its trailers

@@ -97,7 +97,8 @@ impl Coming {
 impl Fetcher {
     // rule: engines (own) A response that is fetched is the message handed out, whole
     // rule: engines (own) N7 comes only where the message breaks a rule or is too large
-    /// Makes a client, and queues its opening and the head of the request.
+    /// Makes a client, and queues its connection preface (RFC 9113, section 3.4) and the head of
+    /// the request.
     ///
     /// # Errors
     ///

@@ -35,7 +35,7 @@ pub struct Responder {
 }
 
 impl Responder {
-    /// Returns a server whose opening is queued.
+    /// Returns a server whose connection preface (RFC 9113, section 3.4) is queued.
     ///
     /// # Errors
     ///

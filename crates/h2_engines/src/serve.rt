@@ -18,10 +18,10 @@ use std::alloc::Global;
 // contract: engines (own) A request of more than 1,048,576 octets is ENHANCE_YOUR_CALM
 // rule: engines (own) N1 comes exactly where a call of the link has failed
 // contract: engines (own) N2 has the code with which the connection failed; memory is N3
-/// Serves a connection until its input ends, and returns how many requests were answered.
-/// Answers each complete request with its method, a space, its path, a line end and its body; a
-/// response to HEAD has neither body nor `content-length`. Resets a stream with
-/// ENHANCE_YOUR_CALM whose request has a body of more than 1,048,576 octets.
+/// Serves a connection until its input ends, and returns how many requests were answered. Answers
+/// each complete request with its method, a space, its path, a line end and its body; a response to
+/// HEAD has neither body nor `content-length`. Resets each stream whose request has a body of more
+/// than 1,048,576 octets, with ENHANCE_YOUR_CALM.
 ///
 /// If a number is returned, the connection's credit was returned, and each response was sent
 /// completely unless its stream was reset. If it returns [`LinkError::CutOff`] (N4), all credit

@@ -19,10 +19,11 @@ use h2_ends::{Client, Code, Config, Conn, EndEvent, EndRefusal, Message, Refusal
 use h2_link::{Link, LinkError};
 use std::alloc::Global;
 
-/// A client that makes one request over a link and returns its response part by part. It keeps
-/// one piece of the input, and returns credit to the server only once the next piece is to be
-/// read: all that is owed, or, if the last read filled its 16,384 octets, none until it is half of
-/// the window of the stream or of the connection.
+/// A client that makes one request over a link and returns its response part by part. It keeps one
+/// piece of the input, and returns credit to the server just before it reads the next: all that is
+/// owed, unless the last read filled its 16,384 octets. Then it returns none until as much is owed
+/// as the server may still send on the stream or on the connection; if what is owed and what may
+/// still be sent there are together less than 65,535 octets, it returns all at once.
 #[derive(Drop)]
 pub struct PartFetch {
     pub(crate) alloc: Global,
@@ -62,7 +63,8 @@ impl PartFetch {
     ghost use Rattle.h2_fetch.specs.Widening.{WidensFetch};
 
     // rule: engines (own) N7 comes only where the message breaks a rule or is too large
-    /// Makes a client, and queues its opening and the head of the request.
+    /// Makes a client, and queues its connection preface (RFC 9113, section 3.4) and the head of
+    /// the request.
     ///
     /// # Errors
     ///

@@ -31,13 +31,13 @@ pub enum Came {
 
 /// A client that makes several requests at once over a link, and returns each response part by
 /// part, for the stream that the caller asks for. What comes on other streams meanwhile is kept
-/// until it is asked for: of a body no more than the stream's window, since credit is returned
-/// only on the stream that is asked for. Interim responses and empty parts of a body that don't
-/// end it are dropped, since no window bounds them.
+/// until it is asked for. What is kept of a body is at most the stream's window, since credit is
+/// returned only on the stream that is asked for. Interim responses and empty parts of a body that
+/// don't end it are dropped, since no window bounds them.
 ///
-/// The connection's window is 65,535 octets, and what [`SeveralFetch::widen`] adds; bodies that are
-/// kept use it up. So with `n` requests give [`Config::new`] an initial window of an `n`th of it or
-/// less: otherwise what is kept may take all of it, and nothing more comes.
+/// The connection's window is 65,535 octets plus what [`SeveralFetch::widen`] adds, and bodies that
+/// are kept use it up. So with `n` requests give [`Config::new`] an initial window of at most an
+/// `n`th of it: otherwise what is kept may take all of it, and nothing more comes.
 #[derive(Drop)]
 pub struct SeveralFetch {
     pub(crate) alloc: Global,
@@ -60,13 +60,14 @@ impl SeveralFetch {
 
     // contract: engines (own) Responses of several requests are what is handed out, each in order
     // rule: engines (own) Responses of several requests are what is handed out, each in order
-    /// Makes a client, and queues its opening and the heads of the requests, before the
-    /// server's SETTINGS are known.
+    /// Makes a client, and queues its connection preface (RFC 9113, section 3.4) and the heads of
+    /// the requests, before the server's SETTINGS are known.
     ///
     /// # Errors
     ///
     /// - [`LinkError::Memory`] (N3) where an allocation was refused.
-    /// - [`LinkError::NoProgress`] (N5) where the client refuses a request for another reason.
+    /// - [`LinkError::NoProgress`] (N5) where the client refuses a request for any other reason:
+    ///   there are more than 100 (C4), or 65,536 octets wait already (C7).
     /// - [`LinkError::Refused`] (N7) where a message breaks a rule, or its head or its trailers
     ///   are larger than 65,536 octets.
     pub fn new(
@@ -132,11 +133,13 @@ impl SeveralFetch {
 
     // contract: engines (own) Responses of several requests are what is handed out, each in order
     // rule: engines (own) Responses of several requests are what is handed out, each in order
-    /// Returns what came next on a stream of [`SeveralFetch::streams`]. If nothing is kept of
-    /// it, returns the credit that is owed on that stream (after a read that filled its 16,384
-    /// octets only once it is half of the window of the stream or of the connection), writes what
-    /// waits, and then reads the link. Don't call it after the part that ends the response, after
-    /// [`Came::Dropped`], after N3 or N5, nor with a link that has failed.
+    /// Returns what came next on a stream of [`SeveralFetch::streams`]. If nothing is kept of it,
+    /// returns the credit that is owed on that stream, writes what waits, and then reads the link.
+    /// After a read that filled its 16,384 octets, credit is held back until as much is owed as the
+    /// server may still send on the stream or on the connection; if what is owed and what may still
+    /// be sent there are together less than 65,535 octets, it is returned at once. Don't call it
+    /// after the part that ends the response, after [`Came::Dropped`], after N3 or N5, nor with a
+    /// link that has failed.
     ///
     /// # Errors
     ///

@@ -48,11 +48,11 @@ impl Config {
     /// Makes a configuration of these values. Payloads of up to 16,384 octets are read, unless
     /// [`Config::with_max_frame`] says otherwise.
     ///
-    /// - `table_limit` is the most octets of the header table of the peer's encoder, from 0 to
-    ///   65,536.
+    /// - `table_limit` is the largest header table, in octets, that the peer's encoder may use,
+    ///   from 0 to 65,536.
     /// - `initial_window` is the window of a new stream in octets, from 1 to 2,147,483,647.
     ///   Above 65,535 it is used only as far as `widen` has widened the connection's window.
-    /// - `max_streams` is the most active streams at a server, from 100 to 1,000.
+    /// - `max_streams` is the maximum number of active streams at a server, from 100 to 1,000.
     ///
     /// # Errors
     ///
@@ -93,13 +93,14 @@ impl Config {
 
     // contract: calls (own) A configuration is made of values within their bounds
     // rule: calls (own) A configuration is made of values within their bounds
-    /// Returns the same values with another SETTINGS_MAX_FRAME_SIZE: payloads of at most
-    /// `max_frame` octets are read, from 16,384 to 1,048,576 (RFC 9113, sections 4.2 and
-    /// 6.5.2). It is sent if it differs from the value sent last. A greater value holds once
-    /// SETTINGS with it are sent, a lesser one once they are acknowledged.
+    /// Returns the same values with another SETTINGS_MAX_FRAME_SIZE: `max_frame`, from 16,384 to
+    /// 1,048,576, is the largest payload, in octets, that is read (RFC 9113, sections 4.2 and
+    /// 6.5.2). It is sent if it differs from the value sent last. A greater value holds from the
+    /// SETTINGS frame that has it, a smaller one from its acknowledgment.
     ///
     /// The connection's window is 65,535 octets until `widen` is called, so DATA with a longer
-    /// payload still ends the connection, with FLOW_CONTROL_ERROR if its stream is active. The
+    /// payload still ends the connection: with FLOW_CONTROL_ERROR if its stream is active or was
+    /// closed by this end, otherwise with STREAM_CLOSED, or with PROTOCOL_ERROR if it is idle. The
     /// limit of a field block stays 65,552 octets.
     ///
     /// # Errors
@@ -134,8 +135,8 @@ impl Config {
     }
 
     // rule: calls (own) A configuration is made of values within their bounds
-    /// Returns SETTINGS_HEADER_TABLE_SIZE: the most octets of the header table of the peer's
-    /// encoder.
+    /// Returns SETTINGS_HEADER_TABLE_SIZE: the largest header table, in octets, that the peer's
+    /// encoder may use.
     pub fn table_limit(&self) -> u32
         ensures { result ≡ self.now.table_limit }
     {
@@ -151,7 +152,7 @@ impl Config {
     }
 
     // rule: calls (own) A configuration is made of values within their bounds
-    /// Returns SETTINGS_MAX_CONCURRENT_STREAMS: the most active streams at a server.
+    /// Returns SETTINGS_MAX_CONCURRENT_STREAMS: the maximum number of active streams at a server.
     pub fn max_streams(&self) -> u32
         ensures { result ≡ self.now.max_streams }
     {
@@ -159,7 +160,7 @@ impl Config {
     }
 
     // rule: calls (own) A configuration is made of values within their bounds
-    /// Returns SETTINGS_MAX_FRAME_SIZE: the most octets of a payload that is read.
+    /// Returns SETTINGS_MAX_FRAME_SIZE: the largest payload, in octets, that is read.
     pub fn max_frame(&self) -> u32
         ensures { result ≡ self.now.max_frame }
     {

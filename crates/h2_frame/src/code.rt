@@ -29,7 +29,7 @@ pub enum Code {
     Cancel,
     /// 9: a field block cannot be decoded.
     CompressionError,
-    /// 10: the connection that a CONNECT request established failed.
+    /// 10: the connection made for a CONNECT request was reset or closed abnormally.
     ConnectError,
     /// 11: the peer causes too much load.
     EnhanceYourCalm,

@@ -1,9 +1,8 @@
-//! The limits of this profile, each number once.
+//! The limits of this library, each number once.
 //!
-//! Some are RFC 9113's; those marked "own" are this profile's, where the RFC leaves the number
-//! open. Beside a limit stands the name of its definition, if `h2_spec_log` or the crate that
-//! uses it has one. HPACK's limit on the octets of an integer is
-//! `hpack_text::MAX_CONTINUATION_OCTETS`.
+//! Some are RFC 9113's; those marked "own" are this library's, where the RFC leaves the number
+//! open. Beside a limit stands the name of its definition, if `h2_spec_log` or the crate that uses
+//! it has one. HPACK's limit on the octets of an integer is `hpack_text::MAX_CONTINUATION_OCTETS`.
 
 /// The greatest payload, in octets, that a head can encode: 24 bits (RFC 9113, section 4.1). A
 /// frame with a longer one is not written.

@@ -61,7 +61,7 @@ pub fn head(octets: &[u8; HEAD_LEN]) -> Head
 /// It is the first of these:
 ///
 /// 1. A length above the limit: FRAME_SIZE_ERROR.
-/// 2. PUSH_PROMISE, which this profile refuses: PROTOCOL_ERROR.
+/// 2. PUSH_PROMISE, which this library refuses: PROTOCOL_ERROR.
 /// 3. A stream that a frame of this type may not be on: PROTOCOL_ERROR.
 /// 4. A length that the type and the flags do not allow: FRAME_SIZE_ERROR.
 #[tactic(auto, unfolding(crate::specs::Heads::head_fault, crate::specs::Heads::form_fault))]

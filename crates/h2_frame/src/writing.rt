@@ -13,8 +13,9 @@ use crate::heads::HEAD_LEN;
 use crate::owned::{Frame, Unwritable};
 
 // contract: 6 A frame is sent only on a stream that its type allows
-/// Appends a frame's head and payload (RFC 9113, sections 4.1 and 6). Reserved bits, flags that
-/// its type does not define, and padding are zero.
+/// Appends a frame's head and payload (RFC 9113, sections 4.1 and 6). Reserved bits and padding are
+/// zero, and so are flags that the type does not define; those of [`Frame::Unknown`] are all
+/// written.
 ///
 /// # Errors
 ///

@@ -1,3 +1,5 @@
+mod CreditReturned
+mod CreditSteps
 mod Ending
 mod KeptMaps
 mod StatusAlone

@@ -53,8 +53,8 @@ impl<W: Drop, H: Handler<Work = W>> Handled<H, W> {
         self.server.widen(count)
     }
 
-    /// Ends the connection with this error code, unless it has failed before. In both cases ends
-    /// all exchanges with [`Cause::Closed`](crate::Cause::Closed).
+    /// Ends the connection with this error code, unless it has failed already. Ends all exchanges
+    /// with [`Cause::Closed`](crate::Cause::Closed) either way.
     pub fn fail(&mut self, code: Code)
         ensures handles { Handles (relations H.heads H.bodies H.trails H.gives H.ends) []
             self.old.server.end (handling_of self.old.exchanges) self.new.server.end

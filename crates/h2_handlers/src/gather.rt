@@ -16,7 +16,7 @@ const FIELD_SIZE: usize = 64;
 /// A complete request.
 #[derive(Debug, Drop)]
 pub struct Request {
-    /// The pseudo-header fields and the fields.
+    /// The pseudo-header fields, and then the regular fields.
     pub head: Vec<Field>,
     /// The body.
     pub body: Vec<u8>,
@@ -46,7 +46,7 @@ pub struct Gathered {
 
 /// Responds to complete requests.
 ///
-/// An implementor may state its behaviour by a relation, as for [`Handler`].
+/// An implementor may state its behaviour by the `ghost` relation `answers`, as for [`Handler`].
 pub trait Answerer: Drop {
     /// Relates a request's head, body and trailers to the results that it may have.
     ghost answers: { Self → (head : List Field) → (body : List ℕ)
@@ -63,7 +63,7 @@ pub trait Answerer: Drop {
 }
 
 /// Collects each request, and calls an [`Answerer`] once it is complete. A stream whose request
-/// body exceeds `most` octets is reset with ENHANCE_YOUR_CALM.
+/// body is longer than the limit given to [`Gather::new`] is reset with ENHANCE_YOUR_CALM.
 #[derive(Drop)]
 pub struct Gather<A> {
     answerer: A,

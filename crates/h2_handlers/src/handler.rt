@@ -64,8 +64,8 @@ pub enum Part {
     Last(usize),
     /// The trailers, which end the response.
     Trailers(Vec<Field>),
-    /// Nothing now. The handler is asked again after the next read; a host also asks again when
-    /// the socket can be written, and ten times a second.
+    /// Nothing now. `serve_handler` asks again after its next read; a host asks again when the
+    /// socket becomes readable or writable, and ten times a second.
     Later,
 }
 
@@ -130,8 +130,9 @@ pub trait Handler: Drop {
         ensures { heads self.old list.now end result self.new };
 
     /// Called with octets of a request's body, possibly none. `end` says that the request is
-    /// complete. If you have given a response already, return [`Reply::Later`]: a second one
-    /// resets the stream with INTERNAL_ERROR, or is ignored if the first was given in full.
+    /// complete. If you have given a response already, return [`Reply::Later`]: a second one resets
+    /// the stream with INTERNAL_ERROR, unless all of the first was already passed to the
+    /// connection: then it is ignored.
     ///
     /// # Errors
     ///

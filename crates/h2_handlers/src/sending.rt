@@ -1,10 +1,11 @@
 //! What a server with a handler sends in one call.
 
-ghost use Rattle.std.specs.Prelude.{◌≡◌, ◌-◌, [], length};
+ghost use Rattle.std.specs.Prelude.{◌≡◌, ◌-◌, [], OnOk, length, true};
 ghost use Rattle.h2_spec_log.specs.Acts.{Values};
 ghost use Rattle.h2_spec_log.specs.Log.{Log};
 ghost use Rattle.h2_conn.specs.Conn.{ConnRepresents};
-ghost use Rattle.h2_handlers.specs.Credit.{is_credit_due_in_all, nat_part};
+ghost use Rattle.h2_handlers.specs.Credit.{HandlesCredit, HandlesCreditOn, is_credit_due_in_all};
+ghost use Rattle.h2_handlers.specs.Credit.{nat_part, unused_at};
 ghost use Rattle.h2_handlers.specs.Exchanges.{handling_of, relations};
 ghost use Rattle.h2_handlers.specs.Steps.{Handles};
 
@@ -12,8 +13,8 @@ use crate::exchange::Stage;
 use crate::handled::Handled;
 use crate::handler::Handler;
 use crate::parts::send_part;
-use crate::stop::{Stop, stop_of, unless_full};
-use h2_ends::{EndRefusal, Server};
+use crate::stop::{Stop, stop_of, unless_end_full, unless_full};
+use h2_ends::Server;
 use h2_flow::is_credit_due;
 
 /// The octets sent of each complete body in one call.
@@ -25,11 +26,13 @@ impl<W: Drop, H: Handler<Work = W>> Handled<H, W> {
     /// full, up to 16,384 octets of each complete body, and then one part of one response, for
     /// which it asks the handler. Complete bodies go first: otherwise parts could fill the output
     /// and use up the connection's window in each call, and complete bodies would never be sent.
-    /// `room` is scratch space for the part.
+    /// `room` is scratch space for the part, and must not be empty: a handler is promised space for
+    /// one octet.
     ///
-    /// `waits` says that the next read may wait for input: then credit is returned for all that the
-    /// handler has used. Otherwise it is once that is as much as the client may still send on the
-    /// connection, or both together are less than 65,535 octets.
+    /// If `waits` is true (the next read may wait for input), credit is returned for all that the
+    /// handler has used, unless 65,536 octets or more of output wait. If it is false, credit is
+    /// returned only once the handler has used as many octets as the client may still send on the
+    /// connection; if the two are together less than 65,535 octets, it is returned at once.
     ///
     /// # Errors
     ///
@@ -38,6 +41,10 @@ impl<W: Drop, H: Handler<Work = W>> Handled<H, W> {
         ensures handles { Handles (relations H.heads H.bodies H.trails H.gives H.ends) []
             self.old.server.end (handling_of self.old.exchanges) self.new.server.end
             (handling_of self.new.exchanges) }
+        ensures returned { waits ≡ true → OnOk result (HandlesCredit
+            (relations H.heads H.bodies H.trails H.gives H.ends)
+            self.old.server.end (handling_of self.old.exchanges) self.new.server.end
+            (handling_of self.new.exchanges)) }
         ensures room { length room.new ≡ length room.old }
     {
         if let Some(code) = self.server.conn().failed() {
@@ -48,6 +55,9 @@ impl<W: Drop, H: Handler<Work = W>> Handled<H, W> {
         self.pump()?;
         self.ask(room)?;
         self.settle();
+        if waits {
+            return self.release(); // the handler may have used more when it was asked
+        }
         Ok(())
     }
 
@@ -82,11 +92,17 @@ impl<W: Drop, H: Handler<Work = W>> Handled<H, W> {
         }
     }
 
-    /// Returns the credit for all that is owed, except what the handler has not used.
+    // rule: 6.9 (own) Before a read that may wait credit is returned for all that is used
+    /// Returns the credit for all that is owed, except what the handler has not used, unless
+    /// the output is full.
     fn release(&mut self) -> Result<(), Stop>
-        ensures { Handles (relations H.heads H.bodies H.trails H.gives H.ends) []
+        ensures handles { Handles (relations H.heads H.bodies H.trails H.gives H.ends) []
             self.old.server.end (handling_of self.old.exchanges) self.new.server.end
             (handling_of self.new.exchanges) }
+        ensures returned { OnOk result (HandlesCredit
+            (relations H.heads H.bodies H.trails H.gives H.ends)
+            self.old.server.end (handling_of self.old.exchanges) self.new.server.end
+            (handling_of self.new.exchanges)) }
     {
         if self.exchanges.totals.unused == 0 {
             return self.release_all();
@@ -99,32 +115,51 @@ impl<W: Drop, H: Handler<Work = W>> Handled<H, W> {
         Ok(())
     }
 
-    /// Returns the credit for all that is owed.
+    /// Returns the credit for all that is owed, unless the output is full.
     fn release_all(&mut self) -> Result<(), Stop>
-        ensures { Handles (relations H.heads H.bodies H.trails H.gives H.ends) []
+        ensures handles { Handles (relations H.heads H.bodies H.trails H.gives H.ends) []
             self.old.server.end (handling_of self.old.exchanges) self.new.server.end
             (handling_of self.new.exchanges) }
+        ensures returned { OnOk result (HandlesCredit
+            (relations H.heads H.bodies H.trails H.gives H.ends)
+            self.old.server.end (handling_of self.old.exchanges) self.new.server.end
+            (handling_of self.new.exchanges)) }
     {
         let released = self.server.release_all();
-        unless_full(&self.server, released)
+        unless_end_full(&self.server, released)
     }
 
-    /// Returns the credit owed on a stream, except for what its handler has not used.
+    /// Returns the credit owed on a stream, except for what its handler has not used, unless
+    /// the output is full.
     fn release_used(&mut self, id: u32) -> Result<(), Stop>
-        ensures { Handles (relations H.heads H.bodies H.trails H.gives H.ends) []
-            self.old.server.end (handling_of self.old.exchanges) self.new.server.end
-            (handling_of self.new.exchanges) }
+        ensures returns { HandlesCreditOn (relations H.heads H.bodies H.trails H.gives H.ends) id
+            (unused_at id self.old.exchanges.kept.entries)
+            self.old.server.end (handling_of self.old.exchanges) self.new.server.end result }
+        ensures exchanges { self.new.exchanges ≡ self.old.exchanges }
     {
-        let unused = match self.exchanges.kept.get(id) {
-            Some(exchange) => exchange.unused,
-            None => 0,
-        };
-        let count = self.server.conn().owed(id).saturating_sub(unused);
-        if count == 0 || self.server.is_full() {
+        let count = self
+            .server
+            .conn()
+            .owed(id)
+            .saturating_sub(self.unused_on(id));
+        if count == 0 {
+            return Ok(());
+        }
+        if self.server.is_full() {
             return Ok(());
         }
         let released = self.server.release(id, count);
-        unless_full(&self.server, released.map_err(EndRefusal::Conn))
+        unless_full(&self.server, released)
+    }
+
+    /// How many octets of the request on a stream its handler has not used.
+    fn unused_on(&self, id: u32) -> u32
+        ensures { result ≡ unused_at id self.now.exchanges.kept.entries }
+    {
+        match self.exchanges.kept.get(id) {
+            Some(exchange) => exchange.unused,
+            None => 0,
+        }
     }
 
     /// Sends the responses that waited because the output was full, in the order of their streams.

@@ -1,5 +1,8 @@
 //! Why a connection with a handler cannot go on.
 
+ghost use Rattle.std.specs.Prelude.{OnOk};
+ghost use Rattle.h2_handlers.specs.Credit.{IsDoneOrFull, IsEndDoneOrFull};
+
 use h2_ends::{Code, EndRefusal, Refusal, Server};
 use std::alloc::AllocError;
 
@@ -33,8 +36,21 @@ pub(crate) fn stop_of(server: &Server) -> Stop {
     }
 }
 
-/// The result of a call of the server; a full output is no reason to stop.
-pub(crate) fn unless_full(server: &Server, answer: Result<(), EndRefusal>) -> Result<(), Stop> {
+/// The result of a call of the connection; a full output is no reason to stop.
+pub(crate) fn unless_full(server: &Server, answer: Result<(), Refusal>) -> Result<(), Stop>
+    ensures { OnOk result (IsDoneOrFull answer) }
+{
+    match answer {
+        Ok(()) | Err(Refusal::OutputFull) => Ok(()),
+        Err(Refusal::Memory) => Err(Stop::Memory),
+        Err(_) => Err(stop_of(server)),
+    }
+}
+
+/// The same of a call of the server.
+pub(crate) fn unless_end_full(server: &Server, answer: Result<(), EndRefusal>) -> Result<(), Stop>
+    ensures { OnOk result (IsEndDoneOrFull answer) }
+{
     match answer {
         Ok(()) | Err(EndRefusal::Conn(Refusal::OutputFull)) => Ok(()),
         Err(EndRefusal::Conn(Refusal::Memory)) => Err(Stop::Memory),

@@ -17,8 +17,8 @@ pub trait Leaves {
     ghost leaves: { Self → Self → Type 0 } = { λ _ _. ⊤ };
 
     /// Begins a graceful shutdown: pending requests are still answered. If 65,536 octets of output
-    /// wait, or memory is refused, the connection instead fails at once with NO_ERROR, and they are
-    /// not answered.
+    /// or more wait, or memory is refused, the connection fails at once with NO_ERROR, and pending
+    /// requests are not answered.
     fn leave(&mut self)
         ensures { leaves self.old self.new };
 }
@@ -70,7 +70,7 @@ impl<W: Drop, H: Handler<Work = W>> Widens for Seat<H, W> {
 }
 
 /// A connection that shuts down at the next tick of its host's clock once `leaving` is set, and
-/// whose window is widened once, when part of a body has arrived and more is to come.
+/// whose window is widened once, once octets of some body have come and some request is incomplete.
 #[derive(Drop)]
 pub struct Guest<'a, P> {
     /// The connection, in a box, since a host moves its connections at each step.

@@ -1,8 +1,9 @@
 //! Serves a folder, or echoes requests, on many connections, as `h2 host` does.
 //!
-//! [`host_port`] runs a [`Driver`](h2_mio::Driver) whose connections are [`Guest`]s. Each holds a
-//! [`Seat`](h2_seat::Seat): one connection with its time limits. Its handler is a [`Logged`], which
-//! wraps a [`Site`] or an echo. [`host_handlers`] serves with any other handler.
+//! [`host_port`] runs the loop over sockets, a [`Driver`](h2_mio::Driver) of `h2_mio`, whose
+//! connections are [`Guest`]s. Each holds a [`Seat`](h2_seat::Seat) of `h2_seat`: a server with its
+//! handler and its time limits. The handler is a [`Logged`], which wraps a [`Site`] or an echo.
+//! [`host_handlers`] serves with any other handler.
 #![tactic(auto)]
 
 mod guest;

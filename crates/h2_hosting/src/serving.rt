@@ -21,10 +21,11 @@ pub struct HostSettings {
     /// The address, the limits of connections and memory, and whether the host shuts down
     /// gracefully once standard input, a pipe, is closed.
     pub place: Place,
-    /// The settings of each connection. An initial window of streams above 65,535 octets is also
-    /// that of the connection, once part of a body has arrived and more is to come: the window is
-    /// widened then, to at most half of what the connection may hold. All connections together are
-    /// widened by at most half of what all may hold.
+    /// The settings of each connection. If the initial window of streams is above 65,535 octets,
+    /// the connection's window is widened to it once octets of some body have come and some request
+    /// is incomplete, but to at most half of what the connection may hold. All connections together
+    /// are widened by at most half of what all may hold. While too little of that is left for a
+    /// connection, it is not widened; this is tried again each time octets come.
     pub config: Config,
     /// The time limits and flood limits of each connection; one that exceeds them is ended.
     pub limits: SeatLimits,

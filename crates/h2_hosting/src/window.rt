@@ -6,7 +6,7 @@ ghost use Rattle.h2_hosting.specs.Guests.{lacking_of};
 use h2_frame::limits::FIRST_WINDOW;
 use std::cell::Cell;
 
-/// The window to which a host widens a connection once part of a body has arrived, and the octets
+/// The window to which a host widens a connection once octets of a body have come, and the octets
 /// that are left for widening.
 #[derive(Drop)]
 pub struct Windows {
@@ -15,7 +15,9 @@ pub struct Windows {
 }
 
 impl Windows {
-    /// Creates one that widens each connection to this window, and all by at most this many octets.
+    /// Creates one that widens each connection to `window` octets, as long as all connections
+    /// together are widened by at most `most`; a connection for which less is left than it lacks is
+    /// not widened for now.
     pub fn new(window: u32, most: u64) -> Windows
         ensures { result.window ≡ window }
     {

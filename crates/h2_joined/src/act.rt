@@ -11,7 +11,9 @@ pub enum Side {
     Server,
 }
 
-/// An act: a call of one of the two ends, or octets that are moved or delivered.
+/// An act: a call of one of the two ends, or octets that are moved or delivered. Where an act can
+/// be made at either end, the call is that of `Client` or of `Server`; the one of `Client` is named
+/// here.
 #[derive(Debug, Drop)]
 pub enum JointAct {
     /// The client sends a request: [`Client::request`](h2_ends::Client::request).
@@ -137,23 +139,23 @@ pub enum JointAct {
 /// The result of an act.
 #[derive(Clone, Copy, Debug, PartialEq, Eq)]
 pub enum Acted {
-    /// The stream of the request that a Request has sent, or that a Begin has begun.
+    /// The stream of the request that `Request` has sent or `Begin` has begun.
     Id(u32),
-    /// How many octets of bodies a Pump, a PumpSome or a SendBody has sent, or how many octets
-    /// a Move has moved or a Deliver has delivered.
+    /// How many octets of bodies `Pump`, `PumpSome` or `SendBody` has sent, or how many octets
+    /// `Move` has moved or `Deliver` has delivered.
     Count(usize),
-    /// A Respond, BeginResponse, SendTrailers, ReleaseAll, Release, Widen, Reset, Ping, GoAway,
-    /// Fail or ChangeSettings was done.
+    /// `Respond`, `BeginResponse`, `SendTrailers`, `ReleaseAll`, `Release`, `Widen`, `Reset`,
+    /// `Ping`, `GoAway`, `Fail` or `ChangeSettings` was done.
     Done,
-    /// The end refused the call. A Deliver is never refused.
+    /// The end refused the call. `Deliver` is never refused.
     Refused(EndRefusal),
-    /// The end failed with this code as a Deliver gave it octets, or had failed before.
+    /// The end failed with this code while `Deliver` gave it octets, or had failed before.
     Failed(Code),
-    /// Memory was refused. If the act is a Request, Respond, Begin, BeginResponse, SendBody or
-    /// SendTrailers, there was no memory to keep what it is given, and nothing has changed. If it
-    /// is a Deliver, there was no memory for the event that the next call of `take` might return,
-    /// and it stopped before that call: the octets that were used are off the pipe, their events
-    /// are kept, and the same Deliver, made again, continues from there. A Deliver would also stop
-    /// after 2^64 - 1 calls of `take`, which is not expected.
+    /// Memory was refused. If the act is `Request`, `Respond`, `Begin`, `BeginResponse`, `SendBody`
+    /// or `SendTrailers`, there was no memory to keep what it is given, and nothing has changed. If
+    /// it is `Deliver`, there was no memory for the event that the next call of `take` might
+    /// return, and it stopped before that call: the octets that were used are off the pipe, their
+    /// events are kept, and the same `Deliver`, performed again, continues from there. `Deliver`
+    /// would also stop after 2^64 - 1 calls of `take`, which is not expected.
     Memory,
 }

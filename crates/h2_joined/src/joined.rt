@@ -56,13 +56,13 @@ impl Joined {
     // contract: joined (own) The first octets of a pipe are given to its end
     // contract: joined (own) Accepted messages, what was handed out, octets on a pipe are kept
     // contract: joined (own) A delivery without memory stops before a call and loses nothing
-    /// Makes an act, and returns its result: of a call of an end what that returns, of
-    /// [`JointAct::Move`] and [`JointAct::Deliver`] how many octets were moved or delivered. A
-    /// refused act has changed nothing, except for what a `release_all`, `pump` or `pump_some`
-    /// did before it was refused.
+    /// Performs an act, and returns its result: for a call of an end, what that returns; for
+    /// [`JointAct::Move`] and [`JointAct::Deliver`], how many octets were moved or delivered. A
+    /// refused act has changed nothing, except for what a `release_all`, `pump` or `pump_some` did
+    /// before it was refused.
     ///
-    /// A delivery makes room for the largest event that a call of `take` can return, and then
-    /// calls it. If memory for that is refused, it stops before the call, with
+    /// Before each call of `take`, a delivery reserves memory for the largest event that the call
+    /// can return. If that memory is refused, the delivery stops before the call, with
     /// [`Acted::Memory`] as its result. Then the octets that were used are off the pipe, their
     /// events are kept, and the same act continues from there. All octets of a delivery during
     /// which the end fails are off the pipe; to an end that has failed none are delivered.
@@ -161,8 +161,8 @@ impl Joined {
         }
     }
 
-    /// Returns how many octets of an end's output are on its pipe: moved, but not yet delivered
-    /// to the other end.
+    /// Returns how many octets of an end's output are on the pipe to the other end: moved, but not
+    /// yet delivered.
     pub fn piped(&self, side: Side) -> usize
         ensures { (octets : List ℕ)
             → HoldsOctets (kept_of (other_side side) self.now).incoming octets

@@ -17,10 +17,10 @@ ghost use Rattle.h2_joined.specs.Joints.{NoneWasEnded};
 ghost use Rattle.h2_joined.specs.Headline.{AreQuiet, WasResetIn, ReportsNoFault, HoldsTheRest};
 
 // contract: joined (own) What one end has handed out is a prefix of what the other accepted
-/// Two joined ends with their pipes are a pair, so all laws of pairs hold of their octets,
-/// header tables and windows. Where memory was not refused and no Fail was made, the pair is
-/// undisturbed (no connection failed for want of memory, and no call ended one), so the laws of
-/// undisturbed pairs hold too.
+/// Two joined ends with their pipes are a pair, so all laws of pairs hold of their octets, header
+/// tables and windows. If no connection has failed for want of memory and no
+/// [`JointAct::Fail`](crate::JointAct::Fail) was made, the pair is undisturbed (`docs/PAIR.md`), so
+/// the laws of undisturbed pairs hold too.
 pub fn joined_ends_are_a_pair()
     ensures { (client_values server_values : Values) (made : List Made)
         (client server : JointEnd) → IsJoint client_values server_values made client server
@@ -46,9 +46,10 @@ pub fn handed_out_is_a_prefix()
         (parts_said (said_for i server.happened.accepted)) }
 {}
 
-/// Where memory was not refused and no Fail was made, neither end reports a fault: its
-/// connection has not failed, it has refused no message, and each stream that it reports as
-/// reset by the peer was reset by a Reset there.
+/// If no connection has failed for want of memory and no [`JointAct::Fail`](crate::JointAct::Fail)
+/// was made, neither end reports a fault: its connection has not failed, it has handed out no reset
+/// of its own, and each stream that it reports as reset by the peer was reset by a
+/// [`JointAct::Reset`](crate::JointAct::Reset) made at the peer.
 pub fn no_fault_is_reported()
     ensures at_client { (client_values server_values : Values) (made : List Made)
         (client server : JointEnd) → IsJoint client_values server_values made client server
@@ -89,9 +90,9 @@ pub fn quiet_ends_hold_nothing()
 {}
 
 // contract: joined (own) The header tables of joined ends agree, no window is lost
-/// The header tables are in step, both ways, whatever settings change: after the field blocks
-/// under way the reader's table is the writer's, and each of those blocks decodes to the list
-/// that the writer was given (RFC 9113, section 4.3).
+/// The header tables are in step, whatever settings change: after the field blocks under way the
+/// reader's table is the writer's, and each of those blocks decodes to the list that the writer was
+/// given (RFC 9113, section 4.3).
 pub fn header_tables_are_in_step()
     ensures to_server { (client_values server_values : Values) (made : List Made)
         (client server : JointEnd) (way : List Item)
@@ -106,10 +107,10 @@ pub fn header_tables_are_in_step()
 {}
 
 // contract: joined (own) The header tables of joined ends agree, no window is lost
-/// Nothing of the connection's window is lost, both ways, as long as the reader has not failed:
-/// what the writer may send, the DATA under way, the increments under way, and what the reader
-/// owes or has not returned add up to 65,535 octets and what the reader widened the window by (RFC
-/// 9113, section 6.9).
+/// Nothing of the connection's window is lost, as long as the reader has not failed: what the
+/// writer may send, the DATA under way, the increments under way, and what the reader owes or has
+/// not returned add up to 65,535 octets and what the reader widened the window by (RFC 9113,
+/// section 6.9).
 pub fn connection_windows_are_conserved()
     ensures to_server { (client_values server_values : Values) (made : List Made)
         (client server : JointEnd) (way back : List Item) (bound : ℕ)
@@ -130,11 +131,10 @@ pub fn connection_windows_are_conserved()
 {}
 
 // contract: joined (own) What slow readers hold of the window is all that others lack
-/// Slow readers hold all that is missing from the connection's window, both ways, as long as
-/// the reader has not failed: once nothing is under way and no credit is still to be returned
-/// to that window, what the writer may send on the connection and what the reader owes on its
-/// streams add up to 65,535 octets and what the reader widened the window by (RFC 9113, section
-/// 6.9).
+/// Slow readers hold all that is missing from the connection's window, as long as the reader has
+/// not failed: once nothing is under way and no credit is still to be returned to that window, what
+/// the writer may send on the connection and what the reader owes on its streams add up to 65,535
+/// octets and what the reader widened the window by (RFC 9113, section 6.9).
 pub fn held_credit()
     ensures to_server { (client_values server_values : Values) (made : List Made)
         (client server : JointEnd) (bound : ℕ)
@@ -154,11 +154,10 @@ pub fn held_credit()
         → HoldsTheRest server.happened.log client.happened.log bound }
 {}
 
-/// Nothing of a stream's window is lost, both ways, whatever settings change, while the stream
-/// is active at the writer, and the reader has neither closed it nor read its end: what the
-/// writer may send on it, its DATA under way, the increments under way, and what the reader
-/// owes add up to the initial window that the writer has received last (RFC 9113, section
-/// 6.9.2).
+/// Nothing of a stream's window is lost, whatever settings change, while the stream is active at
+/// the writer, and the reader has neither closed it nor read its end: what the writer may send on
+/// it, its DATA under way, the increments under way, and what the reader owes add up to the initial
+/// window that the writer has received last (RFC 9113, section 6.9.2).
 pub fn stream_windows_are_conserved()
     ensures to_server { (client_values server_values : Values) (made : List Made)
         (client server : JointEnd) (way back : List Item) (i : ℕ)

@@ -1,10 +1,12 @@
 //! A client and a server joined by two pipes in memory, for tests of a program over HTTP/2
 //! without sockets (RFC 9113).
 //!
-//! [`Joined::act`] makes an act: a call of either end, or octets that are moved from an output
-//! to its pipe or delivered from a pipe. [`run`] makes a list of them. What each end has
-//! accepted and handed out is kept. Laws say what holds, whatever acts are made; [`headline`]
-//! is the main one.
+//! [`Joined::act`] performs an act: a call of either end, or moving octets from an end's output to
+//! the pipe that leads to the other end, or delivering octets from a pipe. [`run`] performs a whole
+//! list of acts. What each end has accepted and handed out is kept. Laws say what holds, whatever
+//! acts are performed; [`headline`] is the main one. Those about windows and header tables hold in
+//! both directions: the *writer* is the end that sends, the *reader* the other end, and what the
+//! writer has sent and the reader has not received is *under way*.
 #![tactic(auto)]
 
 mod act;

@@ -15,11 +15,11 @@ use std::alloc::{AllocError, Global};
 
 // contract: joined (own) What one end has handed out is a prefix of what the other accepted
 /// What each of two joined ends has handed out on a stream is a prefix of what the other has
-/// accepted for it, whatever acts were made: the main law of this library. Where memory was not
-/// refused to a connection and no [`JointAct::Fail`] was made, neither end reports a fault. No
-/// DATA of either end has passed its windows, as `h2_laws_end::no_data_passes_windows` says of
-/// one end. Once the pair is quiet ([`Joined::quiet`]), all that was accepted was handed out, on
-/// every stream that was neither reset nor reported as unprocessed.
+/// accepted for it, whatever acts were made: the main law of this library. If no connection has
+/// failed for want of memory and no [`JointAct::Fail`] was made, neither end reports a fault. No
+/// DATA of either end has passed its windows, as `h2_laws_end::no_data_passes_windows` says of one
+/// end. Once the pair is quiet ([`Joined::quiet`]), all that was accepted was handed out, on every
+/// stream that was neither reset nor reported as unprocessed.
 ///
 /// For any other peer, the contracts of [`Conn::take`](h2_ends::Conn::take),
 /// [`Client::take`](h2_ends::Client::take) and [`Server::take`](h2_ends::Server::take) say what

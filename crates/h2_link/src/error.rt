@@ -25,8 +25,9 @@ pub enum LinkError {
     /// N4: the input ended inside the preface or a frame, or while a stream was active.
     #[error("N4 CutOff")]
     CutOff,
-    /// N5: a write took nothing; or the end refused a call for another reason than memory; or
-    /// 2^64 - 1 rounds have passed.
+    /// N5: a write took nothing; or a call was refused for a reason other than memory; or 2^64 - 1
+    /// rounds or 2^32 - 1 responses were counted; or `Fetcher::into_fetched` was called before the
+    /// response was complete.
     #[error("N5 NoProgress")]
     NoProgress,
     /// N6: the stream of the request was reset with this code (section 6.4); REFUSED_STREAM also

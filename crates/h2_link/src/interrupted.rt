@@ -5,8 +5,8 @@ ghost use Rattle.std.specs.Io.KnownBytes.{Appends, Consumes, IsAtEnd, Keeps};
 
 use std::io::{self, ErrorKind, Read, Write};
 
-/// Reads once, and again where a signal interrupts. Returns how many octets were read; 0 is the
-/// end.
+/// Reads once, repeating a read that a signal interrupted. Returns how many octets were read; 0 is
+/// the end.
 ///
 /// # Errors
 ///
@@ -28,8 +28,8 @@ pub fn read_some<R: Read>(input: &mut R, buffer: &mut [u8]) -> io::Result<usize>
 }
 
 // rule: engines (own) A link over TCP sends octets in order and once
-/// Writes once, and again where a signal interrupts. Returns how many octets, from the first,
-/// were written.
+/// Writes once, repeating a write that a signal interrupted. Returns how many octets, from the
+/// first, were written.
 ///
 /// # Errors
 ///

@@ -34,7 +34,7 @@ pub trait Link {
     ghost faults: { Self → ℕ };
 
     /// Reads octets into the beginning of a buffer, and returns how many. 0 is the end of the
-    /// input, where the buffer has room.
+    /// input, if the buffer has room.
     ///
     /// # Errors
     ///

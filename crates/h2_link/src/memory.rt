@@ -25,7 +25,8 @@ impl MemoryLink {
 
     // rule: links (own) A link gives and takes octets in order
     // rule: links (own) The end of the input is a read that gives nothing
-    /// Returns a link that gives these octets and then the end, with no bound to a call.
+    /// Returns a link that gives these octets and then the end, with no limit on the octets of a
+    /// call.
     pub fn new(alloc: Global, input: Vec<u8>) -> MemoryLink
         ensures given { octets_given result ≡ [] }
         ensures taken { octets_taken result ≡ [] }
@@ -48,8 +49,8 @@ impl MemoryLink {
     }
 
     // rule: links (own) A link gives and takes octets in order
-    /// Bounds each call to `read` octets read and `written` octets written. 0 makes a read the
-    /// end of the input, and a write take nothing.
+    /// Limits each read to `read` octets and each write to `written` octets. With 0 a read reports
+    /// the end of the input, and a write takes nothing.
     pub fn with_most(mut self, read: usize, written: usize) -> MemoryLink
         ensures { result ≡ record self { most_read = read; most_written = written } }
     {
@@ -59,7 +60,7 @@ impl MemoryLink {
     }
 
     // rule: links (own) A link counts the calls that fail
-    /// Makes the call fail that follows `calls` others: 0 is the next one.
+    /// Makes one call fail: the one after `calls` others, so with 0 the next one.
     pub fn failing_after(mut self, calls: u64) -> MemoryLink
         ensures { result ≡ record self { fails_in = Some calls } }
     {

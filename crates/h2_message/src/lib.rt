@@ -3,8 +3,8 @@
 //!
 //! [`check_request`] and [`check_response`] check a complete message before it is sent;
 //! [`check_request_head`] and [`check_response_head`] check the head of one that is sent in
-//! parts. [`Reading`] takes a received message part by part, and refuses a part with which it
-//! is malformed. Only making a [`Message`] takes memory.
+//! parts. [`Reading`] takes a received message part by part, and refuses a part that would make the
+//! message malformed. Only making a [`Message`] takes memory.
 #![tactic(auto)]
 
 mod checks;

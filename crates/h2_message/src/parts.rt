@@ -29,7 +29,7 @@ pub struct BodyLength {
 /// # Errors
 ///
 /// The first of M1 to M8, M10 and M11 ([`Malformed`]) that the head breaks; M11 where a
-/// `content-length` is not a number or two differ.
+/// `content-length` is not a number of 1 to 19 digits, or two differ.
 pub fn check_request_head(head: &[Field]) -> Result<BodyLength, Malformed>
     ensures ok { IfOk result (λ length. (broken_by_head Requests head.now ≡ None)
         × (length.left ≡ length_to_send Requests head.now)) }
@@ -51,7 +51,8 @@ pub fn check_request_head(head: &[Field]) -> Result<BodyLength, Malformed>
 /// # Errors
 ///
 /// The first of M1 to M6 and M9 to M11 ([`Malformed`]) that the head breaks. M9 refuses interim
-/// statuses too; M11 comes where a `content-length` is not a number or two differ.
+/// statuses too; M11 comes where a `content-length` is not a number of 1 to 19 digits, or two
+/// differ.
 pub fn check_response_head(head: &[Field], to_head: bool) -> Result<BodyLength, Malformed>
     ensures ok { IfOk result (λ length. (broken_by_head (Responses to_head) head.now ≡ None)
         × (length.left ≡ length_to_send (Responses to_head) head.now)) }

@@ -28,9 +28,8 @@ use hpack::FieldList;
 pub enum Reads {
     /// A server reads requests.
     Requests,
-    /// A client reads responses. In a response to HEAD `content-length` is the length that GET
-    /// would get, and is not compared with the body (RFC 9110, section 8.6); DATA in it is read
-    /// all the same.
+    /// A client reads responses. In a response to HEAD, or with status 204 or 304, `content-length`
+    /// is not compared with the body (RFC 9110, section 8.6), and DATA is accepted all the same.
     Responses {
         /// Whether the request was HEAD.
         to_head: bool,
@@ -206,9 +205,9 @@ impl Reading {
 
     // contract: 8.1.1 (own) A part that is refused breaks a rule, the least of which is named
     // rule: 8.1.1 (own) A part that is refused breaks a rule, the least of which is named
-    /// Returns the rule for which [`Reading::fields`] would refuse this field block after the parts
-    /// that were read, the first that it breaks; `None` if it would not be refused. After
-    /// END_STREAM that is M12, whatever the fields are.
+    /// Returns the first rule that this field block would break after the parts read so far; `None`
+    /// if [`Reading::fields`] would accept it. After END_STREAM the rule is M12, whatever the
+    /// fields are.
     pub fn broken_by_fields(&self, list: &FieldList, end: bool) -> Option<Malformed>
         ensures { (reads : Reads) (parts : List (Part × Bool)) → Follows reads parts self.now
             → result ≡ broken_after reads parts (FieldsPart list.now, end) }
@@ -261,9 +260,8 @@ impl Reading {
 
     // contract: 8.1.1 (own) A part that is refused breaks a rule, the least of which is named
     // rule: 8.1.1 (own) A part that is refused breaks a rule, the least of which is named
-    /// Returns the rule that `count` octets of a DATA frame break after the parts read, for
-    /// which [`Reading::data`] refuses them: M11, or M12 outside a body; `None` if they are not
-    /// refused.
+    /// Returns the rule that `count` octets of a DATA frame would break after the parts read so
+    /// far: M11, or M12 outside a body; `None` if [`Reading::data`] would accept them.
     pub fn broken_by_data(&self, count: usize, end: bool) -> Option<Malformed>
         ensures { (reads : Reads) (parts : List (Part × Bool)) (octets : List ℕ)
             → length octets ≡ count → Follows reads parts self.now

@@ -33,8 +33,8 @@ impl From<LinkError> for Ending {
 }
 
 // rule: engines (own) N1 to N7 end a command with their statuses
-/// Returns the exit status for this error: [`Status::Device`] for [`LinkError::Device`] (N1) and
-/// [`LinkError::NoProgress`] (N5), [`Status::Fault`] for [`LinkError::Stream`] (N2),
+/// Returns the exit status for an error. It is [`Status::Device`] for [`LinkError::Device`] (N1)
+/// and [`LinkError::NoProgress`] (N5), [`Status::Fault`] for [`LinkError::Stream`] (N2),
 /// [`LinkError::CutOff`] (N4) and [`LinkError::Reset`] (N6), [`Status::Memory`] for
 /// [`LinkError::Memory`] (N3), and [`Status::Usage`] for [`LinkError::Refused`] (N7).
 pub fn status_of(error: LinkError) -> Status
@@ -75,9 +75,10 @@ fn write_why<E: Write>(ending: Ending, err: &mut E) -> io::Result<()> {
 
 // rule: engines (own) A hint after the line names the likely cause of N1 and N2
 // contract: engines (own) A hint after the line names the likely cause of N1 and N2
-/// Returns the hint for the error with which a client's connection ended: for N2
-/// ([`LinkError::Stream`]) by the first octets that the client read, for N1
-/// ([`LinkError::Device`]) by the last error of its link.
+/// Returns the hint for the error with which a client's connection ended. For N2
+/// ([`LinkError::Stream`]) it is that the server speaks HTTP/1.1, if the first octets that the
+/// client read say so, and otherwise the name of the code. For N1 ([`LinkError::Device`]) it
+/// follows from the last error of the link. Otherwise there is none.
 pub fn client_hint(error: LinkError, first: &[u8], last_error: Option<ErrorKind>) -> Option<Hint>
     ensures { IsClientHint error first.now last_error result }
 {

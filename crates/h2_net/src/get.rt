@@ -272,7 +272,8 @@ fn phrase_of(value: &[u8]) -> Option<&'static str>
     }
 }
 
-/// Returns the value of `:status`, which each response has (RFC 9113, section 8.3.2).
+/// Returns the value of `:status`, which each response has; an empty slice if the head has none
+/// (RFC 9113, section 8.3.2).
 pub fn status_value(head: &[Field]) -> &[u8]
     ensures { result.now ≡ status_of head.now }
 {

@@ -1,5 +1,5 @@
-//! HTTP/2 over sockets of TCP, cleartext and with prior knowledge (RFC 9113, section 3.3): a server
-//! of one connection at a time, a client that fetches one response, and both ends in one process.
+//! HTTP/2 over TCP sockets, cleartext and with prior knowledge (RFC 9113, section 3.3): a server of
+//! one connection at a time, a client that fetches one response, and both ends in one process.
 //!
 //! [`StreamLink`] is a link over a TCP stream that collects writes and sends them before it
 //! reads. [`target`] reads a URL of the scheme `http` (RFC 9110, section 4.2.1).

@@ -22,11 +22,11 @@ use std::net::{Ipv4Addr, Net, OpenListener, OpenStream, SocketAddr, TcpListener}
 // rule: engines (own) h2 serve serves COUNT connections, one after another
 /// Serves `count` connections to a port on 127.0.0.1, one after another, as
 /// [`h2_engines::serve_link`] does with the default [`Config`]. Returns the status of the first
-/// that ended early, or [`Status::Good`].
+/// connection that ended early, or [`Status::Good`].
 ///
-/// If a connection ends early, a line is printed on `err`, with a hint if the cause is known,
-/// and the next one is served. If the port is not available, no connection is served:
-/// [`LinkError::Device`] (N1).
+/// If a connection ends early, a line is printed on `err`, with a hint if the cause is known, and
+/// the next one is served. If the port is not available, no connection is served, and the status is
+/// that of [`LinkError::Device`] (N1).
 pub fn serve_port<N: Net, E: Write>(
     net: &N,
     alloc: Global,

@@ -29,17 +29,18 @@ const DROPPED_PIECE: usize = 4_096;
 /// The maximum number of octets discarded: 16 MiB.
 const MOST_DROPPED: usize = 16_777_216;
 
-/// A link over a TCP stream. It holds up to 65,536 octets of writes, and sends them at the next
-/// read, before a write of several parts with 8,192 octets or more, once there are 65,536, or when
-/// [`StreamLink::flush`] is called. A write of 8,192 octets or more is sent at once, without a
-/// copy, if nothing is held.
+/// A link over a TCP stream. It holds up to 65,536 octets of writes. It sends them at the next
+/// read, once 65,536 are held, when [`StreamLink::flush`] is called, or in one call with a write of
+/// several parts that has 8,192 octets or more in all. A write of 8,192 octets or more is sent at
+/// once, without a copy, if nothing is held.
 ///
 /// If sending fails, the call fails, and the octets held that were not sent stay held: the next
 /// call that sends continues with them, so octets are sent in order and none twice. A write of
-/// several parts is the exception: if its attempt to send the held octets and these parts fails,
-/// it goes on as a write of its first part alone, and fails only if that fails. If that succeeds
-/// (the part may just be held), [`StreamLink::last_error`] stays as it was. After a failed write of
-/// 8,192 octets or more it is unknown how many of these were sent: write nothing more.
+/// several parts does not fail at once: if the held octets and the parts cannot be sent together,
+/// only its first part is written, as by `write`. If this succeeds (perhaps the part is only held),
+/// the call succeeds, and [`StreamLink::last_error`] does not tell of the failed attempt. After a
+/// failed write of 8,192 octets or more it is unknown how many of these were sent: write nothing
+/// more.
 ///
 /// Octets still held when the link is dropped are not sent.
 #[derive(Drop)]

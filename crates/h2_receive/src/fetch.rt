@@ -21,8 +21,8 @@ use std::alloc::Global;
 /// called. Before each read, credit is returned as [`PartFetch`] says, and queued output is
 /// written.
 ///
-/// The caller should flush a link over a stream, which may still hold output, and close it: it
-/// cannot serve another connection.
+/// A link over a stream may still hold output: flush it, and then close the stream, which cannot
+/// carry another connection.
 ///
 /// # Errors
 ///

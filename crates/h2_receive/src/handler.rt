@@ -14,8 +14,9 @@ use std::alloc::Global;
 /// body is returned only after the call (RFC 9113, section 6.9), so a slow handler slows the
 /// server down.
 ///
-/// An implementor may state its behaviour by the `ghost` relations between the state before a
-/// call, the arguments, the result, and the state after it. The defaults always hold.
+/// An implementor may state its behaviour by two `ghost` relations, `hears` and `ends`, between the
+/// state before a call, the arguments, the result, and the state after it. The defaults always
+/// hold.
 pub trait ResponseHandler {
     /// Relates the next part to the results of [`ResponseHandler::part`].
     ghost hears: { Self → ResponsePart → Result (Unit {0}) HandlerFault → Self → Type 0 } = { λ _ _ _ _. ⊤ };
@@ -28,8 +29,8 @@ pub trait ResponseHandler {
     ///
     /// # Errors
     ///
-    /// On an error the fetch ends with this fault: nothing more is received or sent. The server
-    /// notices when the connection is closed.
+    /// On an error the fetch ends with this fault: nothing more is received or sent, not even
+    /// RST_STREAM: the server learns of it only when the caller closes the connection.
     fn part(&mut self, alloc: Global, part: ResponsePart) -> Result<(), HandlerFault>
         ensures { hears self.old part result self.new };
 

@@ -1,8 +1,8 @@
 //! Makes a request over any link (RFC 9113); a handler receives the response part by part.
 //!
 //! [`fetch_handler`] makes the request, reads, and calls the handler with each part until the
-//! response is complete; [`receive`] does the same for a [`PartFetch`] of the caller's. To ask for
-//! the parts instead, use [`PartFetch::next`].
+//! response is complete; [`receive`] does the same for a [`PartFetch`] that the caller has made. A
+//! caller that wants to ask for each part itself uses [`PartFetch::next`].
 #![tactic(auto)]
 
 mod errors;

@@ -9,10 +9,10 @@ pub struct SeatLimits {
     pub times: TimeLimits,
     /// The flood limits.
     pub floods: FloodLimits,
-    /// Milliseconds for the output to be sent once the connection is closing. The time starts
-    /// again whenever [`SeatLimits::least_closing`] more octets of bodies were sent or received.
-    /// Octets that moved before it was closing count towards the first of these, unless as many
-    /// had moved by then.
+    /// Milliseconds for the output to be sent once the connection is closing. The time starts again
+    /// whenever [`SeatLimits::least_closing`] more octets of bodies were sent or received. If fewer
+    /// than that had moved before the connection began to close, they count towards the first
+    /// restart; otherwise the count starts at 0.
     pub closing: u64,
     /// The octets of bodies that must be sent or received within [`SeatLimits::closing`].
     pub least_closing: u64,

@@ -27,8 +27,9 @@ const PART: usize = 16_384;
 // rule: engines (own) A handler answers over any link
 // rule: engines (own) Where serving ends well each request was answered whole or reset
 /// Serves a connection until its input ends, and returns the number of requests received.
-/// [`Handled`] says what the handler is called with and how its replies are sent. At the end the
-/// handler has been told of each exchange that it is over.
+/// [`Handler`] says what each of its calls is given, and [`Handled`] in which order responses are
+/// sent. When this returns, [`Handler::over`] has been called for each exchange that
+/// [`Handler::head`] began.
 ///
 /// Before each read, all that can be sent is written; so a client's reset or next request is read
 /// only once nothing is left to send or a window keeps the rest back. A handler that returned

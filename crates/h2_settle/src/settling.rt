@@ -12,15 +12,14 @@ use h2_joined::{Joined, Side};
 /// are quiet. If `rounds` is `most`, [`Joined::quiet`] says whether they are.
 #[derive(Clone, Copy, Debug, PartialEq, Eq)]
 pub struct Settled {
-    /// How many complete rounds were made, in which no act was refused memory and no end
-    /// failed. At most `most`, and bounded by what waited at first ([`settle`]).
+    /// How many rounds were completed: in each of them no act was refused memory and no end failed.
+    /// At most `most`, and bounded by what waited at first ([`settle`]).
     pub rounds: u64,
     /// The end that had failed before the first round or failed in the last act; the client, if
     /// both have. `None` where `memory` is true or `rounds` is `most`.
     pub failed: Option<Side>,
-    /// Whether the last act was refused memory, in a round that `rounds` doesn't count. Memory
-    /// that is refused inside of an end as it takes octets fails that end with INTERNAL_ERROR:
-    /// see `failed`.
+    /// Whether the last act was refused memory, in a round that `rounds` doesn't count. If an end
+    /// is refused memory while it takes octets, it fails with INTERNAL_ERROR instead: see `failed`.
     pub memory: bool,
 }
 
@@ -44,14 +43,14 @@ pub struct Settled {
 ///   `h2_laws_quiet`). All octets of bodies that wait at an end, together, are cut into shares
 ///   of 65,535 octets, or of the initial window that the reader has sent last, if that is less.
 ///   A piece is a body, a list of trailers or an end.
-/// - One more than the work left at the start (`work_left`): 3 for each octet, list of trailers
-///   and end that waits, 2 for each octet of credit that is not returned, and for each frame or
-///   field block in the outputs and pipes 1, with 1 more if it has to be answered (SETTINGS,
-///   PING) and 2 more for each octet that it takes of the windows.
+/// - One more than the work left at the start (`work_left`), which is the sum of: 3 for each octet
+///   of a body, list of trailers and end that waits; 2 for each octet of credit that is not
+///   returned; and, for each frame or field block in the outputs and pipes, 1, plus 1 if it has to
+///   be answered (SETTINGS, PING), plus 2 for each octet that it takes from the windows.
 ///
-/// If it ends with quiet ends, all that was accepted has been sent and handed out at the other
-/// end, whatever windows there were, on each stream that was neither reset before nor reported
-/// as unprocessed ([`settled_messages_arrive`](crate::settled_messages_arrive)).
+/// If it ends with quiet ends, all that was accepted has been sent and handed out at the other end,
+/// however small the windows were, on each stream that was neither reset before nor reported as
+/// unprocessed ([`settled_messages_arrive`](crate::settled_messages_arrive)).
 ///
 /// It makes no request and no response. It returns credit at both ends at once, so it doesn't
 /// show how an application behaves that returns credit late or never.

@@ -40,7 +40,7 @@ pub enum Refusal {
     #[error("C10 ListTooLarge: the field list is larger than 65,536 octets")]
     ListTooLarge,
     /// C11: the count is 0, or more than is owed on the stream.
-    #[error("C11 NotOwed: nothing was released, or more than is owed on the stream")]
+    #[error("C11 NotOwed: the count is 0, or more than is owed on the stream")]
     NotOwed,
     /// C12: an allocation was refused.
     #[error("C12 Memory: out of memory")]
@@ -48,8 +48,8 @@ pub enum Refusal {
     /// C13: the last SETTINGS of this end are not acknowledged yet.
     #[error("C13 SettingsWait: the last SETTINGS are not acknowledged yet")]
     SettingsWait,
-    /// C14: the connection's window is widened by nothing, or to more than 2^31 - 1 octets (RFC
-    /// 9113, section 6.9.1).
-    #[error("C14 WindowTooLarge: a window is widened by 1 or more, to 2,147,483,647 at most")]
+    /// C14: the count is 0, or would widen the connection's window to more than 2^31 - 1 octets
+    /// (RFC 9113, section 6.9.1).
+    #[error("C14 WindowTooLarge: the count is 0, or would widen the window above 2^31 - 1")]
     WindowTooLarge,
 }

@@ -3,7 +3,8 @@
 //! - `echoing`: the handler that answers with what was asked, beside `serve_link`; `differing`:
 //!   where the two don't do the same. `gathering`: whole requests. `parts`: a handler that gives
 //!   its answers part by part, and is told that they are over. `resetting`: a request that is reset
-//!   beside one that is answered. `sharing`: whole bodies beside parts.
+//!   beside one that is answered. `sharing`: whole bodies beside parts. `using`: credit of what a
+//!   part uses.
 
 mod asked;
 mod differing;
@@ -12,3 +13,4 @@ mod gathering;
 mod parts;
 mod resetting;
 mod sharing;
+mod using;

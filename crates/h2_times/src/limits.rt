@@ -22,12 +22,13 @@ pub struct TimeLimits {
     pub idle: u64,
 }
 
-/// Flood limits: what a connection may send within a period.
+/// Flood limits: what a connection may send, or make the server send, within a period.
 #[derive(Clone, Copy, Debug, PartialEq, Eq)]
 pub struct FloodLimits {
     /// The period, in milliseconds.
     pub stretch: u64,
-    /// RST_STREAM frames. A browser that leaves five pages of 100 streams each sends 500.
+    /// RST_STREAM frames. A browser that leaves five pages, with 100 streams each, sends 500 of
+    /// them.
     pub resets: u32,
     /// Empty frames without effect. A good client sends hardly any.
     pub empty: u32,

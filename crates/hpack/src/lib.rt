@@ -1,8 +1,8 @@
 //! HPACK (RFC 7541): the dynamic table, the decoder and the encoder of field blocks.
 //!
-//! [`Decoder::decode`] returns the fields of a block if the octets are one, and an error
-//! otherwise; [`Decoder::decode_into`] does so with a list that the caller keeps, whose room it
-//! uses again. [`Encoder::encode`] appends a block of the list, in the one encoding that
+//! [`Decoder::decode`] returns the fields of a block, or an error if the octets are not a block;
+//! [`Decoder::decode_into`] puts them into a list that the caller keeps, whose capacity is reused.
+//! [`Encoder::encode`] appends the block of a list of fields, in the one encoding that
 //! `docs/PROTOCOL.md` states.
 #![tactic(auto)]
 

@@ -93,7 +93,7 @@ const REFUSALS: &[(Refusal, &str)] = &[
     ),
     (
         Refusal::NotOwed,
-        "C11 NotOwed: nothing was released, or more than is owed on the stream",
+        "C11 NotOwed: the count is 0, or more than is owed on the stream",
     ),
     (Refusal::Memory, "C12 Memory: out of memory"),
     (
@@ -102,7 +102,7 @@ const REFUSALS: &[(Refusal, &str)] = &[
     ),
     (
         Refusal::WindowTooLarge,
-        "C14 WindowTooLarge: a window is widened by 1 or more, to 2,147,483,647 at most",
+        "C14 WindowTooLarge: the count is 0, or would widen the window above 2^31 - 1",
     ),
 ];
 

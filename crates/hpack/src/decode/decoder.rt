@@ -92,8 +92,8 @@ impl Decoder {
     /// # Errors
     ///
     /// [`Fault::Compression`] where the octets are no block for this table and limit, and
-    /// [`Fault::Memory`] where an allocation was refused. After either the decoder has failed,
-    /// and every call returns [`Fault::Failed`].
+    /// [`Fault::Memory`] where an allocation was refused. After either, the decoder has failed, and
+    /// every later `decode` or `decode_into` returns [`Fault::Failed`].
     pub fn decode(&mut self, octets: &[u8], list_limit: u32) -> Result<List, Fault>
         ensures failed { self.old.failed ≡ true → (result ≡ Err Fault.Failed)
             × (self.new ≡ self.old) }
@@ -118,12 +118,12 @@ impl Decoder {
     // rule: HPACK 3.1 A block is decoded exactly where its octets are one
     // contract: HPACK 4.2 Size updates stand at the beginning of a block
     // rule: HPACK 3.2 (own) A list that the caller keeps is emptied, then has the block's fields
-    /// Decodes a complete block as [`Decoder::decode`] does, into a list that the caller keeps.
-    /// The list is emptied first, and its room is used again; it stays empty where the result
-    /// is [`Decoded::TooLarge`].
+    /// Decodes a complete block as [`Decoder::decode`] does, into a list that the caller keeps. The
+    /// list is emptied first, and its capacity is reused; it stays empty where the result is
+    /// [`Decoded::TooLarge`].
     ///
-    /// Memory is taken where the list lacks room, for an entry that is added to the table, and
-    /// once where the updates of the block change the capacity of the table's ring.
+    /// It allocates where the list must grow, for each entry that is added to the table, and once
+    /// if the block's size updates change the capacity of the table's ring.
     ///
     /// # Errors
     ///

@@ -77,8 +77,8 @@ impl Encoder {
 
     // rule: HPACK 4.2 After the limit fell a block begins with one update or two
     /// Sets the limit, in octets, of the peer's table (RFC 7541, section 4.2); the next block
-    /// announces the change. It takes no memory, but the next block takes room for `limit / 32`
-    /// entries, and [`Encoder::encode`] fails with [`Fault::Memory`] as long as that is
+    /// announces the change. It takes no memory, but the next block allocates room for `limit / 32`
+    /// entries, and [`Encoder::encode`] returns [`Fault::Memory`] as long as this allocation is
     /// refused. So a limit that a peer sets should be capped first, which the standard allows.
     pub fn set_limit(&mut self, limit: u32)
         ensures { self.new ≡ after_limit self.old limit }

@@ -53,8 +53,8 @@ pub fn least_and_last()
 {}
 
 // contract: HPACK 3.1 What is encoded is a block of the list
-/// A block that an encoder writes has at most as many octets as its fields' names and values, 18
-/// for each field, and 12.
+/// A block that an encoder writes has at most as many octets as the names and values of its fields,
+/// plus 18 for each field, plus 12.
 pub fn most_octets_of_a_block()
     ensures { (state : EncoderState) (fields : List Field)
         → length (block_of state fields) ≤ most_octets fields }

@@ -5,7 +5,7 @@ use thiserror::Error;
 /// Why a block cannot be decoded, or a list cannot be encoded.
 #[derive(Clone, Copy, Debug, PartialEq, Eq, Hash, Error)]
 pub enum Fault {
-    /// P1: the octets are no field block for this table: COMPRESSION_ERROR.
+    /// P1: the octets are no field block for this table and this limit: COMPRESSION_ERROR.
     #[error("P1 Compression: the field block cannot be decoded")]
     Compression,
     /// P2: an allocation was refused.

@@ -86,7 +86,8 @@ impl fmt::Debug for FieldRef<'_> {
     }
 }
 
-/// The fields of a block, or that they are too large.
+/// The result of [`Decoder::decode`](crate::Decoder::decode): the fields of a block, or a note that
+/// they are too large.
 #[derive(Debug, Drop)]
 pub enum List {
     /// All of them, in order.
@@ -95,7 +96,8 @@ pub enum List {
     TooLarge,
 }
 
-/// What a list that the caller keeps holds after a block.
+/// The result of [`Decoder::decode_into`](crate::Decoder::decode_into): what the caller's list then
+/// holds.
 #[derive(Clone, Copy, Debug, PartialEq, Eq)]
 pub enum Decoded {
     /// All fields of the block, in order.

@@ -38,7 +38,7 @@ impl FieldList {
     ghost use Rattle.hpack.specs.FieldLists.{AreWithin, fields_of, field_lent, value_of};
 
     // contract: HPACK 3.2 (own) A kept list says its fields and their number
-    /// Makes an empty list, without room. It takes no memory.
+    /// Makes an empty list, without capacity. It takes no memory.
     pub fn new(alloc: Global) -> FieldList
         ensures { result ≡ [] }
     {
@@ -120,7 +120,7 @@ impl FieldList {
     }
 
     // rule: HPACK 3.2 (own) A kept list says its fields and their number
-    /// Removes all fields, and keeps their room. It takes no memory.
+    /// Removes all fields, and keeps the capacity. It takes no memory.
     pub fn clear(&mut self)
         ensures { self.new ≡ [] }
     {

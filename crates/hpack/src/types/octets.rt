@@ -65,8 +65,8 @@ impl ShortOctets {
 }
 
 /// The octets of a name or a value. Making them from a `Vec<u8>` or from static octets takes no
-/// memory, nor does a copy of at most 30 octets, which are kept in place. `{:?}` shows them as
-/// a byte string, such as `b":path"`.
+/// memory, nor does copying up to 30 octets, which are stored in place. `{:?}` shows them as a byte
+/// string, such as `b":path"`.
 #[derive(Drop)]
 pub struct Octets {
     kept: Kept,
@@ -105,7 +105,7 @@ impl Octets {
 
     // contract: HPACK 2.1 (own) The octets of a name and a value are those that were given
     // rule (contract): HPACK 2.1 (own) The octets of a name and a value are those that were given
-    /// Copies the octets of a slice. It takes no memory where they are at most 30.
+    /// Copies the octets of a slice. It takes no memory if there are at most 30.
     ///
     /// # Errors
     ///

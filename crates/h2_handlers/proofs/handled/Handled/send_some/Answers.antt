@@ -1,4 +1,5 @@
 use Rattle.h2_handlers.specs.Exchanges.{handling_of}
+use Rattle.h2_handlers.proofs.CreditSteps.{then_credit_on}
 use Rattle.h2_handlers.proofs.StepsMade.{nothing_handles, then_handles}
 use Rattle.h2_handlers.proofs.handled.Handled.send_some.Goals as goal
 
@@ -18,6 +19,20 @@ pub returns-in_err-ask-clause-handles : goal.returns-in_err-ask-clause-handles
 returns-in_err-ask-clause-handles g c =
     then_handles (then_handles (then_handles c.return_credit.ensures c.give_waiting.ensures)
     c.pump.ensures) c.ask.ensures.handles
+
+pub returns-then-waits-clause-handles : goal.returns-then-waits-clause-handles
+returns-then-waits-clause-handles g c =
+    then_handles (then_handles (then_handles (then_handles (then_handles c.return_credit.ensures
+    c.give_waiting.ensures) c.pump.ensures) c.ask.ensures.handles) c.settle.ensures)
+    c.release.ensures.handles
+
+pub returns-then-waits-clause-returned : goal.returns-then-waits-clause-returned
+returns-then-waits-clause-returned g c =
+    λ waits. then_credit_on c.release.new.self.server.end
+    (handling_of c.release.new.self.exchanges) c.release.result
+    (then_handles (then_handles (then_handles (then_handles c.return_credit.ensures
+    c.give_waiting.ensures) c.pump.ensures) c.ask.ensures.handles) c.settle.ensures)
+    c.release.ensures.returned
 
 pub returns-clause-handles : goal.returns-clause-handles
 returns-clause-handles g c =
