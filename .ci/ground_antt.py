@@ -56,6 +56,9 @@ def heads(block):
     """Returns the names that a block declares by its first line, or by the first two: `pub name` and `    : type`."""
     first = block[0] + block[1].lstrip() if block[1:] and re.match(" *: ", block[1]) else block[0]
     head = HEAD.match(first.replace(block[0], f"{block[0]} ", 1) if first != block[0] else first)
+    ruleset = re.match(rf"{MODS}(?<=ruleset )(\S+) =", first)
+    if ruleset:
+        return {ruleset[1]}
     if not head or USE.match(first) or SECTION.match(first) or re.match("(unfolding|pub mod|mod) ", first):
         return set()
     # `name (x : A) ..` is the head of a type alone: elsewhere it is a clause.
@@ -168,7 +171,7 @@ class Index:
         if not rest:
             return [(MODULE, module)]
         file = self.file(module)
-        found = [(ITEM, module, it) for it in file.own.get(rest[0], ())]
+        found = [(ITEM, module, it, ".".join(rest)) for it in file.own.get(rest[0], ())]
         for given, words in () if found else file.uses.get(rest[0], ()):
             if given != path:
                 found += [(*it, words) for it in self.path(given + rest[1:], module, depth + 1)]
@@ -195,7 +198,7 @@ class Index:
             first, *rest = word.split(".")
             # (added to what another word may have brought, so that the order of words is of no meaning)
             if first in own:
-                found.setdefault(first, []).extend((ITEM, around, it) for it in own[first])
+                found.setdefault(first, []).extend((ITEM, around, it, first) for it in own[first])
             elif around and rest and first not in uses and (*around, first) in self.texts:
                 inner = self.path(("Rattle", *around, *(it for it in word.split(".") if it)), around)
                 found.setdefault(word, []).extend(inner)

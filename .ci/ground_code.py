@@ -117,7 +117,7 @@ class File:
         self.lines, self.parts, self.uses, self.given = text.split("\n"), [], {}, {}
         self.functions = edits.functions_of(text)
         starts = starts_of(text)
-        self.attributes = " ".join(bare(it) for it in self.lines if it.startswith("#!["))
+        self.attributes = " ".join(bare(it) for it in re.findall(r"(?ms)^#!\[.*?\]$", text))
         self.imports = []
         for first, end in zip(starts, [*starts[1:], len(self.lines)]):
             self.add(first, end)

@@ -16,7 +16,15 @@ pub const MOST: u32 = 7;
 #[derive(Clone, Copy)]
 pub struct Code {
     value: u32,
+    fault: Fault,
     ghost small: { is_small value },
+}
+#[derive(Error)]
+pub enum Fault {
+    #[error("the first")]
+    First(u32),
+    #[error("the second")]
+    Second,
 }
 impl Drop for Code {
     fn drop(self) {
@@ -53,6 +61,9 @@ bound = 7
 
 abbrev pub is_small : ℕ → Bool
 is_small n = nat_lt n bound
+
+abbrev pub is_large : ℕ → Bool
+is_large n = nat_lt bound n
 """,
     "crates/low/specs/Words.antt": "pub use Rattle.low.specs.Codes.{is_small as small}\n",
     "crates/high/src/lib.rt": """#![tactic(auto)]
@@ -99,7 +110,9 @@ NOTICED = (
     ("crates/low/src/code.rt", "small: { is_small value }", "small: { ℕ }"),
     ("crates/low/src/code.rt", "fn drop(self)", "fn drop(self) ensures { 1 ≡ 1 }"),
     ("crates/low/specs/Codes.antt", "bound = 7", "bound = 8"),
+    ("crates/low/src/code.rt", "First(u32)", "First(u64)"),
     ("crates/low/specs/Words.antt", "Codes.{is_small", "Others.{is_small"),
+    ("crates/low/specs/Words.antt", "{is_small as", "{is_large as"),
     ("crates/high/src/lib.rt", "#![tactic(auto)]", "#![tactic(none)]"),
     ("crates/high/src/lib.rt", "u32 = 1;", "u32 = 0;"),
     ("crates/high/src/lib.rt", "small code", "¬ small code"),

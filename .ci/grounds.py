@@ -56,13 +56,13 @@ class Scope:
 
 
 # The text that an error prints: no contract has it but by a definition that repeats it.
-ERROR_TEXT = re.compile(r"#\[error\([^\n]*\)\]")
+ERROR_TEXT = re.compile(r'#\[error\("(?:\\.|[^"\\])*"\)\]')
 
 
 def said(name, known):
     """Returns what a name stands for: of an item its module, since its text is summed beside it, wherever it stands in
     its file."""
-    return f"{name} = {' '.join(map(str, known[:2] if known[0] == ITEM else known))}"
+    return f"{name} = {' '.join(map(str, (*known[:2], *known[3:]) if known[0] == ITEM else known))}"
 
 
 class Grounds:
@@ -93,11 +93,16 @@ class Grounds:
     def attach(self, part):
         """Gives types their methods, and types and traits the impls that name them."""
         head = set(ground_code.NAME.findall(part.owner))
-        head |= {it for name in head for path in part.file.uses.get(name, ()) for it in ground_code.NAME.findall(path)}
-        names = self.scope(part.file.crate).names
-        # (an impl may name its type by an alias)
-        aliases = [it for name in head for it in names.get(name, ()) if it.kind == "type"]
-        head |= {name for it in aliases for name in ground_code.NAME.findall(it.text)}
+        scope, waiting = self.scope(part.file.crate), list(head)
+        names = scope.names
+        # (an impl may name its type by an alias, that of a `use` line or of an alias too)
+        while waiting:
+            name = waiting.pop()
+            paths = [*part.file.uses.get(name, ()), *(it.split(" ")[-1] for it in scope.given.get(name, ()))]
+            paths += [it.text for it in names.get(name, ()) if it.kind == "type"]
+            more = {it for path in paths for it in ground_code.NAME.findall(path)} - head
+            head |= more
+            waiting += more
         for name in head:
             for one in names.get(name, ()):
                 if part.kind == "fn":
@@ -390,14 +395,20 @@ class Grounds:
 
     def added(self, crate, pairs):
         """Returns the nodes, the words and the paths that the new texts of an edit name."""
-        nodes, words, told = [], set(), set()
+        nodes, words, told, texts = [], set(), set(), {}
+        edits.apply(crate, pairs, texts, lambda file: self.read(crate, file))
         files = {it.file: it for it in self.code.files[crate]}
-        for file, _, new in pairs:
-            more, paths = self.parts_in(new, files[file])
-            found = self.antt_in(new, files[file], {})
-            told |= paths | {said(name, it) for name, those in found.items() for it in those}
-            nodes += more + [node for those in found.values() for it in those for node in self.node_of(it)]
-            words |= set(ground_code.NAME.findall(new))
+        for file, text in texts.items():
+            known = {it.text for it in files[file].parts}
+            # (whole parts, since a new text may be a part of a name or of a path)
+            for part in ground_code.File(crate, file, ground_code.without_blocks(text)).parts:
+                if part.text in known or part.kind in ("impl", "trait"):
+                    continue
+                more, paths = self.parts_in(part.text, files[file])
+                found = self.antt_in(part.text, files[file], part.ghosts)
+                told |= paths | {said(name, it) for name, those in found.items() for it in those} | {part.text}
+                nodes += more + [node for those in found.values() for it in those for node in self.node_of(it)]
+                words |= set(ground_code.NAME.findall(part.text))
         return nodes, words, told
 
     def ground(self, crate, text):

@@ -6,6 +6,7 @@ import re
 from collections import Counter, namedtuple
 
 import edits
+import ground_code
 from grounds import Grounds, rows_of, sum_of
 
 ROOT = os.path.dirname(os.path.dirname(os.path.realpath(__file__)))
@@ -16,11 +17,11 @@ FOLDERS = ("wrong-bodies", "must-fail")
 GOOD = (edits.REFUSED, edits.LIMIT, edits.PROOF)
 # An edit, by its path below crates/.
 Edit = namedtuple("Edit", "path text")
-# The sentence of docs/DECISIONS.md that says how many edits .ci/held.txt has, how many stand in must-fail/, and the sum
-# of their paths.
+# The sentence of docs/DECISIONS.md that says how many edits .ci/held.txt has, how many stand in must-fail/, and a sum of
+# their paths and of what they change.
 COUNT = re.compile(
     r"The gate holds (\d+) wrong bodies by their verdicts \(`\.ci/held\.txt`\) and tries (\d+) "
-    r"\(`must-fail/`; the sum of all paths is `(\w+)`\)"
+    r"\(`must-fail/`; the sum of all of them is `(\w+)`\)"
 )
 
 
@@ -67,7 +68,9 @@ class Table:
     def verdict(self, edit, ground, kit):
         """Returns the verdict on an edit that is not stale, or None."""
         wanted, crate = (sum_of(sum_parts(edit.text)), ground, logic_of(kit)), edit.path.partition("/")[0]
-        found = ((path, row) for path, row in self.rows.items() if path.partition("/")[0] == crate)
+        name = edit.path.rpartition("/")[2]
+        places = [f"{crate}/{folder}/{name}" for folder in FOLDERS]
+        found = ((path, self.rows[path]) for path in places if path in self.rows)
         same = [it for it in found if (*it[1][:2], logic_of(it[1][2])) == wanted]
         for _, row in sorted(same, key=lambda it: it[0] != edit.path)[:1]:
             self.rows[edit.path] = row
@@ -130,8 +133,10 @@ def fault_of(edit):
             return it.read()
 
     try:
-        edits.apply(edit.path.partition("/")[0], edits.pairs_of(edit.text), {}, read)
-        return ""
+        texts = {}
+        edits.apply(edit.path.partition("/")[0], edits.pairs_of(edit.text), texts, read)
+        is_idle = all(ground_code.bare(read(file)) == ground_code.bare(text) for file, text in texts.items())
+        return "it changes comments and layout alone" if is_idle else ""
     except edits.Unusable as why:
         return str(why)
 
@@ -158,10 +163,12 @@ def held():
     return found, faults
 
 
-def count_fault(paths):
+def count_fault(found):
     """Yields what is wrong with what docs/DECISIONS.md says of the edits that the gate holds or tries."""
-    tried = [it.path for crate in rows_of(ROOT) for it in edits_of(crate, FOLDERS[1:])]
-    there = (str(len(paths)), str(len(tried)), sum_of(sorted([*paths, *tried]))[:8])
+    tried = [it for crate in rows_of(ROOT) for it in edits_of(crate, FOLDERS[1:])]
+    # (what an edit changes too, so that none is replaced by another under its name)
+    all_of = sorted(f"{it.path} {sum_of(sum_parts(it.text or ''))}" for it in [*found, *tried])
+    there = (str(len(found)), str(len(tried)), sum_of(all_of)[:8])
     with open(f"{ROOT}/docs/DECISIONS.md", encoding="utf-8") as it:
         said = COUNT.findall(it.read())
     if said != [there]:
@@ -206,4 +213,4 @@ def held_faults(kit):
     for edit in found:
         why = why_not_held(edit, verdicts)
         faults += [f"{edit.path}: {why}"] * bool(why)
-    return found, [*faults, *twins(found), *count_fault([it.path for it in found])]
+    return found, [*faults, *twins(found), *count_fault(found)]
