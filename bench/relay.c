@@ -1,5 +1,7 @@
 /* relay LISTEN TARGET MS: a relay that is far away. It forwards TCP connections of 127.0.0.1:LISTEN
-   to 127.0.0.1:TARGET, each octet MS milliseconds later, both ways, at any rate. */
+   to 127.0.0.1:TARGET, each octet MS milliseconds later, both ways, at any rate. The target is
+   connected to MS milliseconds after the client: over a real way too a server accepts a connection
+   just before the first octets come, when the handshake's last segment arrives. */
 #define _GNU_SOURCE
 #include <arpa/inet.h>
 #include <errno.h>
@@ -24,6 +26,10 @@ struct way {
   struct chunk *first, **last;
   size_t kept;
 };
+/* How long it is until `due`, in milliseconds: at least 0, and at most `wait`. */
+static double least(double wait, double due, double now) {
+  return due <= now ? 0 : due - now < wait ? due - now : wait;
+}
 static double now(void) {
   struct timespec t;
   clock_gettime(CLOCK_MONOTONIC, &t);
@@ -47,6 +53,7 @@ int main(int n, char **w) {
   if (bind(l, (void *)&a, sizeof a) || listen(l, 64))
     return 3;
   static struct way ways[512];
+  static double connects[512]; /* when the target of a way is connected to; 0: it is */
   int count = 0;
   static char buf[262144];
   for (;;) {
@@ -62,14 +69,29 @@ int main(int n, char **w) {
       if (y->first && !due && y->first->due - t < wait)
         wait = y->first->due - t;
       p[k++] = (struct pollfd){due ? y->to : -1, POLLOUT, 0};
+      if (connects[i])
+        wait = least(wait, connects[i], t);
     }
     struct timespec ts = {(time_t)(wait / 1000),
                           (long)((wait - 1000 * (time_t)(wait / 1000)) * 1e6)};
     ppoll(p, k, &ts, NULL);
     t = now();
+    for (int i = 0; i < count; i += 2)
+      if (connects[i] && connects[i] <= t) {
+        struct sockaddr_in b = a;
+        b.sin_port = htons(atoi(w[2]));
+        int s = socket(AF_INET, SOCK_STREAM, 0);
+        connects[i] = 0;
+        if (connect(s, (void *)&b, sizeof b) == 0)
+          ways[i].to = ways[i + 1].from = nb(s);
+        else {
+          close(ways[i].from);
+          ways[i].from = -1;
+        }
+      }
     for (int i = 0; i < count; i++) {
       struct way *y = &ways[i];
-      if (p[1 + 2 * i].revents) {
+      if (y->from >= 0 && p[1 + 2 * i].revents) {
         ssize_t r = read(y->from, buf, sizeof buf);
         if (r > 0 || (r <= 0 && errno != EAGAIN)) {
           if (r < 0)
@@ -84,7 +106,7 @@ int main(int n, char **w) {
           y->kept += r;
         }
       }
-      while (y->first && y->first->due <= t) {
+      while (y->first && y->to >= 0 && y->first->due <= t) {
         struct chunk *c = y->first;
         if (c->fin) {
           shutdown(y->to, SHUT_WR);
@@ -116,21 +138,15 @@ int main(int n, char **w) {
       }
     if (p[0].revents && count + 2 <= 512) {
       int c = accept(l, 0, 0);
-      struct sockaddr_in b = a;
-      b.sin_port = htons(atoi(w[2]));
-      int s = socket(AF_INET, SOCK_STREAM, 0);
-      if (c >= 0 && connect(s, (void *)&b, sizeof b) == 0) {
+      if (c >= 0) {
         nb(c);
-        nb(s);
-        ways[count] = (struct way){c, s, 0, 0, 0, 0, 0};
+        connects[count] = t + ms;
+        ways[count] = (struct way){c, -1, 0, 0, 0, 0, 0};
         ways[count].last = &ways[count].first;
         count++;
-        ways[count] = (struct way){s, c, 0, 0, 0, 0, 0};
+        ways[count] = (struct way){-1, c, 0, 0, 0, 0, 0};
         ways[count].last = &ways[count].first;
         count++;
-      } else {
-        close(c);
-        close(s);
       }
     }
   }

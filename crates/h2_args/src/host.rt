@@ -115,10 +115,11 @@ its own body.
 With --root, GET and HEAD are answered with a file below that folder, of any
 size, with its type, length, `etag`, `last-modified` and `date`. Conditional
 requests and single ranges are supported (RFC 9110, sections 13 and 14). A path
-that ends with a slash is the `index.html` of that folder. The body of an error
-is its status and phrase, except to HEAD, and except in a 500 because memory for
-the answer ran out:
-  400       the path cannot be decoded or has a control character
+that ends with a slash is the `index.html` of that folder. An error has its
+status and phrase as its body, but none to HEAD, nor where 400 is sent because
+the authority names a user, or 500 because memory for the answer ran out:
+  400       the path cannot be decoded or has a control character, or the
+            authority names a user
   403       a symbolic link or anything below one, a file that is not regular,
             or one that may not be read
   404       the file does not exist, the path is a folder without a trailing
@@ -160,10 +161,10 @@ than 10 seconds, and with code 11 in these cases:
 A client may send as many octets of bodies as --window says before they are
 used, in one request, and in all requests of a connection together. A
 connection's window is 65535 octets at first. Once octets of some body have come
-and some request is incomplete, it is widened to that size if what it lacks (the
-size less 65535) is left of the 128 MiB by which all connections together may be
-widened; otherwise that is tried again each time octets come. So a size above
-134283263 widens none. A size below 65535 limits only each request.
+and some request is incomplete, it is widened to that size, unless all
+connections together would then be widened by more than 128 MiB; if they would,
+the host tries again each time octets come. So a size above 134283263 widens
+none. A size below 65535 limits only each request.
 
 With --until-closed, GOAWAY is sent on all connections once standard input is
 closed, and pending requests are answered. A connection that takes longer than 5

@@ -256,7 +256,8 @@ side, and the other side goes on; at the end, each side reports what is
 unfinished, the client first. The client is the node that sent first, if it
 began with the preface, and otherwise the other node. The exit status is 0 only
 if both sides are valid and complete. A line that is not tshark's ends the
-command with `bad hex`, and the hint gives its number.
+command with `bad hex`; a hint says which line it is, or that the input is a
+packet capture.
 
 With --follow and --page FILE, no lines are printed; instead, an HTML page for a
 browser is written to FILE: two lifelines, one row per frame, one color per

@@ -6,6 +6,7 @@ use h2_case::driver::Answer;
 use h2_case::layers::{block, flow, frame, hpack_blocks, text, wire};
 use h2_case_conn::{conn, message};
 use h2_case_ends::{end, engine, pair};
+use h2_case_server::server;
 use h2_net::WriteParts;
 use std::alloc::Global;
 use std::fs::Files;
@@ -37,6 +38,8 @@ pub(crate) enum Group {
     Pair,
     /// Connections over links in memory.
     Engine,
+    /// Served connections of a host, in memory.
+    Server,
     /// What `h2 show` prints of an input.
     Show,
     /// What `h2 replay` prints of an input.
@@ -50,7 +53,7 @@ pub(crate) enum Group {
 }
 
 /// All groups, in the order in which their lines are printed.
-pub(crate) const GROUPS: [Group; 16] = [
+pub(crate) const GROUPS: [Group; 17] = [
     Group::Text,
     Group::Hpack,
     Group::Frame,
@@ -62,6 +65,7 @@ pub(crate) const GROUPS: [Group; 16] = [
     Group::End,
     Group::Pair,
     Group::Engine,
+    Group::Server,
     Group::Show,
     Group::Replay,
     Group::Words,
@@ -84,6 +88,7 @@ impl Group {
             Group::End => "end",
             Group::Pair => "pair",
             Group::Engine => "engine",
+            Group::Server => "server",
             Group::Show => "show",
             Group::Replay => "replay",
             Group::Words => "words",
@@ -115,6 +120,7 @@ where
         Group::End => end::run_case(alloc, case),
         Group::Pair => pair::run_case(alloc, case),
         Group::Engine => engine::run_case(alloc, case),
+        Group::Server => server::run_case(alloc, case),
         Group::Location => location::run_case(alloc, case),
         Group::Show | Group::Replay | Group::Words | Group::Loop => {
             program::run_case(rt, alloc, case)

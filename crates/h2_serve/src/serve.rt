@@ -41,12 +41,14 @@ const PART: usize = 16_384;
 ///
 /// # Errors
 ///
-/// [`LinkError::Device`] (N1) if the link failed; [`LinkError::Stream`] (N2) if the connection
-/// failed, once its GOAWAY was written, with ENHANCE_YOUR_CALM also if a stream had to be reset
-/// after 1,000 others; [`LinkError::Memory`] (N3) if an allocation was refused;
-/// [`LinkError::CutOff`] (N4) if the input ended inside the preface or a frame, or while a
-/// stream was active; [`LinkError::NoProgress`] (N5) if a write accepted nothing, and after
-/// 2^64 - 1 rounds.
+/// - [`LinkError::Device`] (N1): a read or a write of the link failed.
+/// - [`LinkError::Stream`] (N2): the connection failed, and its GOAWAY was written. The code is
+///   ENHANCE_YOUR_CALM if a stream had to be reset after 1,000 others had been.
+/// - [`LinkError::Memory`] (N3): an allocation was refused to the server. (If one is refused to
+///   the handler, its request gets status 500 or a reset, and serving goes on.)
+/// - [`LinkError::CutOff`] (N4): the input ended inside the preface or a frame, or while a stream
+///   was active.
+/// - [`LinkError::NoProgress`] (N5): a write accepted no octet, or 2^64 - 1 rounds were made.
 pub fn serve_handler<W: Drop, H: Handler<Work = W>, L: Link>(
     alloc: Global,
     link: &mut L,

@@ -1,0 +1,334 @@
+//! A host of served connections. No other file of this crate knows what a host, a connection, a
+//! step and a limit are.
+
+ghost use Rattle.std.specs.Prelude.{⊤};
+
+use crate::handler::{Exchange, Paths};
+use crate::told::Told;
+use h2_case::text::Text;
+use h2_case::words::Words;
+use h2_handlers::{Code, Config, Handler};
+pub(crate) use h2_host::MOST_TAKEN;
+use h2_host::{Answer, Bound, Host, Limits, Own, Party, Reply, Step, Token};
+pub(crate) use h2_seat::Why;
+use h2_seat::{Seat, SeatLimits};
+use h2_times::{Flood, FloodLimits, Late, TimeLimits};
+use std::alloc::Global;
+
+/// The settings and the limits with which connections are opened.
+#[derive(Clone, Copy)]
+pub(crate) struct Setup {
+    pub(crate) config: Config,
+    host: Limits,
+    seat: SeatLimits,
+}
+
+/// The name of a connection of a host.
+#[derive(Clone, Copy)]
+pub(crate) struct Place(Token);
+
+/// Whether a connection goes on after a step.
+#[derive(Clone, Copy, PartialEq, Eq)]
+pub(crate) enum Fate {
+    Goes,
+    Over,
+}
+
+/// A connection that can be asked to end in order.
+trait Leaves {
+    fn leave(&mut self);
+}
+
+/// A connection of a host, which begins to end in order at the next time that passes after it was
+/// asked to.
+#[derive(Drop)]
+struct Guest<'a, P> {
+    party: P,
+    /// The number of its client.
+    number: usize,
+    told: &'a Told,
+}
+
+/// A connection with its handler.
+type Connection<'a> = Guest<'a, Seat<Paths<'a>, Exchange>>;
+
+/// A host, whose handlers note what they are told.
+#[derive(Drop)]
+pub(crate) struct Served<'a> {
+    host: Host<Connection<'a>>,
+    told: &'a Told,
+}
+
+impl Setup {
+    /// The default ones.
+    pub(crate) fn new() -> Setup {
+        Setup {
+            config: Config::default(),
+            host: Limits::default(),
+            seat: SeatLimits::default(),
+        }
+    }
+
+    /// Sets the limit that the next word names to the number after it.
+    pub(crate) fn set_limit(&mut self, words: &mut Words<'_>) {
+        let name = words.word();
+        match name {
+            "held" => self.host.held = words.number(),
+            "held_in_all" => self.host.held_in_all = words.number(),
+            "connections" => self.host.connections = words.number(),
+            "closing" => self.seat.closing = words.number(),
+            "least_closing" => self.seat.least_closing = words.number(),
+            _ => set_time_limit(&mut self.seat, name, words),
+        }
+    }
+}
+
+// Sets the limit of times of this name, or another one.
+fn set_time_limit(limits: &mut SeatLimits, name: &str, words: &mut Words<'_>) {
+    let times: &mut TimeLimits = &mut limits.times;
+    match name {
+        "opening" => times.opening = words.number(),
+        "frame" => times.frame = words.number(),
+        "body" => times.body = words.number(),
+        "least_body" => times.least_body = words.number(),
+        "writing" => times.writing = words.number(),
+        "answering" => times.answering = words.number(),
+        "idle" => times.idle = words.number(),
+        _ => set_flood_limit(&mut limits.floods, name, words),
+    }
+}
+
+// Sets the limit of floods of this name.
+fn set_flood_limit(floods: &mut FloodLimits, name: &str, words: &mut Words<'_>) {
+    match name {
+        "stretch" => floods.stretch = words.number(),
+        "resets" => floods.resets = words.number(),
+        "empty" => floods.empty = words.number(),
+        "refused" => floods.refused = words.number(),
+        "replies" => floods.replies = words.number(),
+        _ => words.unread(),
+    }
+}
+
+impl<W: Drop, H: Handler<Work = W>> Leaves for Seat<H, W> {
+    fn leave(&mut self) {
+        Seat::leave(self);
+    }
+}
+
+impl<P: Party + Leaves> Party for Guest<'_, P> {
+    ghost steps = { λ _ _ _ _ _. ⊤ };
+
+    ghost held_of = { λ guest. P.held_of guest.party };
+
+    ghost ready_of = { λ guest. P.ready_of guest.party };
+
+    ghost takes = { λ guest wants. P.takes guest.party wants };
+
+    ghost output_of = { λ guest. P.output_of guest.party };
+
+    fn step(&mut self, own: Own, octets: &[u8], room: &mut [u8]) -> Answer {
+        if matches!(own, Own::Passed { .. }) && self.told.is_asked(self.number) {
+            self.party.leave();
+        }
+        self.party.step(own, octets, room)
+    }
+
+    fn held(&self) -> usize {
+        self.party.held()
+    }
+
+    fn is_ready(&self) -> bool {
+        self.party.is_ready()
+    }
+
+    fn wants_input(&self) -> bool {
+        self.party.wants_input()
+    }
+
+    fn output(&self) -> (&[u8], &[u8]) {
+        self.party.output()
+    }
+}
+
+impl<'a> Served<'a> {
+    /// A host without connections; nothing where memory was refused.
+    pub(crate) fn new(alloc: Global, setup: &Setup, told: &'a Told) -> Option<Served<'a>> {
+        match Host::new(alloc, setup.host) {
+            Ok(host) => Some(Served { host, told }),
+            Err(_) => None,
+        }
+    }
+
+    /// Opens a connection for the client of this number; nothing where no place is free, or the
+    /// connection holds too much.
+    pub(crate) fn open(&mut self, alloc: Global, setup: &Setup, number: usize) -> Option<Place> {
+        let told = self.told;
+        let handler = Paths {
+            alloc,
+            told,
+            number,
+        };
+        let Ok(party) = Seat::new(alloc, setup.config, setup.seat, self.host.now(), handler) else {
+            return None;
+        };
+        let party = Guest {
+            party,
+            number,
+            told,
+        };
+        match self.host.step(Step::Opened { party }, &[]) {
+            Reply::Opened(token) => Some(Place(token)),
+            _ => None,
+        }
+    }
+
+    // Makes a step other than the opening of a connection; one that is not there is over.
+    fn make(&mut self, step: Step<Connection<'a>>, octets: &[u8]) -> Fate {
+        match self.host.step(step, octets) {
+            Reply::Own(Answer::Goes) | Reply::NotNow => Fate::Goes,
+            _ => Fate::Over,
+        }
+    }
+
+    // Makes a step of a connection.
+    fn step(&mut self, place: Place, own: Own, octets: &[u8]) -> Fate {
+        let token = place.0;
+        self.make(Step::Own { token, own }, octets)
+    }
+
+    /// The transport can be read, written, or both.
+    pub(crate) fn ready(&mut self, place: Place, reads: bool, writes: bool) -> Fate {
+        self.step(place, Own::Ready { reads, writes }, &[])
+    }
+
+    /// Octets have come.
+    pub(crate) fn came(&mut self, place: Place, octets: &[u8]) -> Fate {
+        self.step(place, Own::Came, octets)
+    }
+
+    /// No octets have come.
+    pub(crate) fn none_came(&mut self, place: Place) -> Fate {
+        self.step(place, Own::NoneCame, &[])
+    }
+
+    /// The client has ended its side.
+    pub(crate) fn ended(&mut self, place: Place) -> Fate {
+        self.step(place, Own::Ended, &[])
+    }
+
+    /// The connection acts.
+    pub(crate) fn act(&mut self, place: Place) -> Fate {
+        self.step(place, Own::Turn, &[])
+    }
+
+    /// This many octets of its output were written.
+    pub(crate) fn went(&mut self, place: Place, count: usize) -> Fate {
+        self.step(place, Own::Went { count }, &[])
+    }
+
+    /// No octets of its output were written.
+    pub(crate) fn none_went(&mut self, place: Place) -> Fate {
+        self.step(place, Own::NoneWent, &[])
+    }
+
+    /// Time has passed for all connections.
+    pub(crate) fn pass(&mut self, now: u64) {
+        let _ = self.make(Step::Passed { now }, &[]);
+    }
+
+    /// The transport of a connection is gone.
+    pub(crate) fn close(&mut self, place: Place) {
+        let token = place.0;
+        let _ = self.make(Step::Closed { token }, &[]);
+    }
+
+    /// Gives the next turn: the connection that has it, and the number of its client.
+    pub(crate) fn next_turn(&mut self) -> Option<(Place, usize)> {
+        let token = self.host.next_turn()?;
+        let guest = self.host.party(token)?;
+        Some((Place(token), guest.number))
+    }
+
+    /// Whether a connection takes octets in its turn.
+    pub(crate) fn wants_input(&self, place: Place) -> bool {
+        self.host.wants_input(place.0)
+    }
+
+    /// The first two parts of the output of the connection that has the turn.
+    pub(crate) fn output(&self, place: Place) -> (&[u8], &[u8]) {
+        self.host.output(place.0)
+    }
+
+    /// The octets that a connection holds.
+    pub(crate) fn holds(&self, place: Place) -> usize {
+        match self.host.party(place.0) {
+            Some(guest) => guest.held(),
+            None => 0,
+        }
+    }
+
+    /// The octets that all connections hold.
+    pub(crate) fn holds_in_all(&self) -> usize {
+        self.host.held()
+    }
+
+    /// The number of connections that wait for a turn.
+    pub(crate) fn waiting(&self) -> usize {
+        self.host.waiting()
+    }
+
+    /// Why a connection ends, if it does.
+    pub(crate) fn why(&self, place: Place) -> Option<Why> {
+        self.host.party(place.0)?.party.why()
+    }
+}
+
+/// Adds the line of why a connection ends.
+pub(crate) fn add_why(text: &mut Text, why: Why) {
+    match why {
+        Why::Ended => text.push_line("ended"),
+        Why::Asked => text.push_line("asked"),
+        Why::Late(late) => text.push_line(name_of_late(late)),
+        Why::Flood(flood) => text.push_line(name_of_flood(flood)),
+        Why::Refused(bound) => text.push_line(name_of_bound(bound)),
+        Why::Failed(code) => add_failed(text, code),
+    }
+}
+
+// Adds the line of a failure with this code.
+fn add_failed(text: &mut Text, code: Code) {
+    text.push_labeled("failed ", code.number());
+    text.push_str("\n");
+}
+
+// What took too long.
+fn name_of_late(late: Late) -> &'static str {
+    match late {
+        Late::Opening => "opening",
+        Late::Frame => "frame",
+        Late::Body => "body",
+        Late::Writing => "writing",
+        Late::Answering => "answering",
+        Late::Idle => "idle",
+    }
+}
+
+// What was sent too often.
+fn name_of_flood(flood: Flood) -> &'static str {
+    match flood {
+        Flood::Resets => "resets",
+        Flood::Empty => "empty",
+        Flood::Refused => "refused",
+        Flood::Replies => "replies",
+    }
+}
+
+// Which bound was exceeded.
+fn name_of_bound(bound: Bound) -> &'static str {
+    match bound {
+        Bound::Held => "held",
+        Bound::HeldInAll => "held in all",
+        Bound::Memory => "memory",
+    }
+}
