@@ -17,15 +17,15 @@
 //! - `get ID PATH ID PATH ..`: the client sends HEADERS with complete requests, in one piece, whose
 //!   fields are the method GET, the scheme http and the path, with `?ID` after it. `post` is the
 //!   same with the method POST, and no END_STREAM.
-//! - `takes N`, `takes all`: how many octets of output the client takes from now on. `ends`: it ends
-//!   its side. `close`: its transport is gone.
+//! - `takes N`, `takes all`: how many octets of output the client takes from now on. `ends`: it
+//!   ends its side. `close`: its transport is gone.
 //! - `time MS`: time passes until `MS` milliseconds after the start, in steps of at most a second,
 //!   with turns after each; `time MS at once`: in one step.
 //! - `leave`: the connection is asked to end in order.
 //! - `out`: the frames of what the client has taken; `drop out`, `count out`: it is taken away, and
 //!   not shown, or its number of octets is.
-//! - `told`: what the handler was told: `head ID`, `body ID COUNT`, `trailers ID`, the first two with
-//!   `end` where the request is complete; `part ID ROOM`; and `over ID` with `done`, `closed`,
+//! - `told`: what the handler was told: `head ID`, `body ID COUNT`, `trailers ID`, the first two
+//!   with `end` where the request is complete; `part ID ROOM`; and `over ID` with `done`, `closed`,
 //!   `reset CODE ours` or `reset CODE theirs`. The same line N times one after another has `xN`.
 //!   A handler is not told the stream: `ID` is what comes after `?` in the path, and else 0.
 //! - `why`: `up`; `ending` and `over`, each with why, as [`crate::served::add_why`] says; `gone`
