@@ -45,7 +45,7 @@ const PART: usize = 16_384;
 /// - [`LinkError::Stream`] (N2): the connection failed, and its GOAWAY was written. The code is
 ///   ENHANCE_YOUR_CALM if a stream had to be reset after 1,000 others had been.
 /// - [`LinkError::Memory`] (N3): an allocation was refused to the server. (If one is refused to
-///   the handler, its request gets status 500 or a reset, and serving goes on.)
+///   the handler, serving goes on, and its request gets what `HandlerFault` says.)
 /// - [`LinkError::CutOff`] (N4): the input ended inside the preface or a frame, or while a stream
 ///   was active.
 /// - [`LinkError::NoProgress`] (N5): a write accepted no octet, or 2^64 - 1 rounds were made.
