@@ -46,6 +46,10 @@ FN = re.compile(r'( *)(?:pub(?:\([^)]*\))? )?(?:const |unsafe |extern "C" )*fn (
 
 def owner_of(line):
     """Returns how a check names the impl that a line begins: by its type, its trait and the trait's first parameter."""
+    role = re.match(r"impl (\w+)<(\w+)> \{", line)
+    if role:
+        # (own methods of a generic type at one type)
+        return f"{role[1]}+{role[2]}"
     trait, type = IMPL.match(line).groups()
     bare = re.sub(r"<.*", "", trait or "").split("::")[-1]
     given = re.search(r"<(\w[\w:]*)", trait or "")

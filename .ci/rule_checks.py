@@ -85,8 +85,10 @@ def unused(table):
         body = "\n".join(table.tags.texts[it.file][it.body - 1 : it.end])
         for name in set(re.findall(r"\w+", edits.without_comments(body))):
             names[name].add(it)
-    types = defaultdict(set)
+    types, aliases = defaultdict(set), defaultdict(set)
     for file, lines in table.tags.texts.items():
+        for alias, of in re.findall(r"^pub type (\w+) = (\w+)", "\n".join(lines), re.M):
+            aliases[of].add(alias)
         if "/src/" in file and not is_test(file):
             code = [it for it in lines if not it.lstrip().startswith(("//", "ghost "))]
             for word in set(re.findall(r"\b[A-Z]\w*", "\n".join(code))):
@@ -105,7 +107,8 @@ def unused(table):
         return any(is_live(it, seen | {own}) for it in inner)
 
     def knows(file, type):
-        return any(it.split("/")[0] == file.split("/")[0] and not it.endswith("/lib.rt") for it in types[type])
+        users = set().union(*(types[it] for it in {type} | aliases[type]))
+        return any(it.split("/")[0] == file.split("/")[0] and not it.endswith("/lib.rt") for it in users)
 
     cited = {table.by_line[it.file, it.at] for it in table.tags.tags if (it.file, it.at) in table.by_line}
     for own in sorted(cited):

@@ -163,5 +163,5 @@ pub record SaysSettingsOfConn (conn : Conn) (said : BjSettings) : Type 0 where
 
 -- This is so of the list that was reported last, and nothing has changed.
 pub record OfReported (Is : List Field → Type 0) (old new : HeldConn) : Type 0 where
-  pub is : Is old.conn.inner.end.list
+  pub is : Is old.conn.end.list
   pub same : new ≡ old

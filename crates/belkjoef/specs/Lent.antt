@@ -77,7 +77,7 @@ pub record LendsFields (list : List Field) (answer : ℤ) (before after : List B
 
 -- the list that was handed out last
 abbrev pub list_in : Held → List Field
-list_in held = (held_end held).conn.inner.end.list
+list_in held = (held_end held).conn.end.list
 
 -- This is so of the list that was handed out last, and nothing has changed.
 pub record OfList (Is : List Field → Type 0) (old new : Held) : Type 0 where

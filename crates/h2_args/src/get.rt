@@ -210,18 +210,18 @@ has a window of 65535 octets at least.
 
 With one URL and none of --output, --stream and --verbose, the body is kept
 until the response is complete, and nothing is printed of an incomplete one.
-Otherwise the body is printed, or written to the --output file, as it arrives,
-and little of it is kept: if the response is reset or cut off, what arrived
-before is already there. The file is created or truncated once the head of the
-response has arrived. If --fail makes the response a failure, the file is left
-alone, and no more of the response is fetched; with several URLs, no more of
-its body arrives than its window allows. `--output -` writes a file named `-`.
---output cannot be used with several URLs.
+Otherwise the body (with several URLs, that of the current response) is printed,
+or written to the --output file, as it arrives, and little of it is kept: if the
+response is reset or cut off, what arrived before is already there. The file is
+created or truncated once the head of the response has arrived. If --fail makes
+the response a failure, the file is left alone, and no more of the response is
+fetched; with several URLs, no more of its body arrives than its window allows.
+`--output -` writes a file named `-`. --output cannot be used with several URLs.
 
-With --verbose, each frame is printed on standard error when it is sent, after
-`> `, or received, after `< `, in the format of h2 show --follow. With --output
-and without --verbose, a line on standard error shows how much of the body has
-arrived, if standard error is a terminal.
+With --verbose, each frame is printed on standard error when it is sent
+(prefixed with `> `) or received (prefixed with `< `), in the format of
+h2 show --follow. With --output and without --verbose, a line on standard error
+shows how much of the body has arrived, if standard error is a terminal.
 
 The URL must have the scheme http, a host, and a port from 1 to 65535 unless
 --port gives one. A user name is refused, and a fragment is dropped.

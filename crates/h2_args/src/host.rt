@@ -108,16 +108,18 @@ in all requests of a connection; k and m multiply by
 
 /// What `host` serves, how it ends, and an example.
 const HOSTED_AND_STATUSES: &str =
-    r"Many connections are served at once, in one thread. Without --root, each request
-is answered as by `h2 serve`: with its method, a space, its path, a newline, and
-its own body.
+    r"Many connections are served at once, in one thread. Without --root, a request is
+answered as by `h2 serve`: with its method, a space, its path, a newline and its
+body. But one whose body has more than 1048576 octets gets status 413, and one
+whose authority names a user gets status 400.
 
 With --root, GET and HEAD are answered with a file below that folder, of any
 size, with its type, length, `etag`, `last-modified` and `date`. Conditional
 requests and single ranges are supported (RFC 9110, sections 13 and 14). A path
-that ends with a slash is the `index.html` of that folder. An error has its
-status and phrase as its body, but none to HEAD, nor where 400 is sent because
-the authority names a user, or 500 because memory for the answer ran out:
+that ends with a slash is the `index.html` of that folder. The body of an error
+is its status and phrase. A response to HEAD has no body, nor has a 400 that is
+sent because the authority names a user, nor a 500 that is sent because memory
+for the answer ran out. Errors:
   400       the path cannot be decoded or has a control character, or the
             authority names a user
   403       a symbolic link or anything below one, a file that is not regular,
@@ -125,7 +127,7 @@ the authority names a user, or 500 because memory for the answer ran out:
   404       the file does not exist, the path is a folder without a trailing
             slash, or a name is empty, begins with a dot, has a slash or a
             backslash, or is longer than 255 octets
-  405       another method than GET or HEAD
+  405       a method other than GET or HEAD
   412       `if-match` or `if-unmodified-since` is false (`if-none-match` and
             `if-modified-since` give 304, without a body)
   414       the path, without its query, has more than 4096 octets
@@ -137,6 +139,12 @@ checked before and after it is opened. Someone who can write below the folder
 could still swap a link in and out again between the two checks. If a file
 shrinks while it is sent, the stream is reset with code 2.
 
+A client that still sends a request's body when all of the answer has gone is
+asked to stop: the stream is reset with code 0, unless the host has reset 1000
+streams of the connection before. It is not asked after a file above 16384
+octets, nor where 400 is sent because the authority names a user, or 500 because
+memory ran out.
+
 A connection that has no open request for --idle seconds is closed gracefully.
 A connection is closed with code 4 if the preface and the first frame take more
 than 10 seconds, and with code 11 in these cases:
@@ -144,19 +152,23 @@ than 10 seconds, and with code 11 in these cases:
   seconds, or if, while a request is incomplete, 1024 octets of request bodies
   (of all streams together) take more than 30 seconds;
 - if output is queued and none of it is written for 60 seconds, or if no octet
-  of any response body is sent for 60 seconds while some exchange is open whose
-  response has begun (an exchange is open until its request and its response are
-  both complete);
+  of any response body is sent for 60 seconds while there is an open exchange
+  whose response has begun (an exchange is open until its request and its
+  response are both complete, or its stream is reset);
 - if, within one of consecutive periods of 10 seconds,
-  - the client sends more than 500 RST_STREAM frames or more than 500 empty
-    frames;
+  - the client sends more than 500 RST_STREAM frames, or more than 500 empty
+    frames without effect: DATA without END_STREAM, or HEADERS or CONTINUATION
+    without END_HEADERS;
   - the host resets more than 50 streams for stream errors (malformed requests,
     for example) or because of its limits of streams and fields; or
   - the replies to PING and SETTINGS are more than 32768 octets;
-- if it holds more than 16 MiB (or than twice --window, if that is more), or if
-  all together hold more than 256 MiB and it holds most.
-  Header tables, field blocks, entries of streams and the spare capacity of
-  buffers are not counted.
+- if a field block has more than 65552 octets, or the host has to reset a stream
+  with a code other than 0 after it has reset 1000 streams of the connection;
+- if the connection holds more than 16 MiB (or twice --window, if that is more),
+  or if all connections together hold more than 256 MiB and this one holds most.
+  Then little more output is written, so the code may not be sent.
+  Header tables, field blocks and lists, entries of streams and the spare
+  capacity of buffers are not counted.
 
 A client may send as many octets of bodies as --window says before they are
 used, in one request, and in all requests of a connection together. A
@@ -176,10 +188,10 @@ is 0.
 A --log line has the address of the client, `- -`, the time, the request line in
 double quotes, the status, and the number of octets of the body. In the request
 line, quotes, backslashes and octets outside printable ASCII are escaped, a
-quote as `\x22`. Requests that are reset before they are handled (with a head
-that is malformed or too large, or above the limit of streams), those whose
-authority names a user, and those for which memory was refused, for the head or
-for the line, have no line.
+quote as `\x22`. These requests have no line: those that are reset before they
+are handled (a head that is malformed or too large, or a stream above the
+limit), those whose authority names a user, and those for which memory was
+refused (for the head or for the line).
 
 Exit status (lines in backquotes go to standard error):
   0  with --until-closed, standard input was closed, and all connections have

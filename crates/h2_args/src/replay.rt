@@ -74,9 +74,9 @@ fn messages_arg<'a>(alloc: Global) -> Arg<'a>
 const EVENTS_AND_STATUSES: &str =
     r"The input is fed to one endpoint of a new connection. The endpoint has the
 default settings and makes no calls of its own: it answers no request, opens no
-stream and releases no octets. So the 101st request is reset with code 7, bodies
-of more than 65535 octets in all are a fault, and with --as client any response
-is a fault.
+stream and releases no octets. So a request beyond 100 open ones is reset with
+code 7, more than 65535 octets of bodies on open streams are a fault, and with
+--as client any response is a fault. A stream stays open until it is reset.
 
 Each event is printed on one line:
   fields ID          a field block was received on stream ID; `end` after it, as
@@ -102,8 +102,9 @@ Then, once the input has ended or the connection has failed:
 The rules of messages (RFC 9113, section 8) are checked only with --messages:
 they are M1 to M12 of docs/PROTOCOL.md. CONNECT is not supported, and breaks M6
 or M7. Not checked are the value of :scheme, a user in host or :authority, and
-whether those two agree. A part of a message that breaks a rule is not reported;
-the endpoint resets its stream, and this line precedes that of the reset:
+whether those two agree. If a part of a message breaks a rule, the endpoint
+resets its stream. In place of the part this line is printed, before that of the
+reset:
   malformed ID RULE  the number and name of the first rule that the part breaks,
                      such as `M10 ConnectionField` (docs/PROTOCOL.md)
 A malformed message is not a fault, so the exit status stays 0. At most 1000

@@ -267,9 +267,10 @@ Clicking a frame folds its stream.
 With --follow, frame sizes and header tables are checked against the SETTINGS of
 the other side: a higher value applies from the SETTINGS on, a lower one from
 the ACK on. Frames of up to --max-frame octets are always accepted.
-`> not checked` or `< not checked` is printed once if the other side's SETTINGS
-allow that side a table above 65536 octets or frames above 1048576. Limits that
-large are not followed, so a fault reported later may be wrong.
+`> not checked` (for the client) or `< not checked` (for the server) is printed
+once if the SETTINGS of the other side allow this side a table above 65536
+octets or frames above 1048576. This side is then checked against 65536 or
+1048576 instead, so a fault reported later may be wrong.
 
 Example:
   $ echo 000004 08 00 00000000 0000000f | h2 show --hex --from server

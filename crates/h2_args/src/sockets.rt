@@ -117,7 +117,8 @@ one is served. The exit status is that of the first such connection.
 Exit status (lines in backquotes go to standard error):
   0  every connection was served until its client ended it
   1  `N2 Stream CODE`: the connection failed with this code (RFC 9113,
-     section 7); or CODE is 11, and a stream had to be reset after 1000 others
+     section 7); or, with CODE 11, it was given up because one more stream
+     had to be reset after 1000 others
      `N4 CutOff`: the connection ended inside the preface or a frame, or while a
      stream was active
   2  invalid arguments

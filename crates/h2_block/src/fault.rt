@@ -7,7 +7,8 @@ use h2_frame::Code;
 use std::alloc::AllocError;
 use thiserror::Error;
 
-/// Why frames cannot be grouped into field blocks any further.
+/// Why [`Gather::take`](crate::Gather::take) or [`spread`](crate::spread) failed: a fault of the
+/// frames, or a refused allocation.
 #[derive(Clone, Copy, Debug, PartialEq, Eq, Hash, Error)]
 pub enum BlockFault {
     /// B1: a frame other than a CONTINUATION of the same stream comes inside a block (RFC 9113,
@@ -21,7 +22,7 @@ pub enum BlockFault {
     /// of this library; section 10.5.1).
     #[error("B3 TooLong: a field block is longer than 65552 octets")]
     TooLong,
-    /// B4: an allocation was refused.
+    /// B4: an allocation was refused; the call may be repeated.
     #[error("B4 Memory: out of memory")]
     Memory,
 }

@@ -14,8 +14,8 @@ use h2_frame::FrameRef;
 use std::alloc::Global;
 use std::marker::Model;
 
-/// Joins the fragments of field blocks, and passes other frames on. It keeps at most 65,552 octets,
-/// whatever comes.
+/// Joins the fragments of field blocks, and passes on the frames outside blocks. It keeps at most
+/// 65,552 octets, whatever comes.
 #[derive(Debug, Drop)]
 pub struct Gather {
     partial: PartialBlock,
@@ -47,8 +47,8 @@ impl Gather {
     // contract: 6.10 Inside a block any frame but its CONTINUATION is PROTOCOL_ERROR
     // contract: 10.5 (own) A block of more than 65,552 octets is ENHANCE_YOUR_CALM
     // contract: 5.4.1 After a fault each layer answers that fault and changes nothing
-    /// Takes the next frame (RFC 9113, sections 4.3 and 6.10). A frame that is no part of a
-    /// block is passed on; a block is returned with its last frame.
+    /// Takes the next frame (RFC 9113, sections 4.3 and 6.10). A frame outside blocks is passed
+    /// on; a block is returned when its last frame is taken.
     ///
     /// # Errors
     ///

@@ -19,9 +19,9 @@ pub fn one_grouping()
 {}
 
 // contract: 4.3 Each list of frames groups or has a fault; prefixes agree
-/// If the last frame of a list is at fault, the list has no grouping, whatever frames follow it:
-/// neither that frame nor a later one is part of an item (a block, or a frame outside blocks). This
-/// fault is the only one, and no later frame has another.
+/// If the last frame of a list is at fault, the list has no grouping into items (blocks, and
+/// frames outside blocks), whatever frames follow it. That fault is the only one: no later frame
+/// has a fault, and the items before it are always the same.
 pub fn no_grouping_past_a_fault()
     ensures grouping { (frames more : List Frame) (items others : List Item) (fault : BlockFault)
         (begun : Option Begun)
@@ -34,8 +34,8 @@ pub fn no_grouping_past_a_fault()
 // contract: 4.2 (own) Payloads of at most 65,536 octets are sent, where the peer reads them
 // contract: 4.3 A block is sent as contiguous HEADERS and CONTINUATION, each full but one
 /// The frames over which a block is spread are one block of its octets, whatever the greatest
-/// payload is. None of them has a longer payload, and they may be written if a head can encode
-/// that length.
+/// payload (`most`) is. Each payload has at most `most` octets, and the frames may be written if a
+/// head can encode `most`.
 pub fn spread_block()
     ensures grouped { (most stream : ℕ) (end : Bool) (octets : List ℕ) → 1 ≤ most
         → length octets ≤ 65552

@@ -1,8 +1,8 @@
 //! Field blocks in a stream of frames (RFC 9113, sections 4.3, 6.2 and 6.10).
 //!
 //! [`Gather::take`] joins HEADERS and the CONTINUATIONs after it into one block, and passes on
-//! every other frame. [`spread`] writes a block in as many frames as it needs, with payloads of
-//! at most a given length.
+//! every frame outside blocks. [`spread`] writes a block in as many frames as it needs, with
+//! payloads of at most a given length.
 #![tactic(auto)]
 
 mod fault;

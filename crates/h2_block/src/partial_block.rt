@@ -20,7 +20,8 @@ use std::mem;
 pub(crate) struct Opening {
     /// The block's stream.
     pub(crate) stream: u32,
-    /// Whether nothing follows it on the stream (END_STREAM).
+    /// Whether END_STREAM is set: after the block the sender sends no more fields or DATA on the
+    /// stream.
     pub(crate) end: bool,
 }
 

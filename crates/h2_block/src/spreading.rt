@@ -18,10 +18,10 @@ use h2_frame::{FrameRef, HEAD_LEN, write_ref};
 // rule: 4.3 Of the frames of a block that is sent the last has END_HEADERS
 // rule: 4.3 (own) Room for all frames of a block is reserved before the first
 /// Appends a field block as HEADERS and CONTINUATIONs, each but the last filled with `most` octets
-/// (RFC 9113, sections 4.3, 6.2 and 6.10). The stream is from 1 to 2<sup>31</sup> - 1, and the
-/// block has at most 65,552 octets; an empty one is one empty HEADERS. `end` sets END_STREAM: no
-/// more fields or DATA follow on the stream. A peer reads payloads of 16,384 octets, and longer
-/// ones only if its SETTINGS have said so.
+/// (RFC 9113, sections 4.3, 6.2 and 6.10). `most` must be at least 1, the stream from 1 to
+/// 2<sup>31</sup> - 1, and the block must have at most 65,552 octets; an empty block is one empty
+/// HEADERS. `end` sets END_STREAM: no more fields or DATA follow on the stream. A peer reads
+/// payloads of 16,384 octets, and longer ones only if its SETTINGS have said so.
 ///
 /// # Errors
 ///

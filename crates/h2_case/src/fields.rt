@@ -117,7 +117,7 @@ fn append_field(alloc: Global, fields: &mut Vec<Field>, words: &mut Words<'_>, t
     }
 }
 
-/// A field, lent.
+/// A field borrowed from a list.
 pub fn lent(field: &Field) -> FieldRef<'_> {
     FieldRef {
         name: field.name.as_slice(),

@@ -1,6 +1,6 @@
 //! A client of the host: octets on their way, and what it has taken.
 
-use crate::served::{Place, Why};
+use crate::served::{CloseReason, Place};
 use h2_case::words::Words;
 use h2_case_conn::answers::extend;
 use std::alloc::Global;
@@ -11,7 +11,7 @@ pub(crate) enum End {
     /// It is open.
     Open,
     /// It is over, and its transport was closed.
-    Over(Option<Why>),
+    Over(Option<CloseReason>),
     /// Its transport is gone.
     Gone,
 }

@@ -2,7 +2,7 @@
 //! told.
 
 ghost use Rattle.std.specs.Prelude.{◌≡◌, length};
-ghost use Rattle.h2_handlers.specs.Parts.{FitsPart};
+ghost use Rattle.h2_server.specs.Parts.{FitsPart};
 
 use crate::path::{Does, Then, read_path};
 use crate::told::Told;
@@ -10,7 +10,7 @@ use h2_case::fields::read_fields;
 use h2_case::text::Text;
 use h2_case::words::Words;
 use h2_case_conn::answers::begin_line;
-use h2_handlers::{Cause, Field, FieldList, Handler, HandlerFault, Message, Part, Reply};
+use h2_server::{Cause, Field, FieldList, Handler, HandlerFault, Message, Part, Reply};
 use std::alloc::Global;
 
 /// The handler of a connection.
@@ -153,6 +153,7 @@ impl Handler for Paths<'_> {
 fn reply_at_head(alloc: Global, does: Does, end: bool) -> Result<Reply, HandlerFault> {
     match does {
         Does::Early(count) => answer(alloc, 200, count),
+        Does::Refuses(count) => Ok(Reply::Refuse(message(alloc, 413, count)?)),
         Does::Parts(..) => Ok(Reply::Parts(Message::response(alloc, 200)?.head)),
         Does::Fails => Err(HandlerFault::Failed),
         Does::Resets(code) => Ok(Reply::Reset(code)),
@@ -171,12 +172,17 @@ fn reply_later(alloc: Global, does: Does, end: bool) -> Result<Reply, HandlerFau
     }
 }
 
-// A response with this status, whose body has `count` octets that count up.
+// The reply of a whole response: see `message`.
 fn answer(alloc: Global, status: u16, count: usize) -> Result<Reply, HandlerFault> {
+    Ok(Reply::Whole(message(alloc, status, count)?))
+}
+
+// A response with this status, whose body has `count` octets that count up.
+fn message(alloc: Global, status: u16, count: usize) -> Result<Message, HandlerFault> {
     let mut message = Message::response(alloc, status)?;
     message.body.resize(count, 0)?;
     fill(&mut message.body, 0);
-    Ok(Reply::Whole(message))
+    Ok(message)
 }
 
 // Writes octets that count up, of which so many were written before.

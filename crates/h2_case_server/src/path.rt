@@ -1,6 +1,6 @@
 //! What a path says.
 
-use h2_handlers::Code;
+use h2_server::Code;
 
 /// What is done with a request.
 #[derive(Clone, Copy)]
@@ -9,6 +9,8 @@ pub(crate) enum Does {
     Whole(usize),
     /// The same at the head.
     Early(usize),
+    /// The same at the head, with status 413; the rest of the request is not wanted.
+    Refuses(usize),
     /// So many octets in parts, and what follows them.
     Parts(usize, Then),
     /// No response yet.
@@ -65,6 +67,7 @@ fn does_with(name: &str, number: u32) -> Does {
     match name {
         "whole" => Does::Whole(count),
         "early" => Does::Early(count),
+        "refuses" => Does::Refuses(count),
         "parts" => Does::Parts(count, Then::Ends),
         "trailers" => Does::Parts(count, Then::Trailers),
         "stalls" => Does::Parts(count, Then::Stalls),

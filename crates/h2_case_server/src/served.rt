@@ -7,12 +7,12 @@ use crate::handler::{Exchange, Paths};
 use crate::told::Told;
 use h2_case::text::Text;
 use h2_case::words::Words;
-use h2_handlers::{Code, Config, Handler};
 pub(crate) use h2_host::MOST_TAKEN;
 use h2_host::{Answer, Bound, Host, Limits, Own, Party, Reply, Step, Token};
-pub(crate) use h2_seat::Why;
-use h2_seat::{Seat, SeatLimits};
-use h2_times::{Flood, FloodLimits, Late, TimeLimits};
+pub(crate) use h2_server::CloseReason;
+use h2_server::{
+    Code, Config, Connection, ConnectionLimits, Flood, FloodLimits, Handler, TimeLimits, Timeout,
+};
 use std::alloc::Global;
 
 /// The settings and the limits with which connections are opened.
@@ -20,7 +20,7 @@ use std::alloc::Global;
 pub(crate) struct Setup {
     pub(crate) config: Config,
     host: Limits,
-    seat: SeatLimits,
+    limits: ConnectionLimits,
 }
 
 /// The name of a connection of a host.
@@ -50,12 +50,12 @@ struct Guest<'a, P> {
 }
 
 /// A connection with its handler.
-type Connection<'a> = Guest<'a, Seat<Paths<'a>, Exchange>>;
+type Hosted<'a> = Guest<'a, Connection<Paths<'a>>>;
 
 /// A host, whose handlers note what they are told.
 #[derive(Drop)]
 pub(crate) struct Served<'a> {
-    host: Host<Connection<'a>>,
+    host: Host<Hosted<'a>>,
     told: &'a Told,
 }
 
@@ -65,7 +65,7 @@ impl Setup {
         Setup {
             config: Config::default(),
             host: Limits::default(),
-            seat: SeatLimits::default(),
+            limits: ConnectionLimits::default(),
         }
     }
 
@@ -76,15 +76,15 @@ impl Setup {
             "held" => self.host.held = words.number(),
             "held_in_all" => self.host.held_in_all = words.number(),
             "connections" => self.host.connections = words.number(),
-            "closing" => self.seat.closing = words.number(),
-            "least_closing" => self.seat.least_closing = words.number(),
-            _ => set_time_limit(&mut self.seat, name, words),
+            "closing" => self.limits.closing = words.number(),
+            "least_closing" => self.limits.least_closing = words.number(),
+            _ => set_time_limit(&mut self.limits, name, words),
         }
     }
 }
 
 // Sets the limit of times of this name, or another one.
-fn set_time_limit(limits: &mut SeatLimits, name: &str, words: &mut Words<'_>) {
+fn set_time_limit(limits: &mut ConnectionLimits, name: &str, words: &mut Words<'_>) {
     let times: &mut TimeLimits = &mut limits.times;
     match name {
         "opening" => times.opening = words.number(),
@@ -110,9 +110,9 @@ fn set_flood_limit(floods: &mut FloodLimits, name: &str, words: &mut Words<'_>) 
     }
 }
 
-impl<W: Drop, H: Handler<Work = W>> Leaves for Seat<H, W> {
+impl<H: Handler> Leaves for Connection<H> {
     fn leave(&mut self) {
-        Seat::leave(self);
+        Connection::leave(self);
     }
 }
 
@@ -169,7 +169,8 @@ impl<'a> Served<'a> {
             told,
             number,
         };
-        let Ok(party) = Seat::new(alloc, setup.config, setup.seat, self.host.now(), handler) else {
+        let now = self.host.now();
+        let Ok(party) = Connection::new(alloc, setup.config, setup.limits, now, handler) else {
             return None;
         };
         let party = Guest {
@@ -184,7 +185,7 @@ impl<'a> Served<'a> {
     }
 
     // Makes a step other than the opening of a connection; one that is not there is over.
-    fn make(&mut self, step: Step<Connection<'a>>, octets: &[u8]) -> Fate {
+    fn make(&mut self, step: Step<Hosted<'a>>, octets: &[u8]) -> Fate {
         match self.host.step(step, octets) {
             Reply::Own(Answer::Goes) | Reply::NotNow => Fate::Goes,
             _ => Fate::Over,
@@ -240,6 +241,7 @@ impl<'a> Served<'a> {
     /// The transport of a connection is gone.
     pub(crate) fn close(&mut self, place: Place) {
         let token = place.0;
+        let _ = self.step(place, Own::Lost, &[]);
         let _ = self.make(Step::Closed { token }, &[]);
     }
 
@@ -279,20 +281,21 @@ impl<'a> Served<'a> {
     }
 
     /// Why a connection ends, if it does.
-    pub(crate) fn why(&self, place: Place) -> Option<Why> {
+    pub(crate) fn why(&self, place: Place) -> Option<CloseReason> {
         self.host.party(place.0)?.party.why()
     }
 }
 
 /// Adds the line of why a connection ends.
-pub(crate) fn add_why(text: &mut Text, why: Why) {
+pub(crate) fn add_why(text: &mut Text, why: CloseReason) {
     match why {
-        Why::Ended => text.push_line("ended"),
-        Why::Asked => text.push_line("asked"),
-        Why::Late(late) => text.push_line(name_of_late(late)),
-        Why::Flood(flood) => text.push_line(name_of_flood(flood)),
-        Why::Refused(bound) => text.push_line(name_of_bound(bound)),
-        Why::Failed(code) => add_failed(text, code),
+        CloseReason::Ended => text.push_line("ended"),
+        CloseReason::Asked => text.push_line("asked"),
+        CloseReason::Late(late) => text.push_line(name_of_late(late)),
+        CloseReason::Flood(flood) => text.push_line(name_of_flood(flood)),
+        CloseReason::Refused(bound) => text.push_line(name_of_bound(bound)),
+        CloseReason::Lost => text.push_line("lost"),
+        CloseReason::Failed(code) => add_failed(text, code),
     }
 }
 
@@ -303,14 +306,14 @@ fn add_failed(text: &mut Text, code: Code) {
 }
 
 // What took too long.
-fn name_of_late(late: Late) -> &'static str {
+fn name_of_late(late: Timeout) -> &'static str {
     match late {
-        Late::Opening => "opening",
-        Late::Frame => "frame",
-        Late::Body => "body",
-        Late::Writing => "writing",
-        Late::Answering => "answering",
-        Late::Idle => "idle",
+        Timeout::Opening => "opening",
+        Timeout::Frame => "frame",
+        Timeout::Body => "body",
+        Timeout::Writing => "writing",
+        Timeout::Answering => "answering",
+        Timeout::Idle => "idle",
     }
 }
 

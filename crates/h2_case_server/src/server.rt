@@ -35,7 +35,8 @@
 //! A path says what the handler does. Bodies count up.
 //!
 //! - `/whole/N`: status 200 with a body of N octets, once the request is complete; `/early/N`: at
-//!   its head. `/bad`: a response that breaks a rule, at the head.
+//!   its head. `/refuses/N`: at its head the request is refused, with status 413 and such a body.
+//!   `/bad`: a response that breaks a rule, at the head.
 //! - `/parts/N`: the head of a response, and then N octets in parts that are as long as may be;
 //!   `/trailers/N`: then the trailers `x: y`; `/stalls/N`: then nothing; `/fails/N`: then a fault.
 //! - `/later`: no response. `/fails`: a fault at the head. `/resets/CODE`: a reset.

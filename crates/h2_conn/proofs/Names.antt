@@ -4,7 +4,7 @@ pub use Rattle.h2_conn.specs.Conn.{answer_by}
 pub use Rattle.h2_conn.specs.Counts.{CountsFrames}
 pub use Rattle.h2_conn.specs.Events.{happened_value, LocatedEvent}
 pub use Rattle.h2_conn.proofs.PartsFit.{PartsFit}
-pub use Rattle.h2_conn.specs.Inner.{PartsRepresent}
+pub use Rattle.h2_conn.specs.Parts.{PartsRepresent}
 unfoldable pub use Rattle.h2_conn.specs.Why.{rule_of_frame}
 pub use Rattle.h2_conn.specs.Why.{rule_of_octets}
 pub use Rattle.h2_conn.specs.declared.counts.Counts.{Counts}

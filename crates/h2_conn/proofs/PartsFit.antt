@@ -11,7 +11,7 @@ use Rattle.h2_spec_machine.specs.Represents.{Represents}
 use Rattle.h2_conn.specs.declared.counts.Counts.{Counts}
 use Rattle.h2_conn.specs.declared.why.Why.{Why}
 use Rattle.h2_conn.specs.Counts.{CountsFrames}
-use Rattle.h2_conn.specs.Inner.{PartsRepresent}
+use Rattle.h2_conn.specs.Parts.{PartsRepresent}
 use Rattle.h2_conn.specs.Why.{IsWhy}
 
 -- What `PartsRepresent` says, without the reason of a failure.

@@ -13,15 +13,15 @@ use Rattle.h2_core.specs.Endpoint.{end_of}
 use Rattle.h2_conn.specs.declared.conn.Conn.{Conn}
 use Rattle.h2_conn.specs.declared.taken.Taken.{Taken}
 use Rattle.h2_conn.specs.declared.taken.ConnFault.{ConnFault}
-use Rattle.h2_conn.specs.Inner.{PartsRepresent}
+use Rattle.h2_conn.specs.Parts.{PartsRepresent}
 use Rattle.h2_conn.specs.declared.taken.Progress.{Progress}
 use Rattle.h2_conn.specs.Events.{answer_taken, answer_progress, code_result}
 
 -- The connection represents the log of an end with these values of its own settings.
 abbrev pub ConnRepresents : Values → Conn → Log → Type 0
 ConnRepresents values conn log =
-    PartsRepresent values conn.inner.cutter conn.inner.counts conn.inner.why
-    (end_of conn.inner.end) log
+    PartsRepresent values conn.cutter conn.counts conn.why
+    (end_of conn.end) log
 
 -- Whatever log it represents: the answer is one that a call of `take` may give after it, and the
 -- connection represents the log with that call.
@@ -38,7 +38,7 @@ abbrev pub ConnAdvances : Conn → List ℕ → (octets : List ℕ) → Result P
 ConnAdvances old piece octets result new =
     (values : Values) (log : Log) → ConnRepresents values old log
     → (after : Log)
-    × MayTake log piece (answer_progress new.inner.end.list octets (code_result result)) after
+    × MayTake log piece (answer_progress new.end.list octets (code_result result)) after
     × ConnRepresents values new after
 
 -- the answer of a call, by its result
@@ -70,7 +70,7 @@ GivesOut old count given before after =
 
 -- the octets that a connection has queued
 abbrev pub octets_queued : Conn → List ℕ
-octets_queued conn = conn.inner.end.output.waiting
+octets_queued conn = conn.end.output.waiting
 
 -- Octets of the output that waits begin at a place, some at least where some wait there.
 -- rule: calls (own) An end lends its output, and says the place of a fault

@@ -1,7 +1,7 @@
 pub mod Conn
 pub mod Counts
 pub mod Events
-pub mod Inner
+pub mod Parts
 pub mod Loans
 pub mod PeerRoom
 pub mod Seen

@@ -23,8 +23,8 @@ use hpack::Field;
 use std::alloc::Global;
 
 impl Conn {
-    /// Opens a stream by sending a field section on it, and returns the stream's number: 1, 3,
-    /// 5 and so on. `end` sets END_STREAM: this end sends no more fields or DATA on it.
+    /// Opens a stream by sending a field section on it, and returns the stream's number: 1, 3, 5
+    /// and so on. `end` sets END_STREAM: this end sends no more fields or DATA on the stream.
     ///
     /// # Errors
     ///
@@ -37,11 +37,11 @@ impl Conn {
             (answer_by (λ id. Number id) result) self.new }
         ensures octets { AreOctets fields.now }
     {
-        self.inner.end.open(fields, end)
+        self.end.open(fields, end)
     }
 
     /// Sends a field section on an active stream: a response's head, or trailers. `end` sets
-    /// END_STREAM: this end sends no more fields or DATA on it.
+    /// END_STREAM: this end sends no more fields or DATA on the stream.
     ///
     /// # Errors
     ///
@@ -53,7 +53,7 @@ impl Conn {
             (answer_by (λ done. Done) result) self.new }
         ensures octets { AreOctets fields.now }
     {
-        self.inner.end.send_fields(id, fields, end)
+        self.end.send_fields(id, fields, end)
     }
 
     // contract: calls (own) A call that sends nothing takes no memory
@@ -78,7 +78,7 @@ impl Conn {
             → sends_no_data (log_view log) id octets.now end ≡ true
             → result ≢ Err Refusal.Memory }
     {
-        self.inner.end.send_data(id, octets, end)
+        self.end.send_data(id, octets, end)
     }
 
     // contract: calls (own) A call that sends nothing takes no memory
@@ -108,7 +108,7 @@ impl Conn {
             → result ≢ Err Refusal.Memory }
     {
         are_octets(octets.as_slice());
-        self.inner.end.send_shared_data(id, octets, end)
+        self.end.send_shared_data(id, octets, end)
     }
 
     /// Gives `count` octets of flow-control window back to the peer (RFC 9113, section 6.9): by
@@ -125,25 +125,25 @@ impl Conn {
         ensures { ConnAnswers self.old (Release id count) (answer_by (λ done. Done) result)
             self.new }
     {
-        self.inner.end.release(id, count)
+        self.end.release(id, count)
     }
 
     // contract: 6.9.2 (own) The window of the connection is widened by a call, for good
-    /// Lets the peer send `count` octets more on the connection, for good (sections 6.9 and 6.9.2):
-    /// a WINDOW_UPDATE on stream 0 is queued. A connection begins with 65,535 octets, whatever
-    /// [`Config`] says of streams, so a peer can send that much per round trip, and with a wider
-    /// window more.
+    /// Lets the peer send `count` octets more on the connection, for good (sections 6.9 and
+    /// 6.9.2): a WINDOW_UPDATE on stream 0 is queued. The connection's window begins with 65,535
+    /// octets, whatever initial window [`Config`] gives to streams. A peer can send at most one
+    /// window of octets per round trip, so with a wider window it can send more.
     ///
     /// # Errors
     ///
-    /// [`Refusal::Closed`] (C1), [`Refusal::OutputFull`] (C7), [`Refusal::WindowTooLarge`] (C14)
-    /// where `count` is 0, or greater than 2^31 - 1 minus [`Conn::granted`] (all calls together can
-    /// add at most 2,147,418,112), and [`Refusal::Memory`] (C12), in this order. Nothing has
-    /// changed.
+    /// The first that holds of [`Refusal::Closed`] (C1), [`Refusal::OutputFull`] (C7),
+    /// [`Refusal::WindowTooLarge`] (C14: `count` is 0, or greater than 2^31 - 1 minus
+    /// [`Conn::granted`]; all calls together can add at most 2,147,418,112) and
+    /// [`Refusal::Memory`] (C12). A refused call changes nothing.
     pub fn widen(&mut self, count: u32) -> Result<(), Refusal>
         ensures { ConnAnswers self.old (Widen count) (answer_by (λ done. Done) result) self.new }
     {
-        self.inner.end.widen(count)
+        self.end.widen(count)
     }
 
     /// Resets an active stream: sends RST_STREAM with `code` (section 6.4).
@@ -157,17 +157,17 @@ impl Conn {
         ensures { ConnAnswers self.old (ResetStream id code) (answer_by (λ done. Done) result)
             self.new }
     {
-        self.inner.end.reset(id, code)
+        self.end.reset(id, code)
     }
 
     // contract: calls (own) A stream that the layer above refuses is reset
     /// Resets an active stream for a fault of the peer that the layer above has found: sends
-    /// RST_STREAM with `code`. In these cases the call succeeds too, but the connection fails
-    /// instead:
+    /// RST_STREAM with `code`. In these cases the connection fails instead, and the call returns
+    /// `Ok` all the same:
     ///
-    /// - with INTERNAL_ERROR where `code` is INTERNAL_ERROR (2), which says that the layer
-    ///   above is out of memory, and where an allocation was refused ([`Conn::why`] is
-    ///   [`Why::OutOfMemory`]);
+    /// - with INTERNAL_ERROR where `code` is INTERNAL_ERROR (2), by which the layer above says
+    ///   that it is out of memory, or where an allocation was refused here ([`Conn::why`] is
+    ///   [`Why::OutOfMemory`] in both cases);
     /// - with ENHANCE_YOUR_CALM where this end has already reset 1,000 streams, or RST_STREAM
     ///   would bring the queued output above 262,144 octets.
     ///
@@ -178,9 +178,9 @@ impl Conn {
     pub fn refuse(&mut self, id: u32, code: u32) -> Result<(), Refusal>
         ensures { ConnShows self.old (Refuse id code) (answer_by (λ done. Done) result) self.new }
     {
-        self.inner.end.refuse(id, code)?;
-        if let Some(failed) = self.inner.end.failed() {
-            self.inner.why = Some(Why::of_refusal(failed, &self.inner.end));
+        self.end.refuse(id, code)?;
+        if let Some(failed) = self.end.failed() {
+            self.why = Some(Why::of_refusal(failed, &self.end));
         }
         Ok(())
     }
@@ -196,7 +196,7 @@ impl Conn {
         ensures { ConnAnswers self.old (SendPing octets) (answer_by (λ done. Done) result)
             self.new }
     {
-        self.inner.end.ping(octets)
+        self.end.ping(octets)
     }
 
     /// Sends GOAWAY (section 6.8) with NO_ERROR and the number of the last stream that this end
@@ -210,15 +210,15 @@ impl Conn {
     pub fn go_away(&mut self) -> Result<(), Refusal>
         ensures { ConnAnswers self.old SendGoAway (answer_by (λ done. Done) result) self.new }
     {
-        self.inner.end.go_away()
+        self.end.go_away()
     }
 
     // contract: calls (own) The layer above ends the connection with a code of its own
-    /// Ends the connection with an error code of the caller's choice (section 5.4.1). GOAWAY
-    /// with that code, and with the number of the last stream that this end has processed,
-    /// becomes the last frame of the queued output. From then on [`Conn::failed`] returns the
-    /// code, [`Conn::take`] fails with it, and every call but readers and those for output is
-    /// refused with C1. It takes no memory.
+    /// Ends the connection with an error code of the caller's choice (section 5.4.1). GOAWAY with
+    /// that code, and with the number of the last stream that this end has processed, becomes the
+    /// last frame of the queued output. From then on [`Conn::failed`] returns the code,
+    /// [`Conn::take`] and [`Conn::advance`] fail with it, and every other call is refused with C1,
+    /// except the readers and the calls for output. It takes no memory.
     ///
     /// # Errors
     ///
@@ -227,8 +227,8 @@ impl Conn {
     pub fn fail(&mut self, code: Code) -> Result<(), Refusal>
         ensures { ConnAnswers self.old (Fail code) (answer_by (λ done. Done) result) self.new }
     {
-        self.inner.end.fail_on_request(code)?;
-        self.inner.why = Some(Why::EndedAbove(code));
+        self.end.fail_on_request(code)?;
+        self.why = Some(Why::EndedAbove(code));
         Ok(())
     }
 
@@ -249,13 +249,13 @@ impl Conn {
         ensures { ConnAnswers self.old (ChangeSettings (values_of config))
             (answer_by (λ done. Done) result) self.new }
     {
-        self.inner.end.change_settings(config)?;
-        self.inner.limit_payloads();
+        self.end.change_settings(config)?;
+        self.limit_payloads();
         Ok(())
     }
 }
 
-/// Does nothing; its contract tells a proof that the items of a slice are octets.
+/// Does nothing; its contract states for a proof that the items of a slice are octets.
 fn are_octets(octets: &[u8])
     ensures { AllByRecursion IsOctet octets.now }
 {

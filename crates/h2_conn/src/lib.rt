@@ -1,15 +1,16 @@
-//! One end of an HTTP/2 connection over cleartext that does no input or output: octets and
+//! One end of an HTTP/2 connection over cleartext, without input or output of its own: octets and
 //! calls go in, events and octets come out (RFC 9113, sections 3 to 8).
 //!
 //! A log is all that has happened at an end so far. A connection *represents* each log that could
-//! have led to its state. For every such log the contract of each call says which answer it gives,
-//! and that the connection then represents this log with the call appended.
+//! have led to its state. For every such log, the contract of each call that changes the
+//! connection says which answers the call may give, and that the connection then represents this
+//! log with the call and its answer appended.
 #![tactic(auto)]
 
+mod advancing;
 mod calls;
 mod conn;
 mod counts;
-mod inner;
 mod output;
 mod peer;
 mod peer_room;

@@ -27,7 +27,7 @@ impl Conn {
         ensures part { StartsWith (drop at (octets_queued self.now)) result.now }
         ensures some { at < length (octets_queued self.now) → 0 < length result.now }
     {
-        self.inner.end.waiting_from(at)
+        self.end.waiting_from(at)
     }
 
     // rule: calls (own) An end lends its output, and says the place of a fault
@@ -72,14 +72,15 @@ impl Conn {
             → returns_before_put_out (log_view log) ≡ false
             → vec_len out.old + min count (waiting log) ≤ vec_capacity out.old → IsOk result }
     {
-        self.inner.end.put_out(count, out)
+        self.end.put_out(count, out)
     }
 
     // rule: calls (own) Output is given out in order and once
-    /// Makes the queued output ready to be written from where it lies: if credit is due and
-    /// fewer than 65,536 octets are queued, its WINDOW_UPDATE is queued. Then
-    /// [`Conn::waiting_from`] lends what [`Conn::put_out`] would give, and [`Conn::consume`]
-    /// removes what was written. It is [`Conn::consume`] of 0 octets.
+    /// Makes the queued output ready to be written from where it lies: if [`Conn::due`] is not 0
+    /// and fewer than 65,536 octets are queued, a WINDOW_UPDATE that returns the due octets is
+    /// queued. Then [`Conn::waiting_from`] lends what [`Conn::put_out`] would give, and
+    /// [`Conn::consume`] removes what was written. It does what [`Conn::consume`] of 0 octets
+    /// does.
     ///
     /// # Errors
     ///
@@ -94,7 +95,7 @@ impl Conn {
         ensures room { (values : Values) (log : Log) → ConnRepresents values self.old log
             → returns_before_put_out (log_view log) ≡ false → IsOk result }
     {
-        self.inner.end.consume(0)?;
+        self.end.consume(0)?;
         Ok(())
     }
 
@@ -107,14 +108,14 @@ impl Conn {
     ///
     /// # Errors
     ///
-    /// [`Refusal::Memory`] (C12), as in [`Conn::put_out`]; nothing has changed. It does not
-    /// come if only readers were called since [`Conn::ready`].
+    /// [`Refusal::Memory`] (C12), only where a WINDOW_UPDATE has to be queued; nothing has
+    /// changed. It does not come if only readers were called since [`Conn::ready`] returned `Ok`.
     pub fn consume(&mut self, count: usize) -> Result<usize, Refusal>
         ensures answers { ConnAnswers self.old (PutOut count)
             (answer_by (λ given. Count given) result) self.new }
         ensures room { (values : Values) (log : Log) → ConnRepresents values self.old log
             → returns_before_put_out (log_view log) ≡ false → IsOk result }
     {
-        self.inner.end.consume(count)
+        self.end.consume(count)
     }
 }

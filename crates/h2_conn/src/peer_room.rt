@@ -11,13 +11,13 @@ use crate::conn::Conn;
 
 impl Conn {
     /// Returns the receive window, that is, how many octets the peer may still send: the
-    /// connection's where `id` is 0, else an active stream's, which is negative where this end's
-    /// SETTINGS have lowered it so (section 6.9.2). `None` for other streams, and once the
+    /// connection's where `id` is 0, else an active stream's, which may be negative after this
+    /// end's SETTINGS have lowered it (section 6.9.2). `None` for other streams, and once the
     /// connection has failed.
     pub fn peer_room(&self, id: u32) -> Option<i64>
         ensures { (values : Values) (log : Log) → ConnRepresents values self.now log
             → result ≡ reader_peer_room (log_view log) id }
     {
-        self.inner.end.peer_room(id)
+        self.end.peer_room(id)
     }
 }

@@ -35,33 +35,34 @@ impl Conn {
             → result ≤ 262161 }
         ensures queued { result ≡ length (octets_queued self.now) }
     {
-        self.inner.end.waiting()
+        self.end.waiting()
     }
 
     // contract: 10.5 (own) What an end holds of a stream is bounded
-    /// Returns the number of octets taken of a preface or of a frame that is not complete: at most
-    /// 9 plus the greatest payload that this end reads, so 16,393 with the default configuration
-    /// and 1,048,585 with the greatest one. 0 once the connection has failed.
+    /// Returns the number of octets received of a preface or frame that is not complete yet: at
+    /// most 9 plus [`Conn::payload_limit`], so 16,393 with the default configuration, and
+    /// 1,048,585 with the greatest maximum frame size that can be configured. 0 once the
+    /// connection has failed.
     pub fn held(&self) -> usize
         ensures value { (values : Values) (log : Log) → ConnRepresents values self.now log
             → result ≡ reader_held log }
         ensures bound { (values : Values) (log : Log) → ConnRepresents values self.now log
             → result ≤ 1048585 }
     {
-        if self.inner.end.failed().is_some() {
+        if self.end.failed().is_some() {
             return 0;
         }
-        self.inner.cutter.held()
+        self.cutter.held()
     }
 
     /// Returns the send window in octets: the connection's where `id` is 0, else an active
-    /// stream's, which is negative where the peer's SETTINGS have lowered it so (RFC 9113,
+    /// stream's, which may be negative after the peer's SETTINGS have lowered it (RFC 9113,
     /// section 6.9.2). `None` for other streams, and once the connection has failed.
     pub fn room(&self, id: u32) -> Option<i64>
         ensures { (values : Values) (log : Log) → ConnRepresents values self.now log
             → result ≡ reader_room (log_view log) id }
     {
-        self.inner.end.room(id)
+        self.end.room(id)
     }
 
     /// Returns the number of octets of DATA on an active stream, padding included, that were
@@ -70,17 +71,17 @@ impl Conn {
         ensures { (values : Values) (log : Log) → ConnRepresents values self.now log
             → result ≡ reader_owed (log_view log) id }
     {
-        self.inner.end.owed(id)
+        self.end.owed(id)
     }
 
-    /// Returns the number of octets of discarded DATA and of closed streams that are still to
-    /// be returned by WINDOW_UPDATE on stream 0 (section 6.9). 0 once the connection has
-    /// failed.
+    /// Returns the number of octets that are still to be returned by WINDOW_UPDATE on stream 0
+    /// (section 6.9): those of discarded DATA, and those that were owed on streams that have
+    /// closed. 0 once the connection has failed.
     pub fn due(&self) -> u32
         ensures { (values : Values) (log : Log) → ConnRepresents values self.now log
             → result ≡ reader_due (log_view log) }
     {
-        self.inner.end.due()
+        self.end.due()
     }
 
     /// Returns how many octets the peer may send on the connection before this end gives any credit
@@ -89,27 +90,27 @@ impl Conn {
         ensures { (values : Values) (log : Log) → ConnRepresents values self.now log
             → result ≡ reader_granted (log_view log) }
     {
-        self.inner.end.granted()
+        self.end.granted()
     }
 
     /// Returns the largest frame payload, in octets, that this end reads (sections 4.2 and 6.5.3):
-    /// the greatest of the value in force and those sent but not yet acknowledged. Not specified
-    /// once the connection has failed.
+    /// the greater of the value in force and the value sent but not yet acknowledged, if there is
+    /// one. Not specified once the connection has failed.
     pub fn payload_limit(&self) -> u32
         ensures { (values : Values) (log : Log) → ConnRepresents values self.now log
             → log.failed ≡ None → result ≡ payload_limit (acked log) log.sent }
     {
-        self.inner.end.payload_limit()
+        self.end.payload_limit()
     }
 
-    /// Returns the lowest number greater than `above` of an active stream. `None` if there is none,
-    /// and once the connection has failed. It may go over all active streams.
+    /// Returns the lowest number of an active stream that is greater than `above`. `None` if there
+    /// is none, and once the connection has failed. The search may go over all active streams.
     pub fn next_live(&self, above: u32) -> Option<u32>
         ensures number { (values : Values) (log : Log) → ConnRepresents values self.now log
             → result ≡ reader_next_live log above }
         ensures above { IfSome result (λ number. above < number) }
     {
-        self.inner.end.next_live(above)
+        self.end.next_live(above)
     }
 
     /// Returns the code with which the connection has failed, if it has.
@@ -117,7 +118,7 @@ impl Conn {
         ensures { (values : Values) (log : Log) → ConnRepresents values self.now log
             → result ≡ log.failed }
     {
-        let endpoint = &self.inner.end;
+        let endpoint = &self.end;
         endpoint.failed()
     }
 
@@ -133,7 +134,7 @@ impl Conn {
         ensures code { (values : Values) (log : Log) → ConnRepresents values self.now log
             → option_map code_of_why result ≡ log.failed }
     {
-        self.inner.why
+        self.why
     }
 
     // contract: 6.5.3 Settings apply in order: the first fault decides, the last value counts
@@ -146,7 +147,7 @@ impl Conn {
         ensures frame { (values : Values) (log : Log) → ConnRepresents values self.now log
             → log.failed ≡ None → result.max_frame_size ≡ value_read 5 16384 log.received }
     {
-        let settings = self.inner.end.peer_settings();
+        let settings = self.end.peer_settings();
         PeerSettings {
             initial_window_size: settings.initial_window_size,
             max_frame_size: settings.max_frame_size,
@@ -159,7 +160,7 @@ impl Conn {
         ensures { (values : Values) (log : Log) → ConnRepresents values self.now log
             → result ≡ active log id }
     {
-        self.inner.end.is_active(id)
+        self.end.is_active(id)
     }
 
     /// Returns the number of the stream that a client opens next: 1, 3, 5 and so on (section
@@ -169,10 +170,10 @@ impl Conn {
         ensures { (values : Values) (log : Log) → ConnRepresents values self.now log
             → result ≡ reader_next_number log }
     {
-        if self.inner.end.failed().is_some() || self.inner.end.role() == Role::Server {
+        if self.end.failed().is_some() || self.end.role() == Role::Server {
             return None;
         }
-        Some(self.inner.end.next_number())
+        Some(self.end.next_number())
     }
 
     /// Returns why [`Conn::open`] would refuse these fields now: the first that holds of
@@ -185,95 +186,98 @@ impl Conn {
             → (end : Bool) → result ≡ refusal_of (log_view log) (Open fields.now end) }
         ensures octets { AreOctets fields.now }
     {
-        self.inner.end.refusal_to_open(fields)
+        self.end.refusal_to_open(fields)
     }
 
     // contract: 6.1 The complete payload of DATA, padding included, counts for windows
     /// Returns the number of octets of the last DATA frame's payload, padding included (section
-    /// 6.1), whether the frame was reported, was ignored, or ended the connection. A frame whose
-    /// head or payload is at fault, or for which memory was refused, does not count. 0 before any.
-    /// After [`Event::Data`](crate::Event::Data) it is the event's `flow`: if it is not 0 and the
-    /// stream is still active, release it ([`Conn::release`]) once the octets are used. It works
-    /// after a failure too.
+    /// 6.1), whether the frame was reported, was ignored, or made the connection fail. A frame
+    /// whose header or padding is at fault (a wrong length, stream 0, too much padding), or for
+    /// which memory was refused, does not count. 0 before any. After
+    /// [`Event::Data`](crate::Event::Data) it is the event's `flow`: if it is not 0 and the stream
+    /// is still active, release it ([`Conn::release`]) once the octets are used. It works after a
+    /// failure too.
     pub fn last_flow(&self) -> u32
         ensures { (values : Values) (log : Log) → ConnRepresents values self.now log
             → result ≡ last_flow log.frames }
     {
-        self.inner.counts.flow
+        self.counts.flow
     }
 
     // contract: 10.5 (own) Frames that cost a peer little are counted
-    /// Returns the number of RST_STREAM frames received (section 6.4), up to
-    /// 2<sup>32</sup> - 1, without those whose head or payload is at fault, or for which
-    /// memory was refused. This end sets no
-    /// limit on them: a layer above may end the connection ([`Conn::fail`]) where the peer
-    /// opens streams and resets them at once (section 10.5). It works after a failure too.
+    /// Returns the number of RST_STREAM frames received (section 6.4), up to 2<sup>32</sup> - 1.
+    /// One whose header is at fault (a wrong length, stream 0), or for which memory was refused,
+    /// is not counted. This end sets no limit on RST_STREAM frames: a layer above may end the
+    /// connection ([`Conn::fail`]) where the peer opens streams and resets them at once (section
+    /// 10.5). It works after a failure too.
     pub fn resets_received(&self) -> u32
         ensures { (values : Values) (log : Log) → ConnRepresents values self.now log
             → result ≡ counted (resets_among log.frames) }
     {
-        self.inner.counts.resets
+        self.counts.resets
     }
 
     // contract: 10.5 (own) Frames that cost a peer little are counted
-    /// Returns the number of empty frames received (section 10.5), up to 2<sup>32</sup> - 1:
-    /// DATA without data and without END_STREAM, padded or not, and HEADERS and CONTINUATION
-    /// with an empty fragment and without END_HEADERS. PRIORITY, and frames of unknown types,
-    /// are not among them; nor are frames whose head or payload is at fault, or for which memory
-    /// was refused. It works after a failure too.
+    /// Returns the number of empty frames received (section 10.5), up to 2<sup>32</sup> - 1: DATA
+    /// without data and without END_STREAM, padded or not, and HEADERS and CONTINUATION with an
+    /// empty fragment and without END_HEADERS. PRIORITY, and frames of unknown types, are not
+    /// among them; nor are frames whose header or padding is at fault, or for which memory was
+    /// refused. It works after a failure too.
     pub fn empty_frames_received(&self) -> u32
         ensures { (values : Values) (log : Log) → ConnRepresents values self.now log
             → result ≡ counted (empty_among log.frames) }
     {
-        self.inner.counts.empty
+        self.counts.empty
     }
 
     // contract: 10.5 (own) Frames that cost a peer little are counted
     /// Returns the number of PING frames without ACK that were received (section 6.7), at most
-    /// 2<sup>32</sup> - 1. Each costs this end an answer. The queued answers are limited, to
-    /// 262,144 octets with all other output, but the PINGs of a peer that reads the answers are not
-    /// limited (section 10.5). A PING whose head or payload is at fault, or for which memory was
-    /// refused, is not counted. It works after a failure too.
+    /// 2<sup>32</sup> - 1. Each costs this end an answer. All queued output, answers included, is
+    /// limited to 262,144 octets, but the PINGs of a peer that reads the answers are not limited
+    /// (section 10.5). A PING whose header is at fault, or for which memory was refused, is not
+    /// counted. It works after a failure too.
     pub fn pings_received(&self) -> u32
         ensures { (values : Values) (log : Log) → ConnRepresents values self.now log
             → result ≡ counted (pings_among log.frames) }
     {
-        self.inner.counts.pings
+        self.counts.pings
     }
 
     // contract: 10.5 (own) Frames that cost a peer little are counted
     /// Returns the number of SETTINGS frames received without ACK (section 6.5), up to
-    /// 2<sup>32</sup> - 1; the first counts. One whose head or payload is at fault, or for which
-    /// memory was refused, does not. It works after a failure too.
+    /// 2<sup>32</sup> - 1; the first counts. One whose header is at fault, or for which memory was
+    /// refused, is not counted; one with a value that is not allowed is counted. It works after a
+    /// failure too.
     pub fn settings_received(&self) -> u32
         ensures { (values : Values) (log : Log) → ConnRepresents values self.now log
             → result ≡ counted (settings_among log.frames) }
     {
-        self.inner.counts.settings
+        self.counts.settings
     }
 
     // contract: 4.3 (own) A gatherer says what it holds of a block, and if it is inside one
-    /// Returns the stream of the field block that has begun and is not complete (section 4.3):
-    /// HEADERS without END_HEADERS was received, and the CONTINUATION with END_HEADERS was not.
-    /// Until then the peer may send nothing else, so a layer with a clock may limit how long
-    /// that lasts. `None` where no block has begun, and once the connection has failed.
+    /// Returns the number of the stream whose field block has begun and is not complete (section
+    /// 4.3): HEADERS without END_HEADERS was received, and the CONTINUATION with END_HEADERS was
+    /// not. Until the block is complete the peer may send only CONTINUATION on that stream, so a
+    /// layer with a clock may limit how long that lasts. `None` where no block has begun, and once
+    /// the connection has failed.
     pub fn block_stream(&self) -> Option<u32>
         ensures { (values : Values) (log : Log) → ConnRepresents values self.now log
             → result ≡ reader_block_stream log }
     {
-        if self.inner.end.failed().is_some() {
+        if self.end.failed().is_some() {
             return None;
         }
-        self.inner.end.block_stream()
+        self.end.block_stream()
     }
 
     // rule: calls (own) An end lends its output, and says the place of a fault
     /// Returns the number of octets of input that were used, up to 2<sup>64</sup> - 1. After a
-    /// fault of the peer the last of them is the octet that made it.
+    /// fault of the peer, the last of them is the octet that made the fault.
     pub fn place(&self) -> u64
         ensures { (values : Values) (log : Log) → ConnRepresents values self.now log
             → result ≡ saturated (length log.input) }
     {
-        self.inner.cutter.place()
+        self.cutter.place()
     }
 }

@@ -12,12 +12,12 @@ use thiserror::Error;
 #[derive(Clone, Copy, Debug)]
 pub struct Taken<'a> {
     /// The number of octets of the piece that were used: none if a stream is reported as
-    /// unprocessed, otherwise up to the end of one frame, or else all
-    /// of them.
+    /// unprocessed; otherwise those up to the end of one frame or, if no frame ends in the piece,
+    /// all of them.
     pub used: usize,
     /// The event, if there is one. Its fields are lent from the connection until the next call;
-    /// the octets of a body are lent from the piece, or from the connection where their frame
-    /// was cut in two.
+    /// the octets of a body are lent from the piece, or from the connection where their frame came
+    /// in more than one piece.
     pub event: Option<Event<&'a FieldList, &'a [u8]>>,
 }
 
@@ -25,18 +25,18 @@ pub struct Taken<'a> {
 #[derive(Clone, Copy, Debug)]
 pub struct Progress {
     /// The number of octets of the piece that were used: none if a stream is reported as
-    /// unprocessed, otherwise up to the end of one frame, or else all
-    /// of them.
+    /// unprocessed; otherwise those up to the end of one frame or, if no frame ends in the piece,
+    /// all of them.
     pub used: usize,
-    /// The event, if there is one. It has no fields, which [`Conn::list`](crate::Conn::list)
-    /// lends, and says where the octets of a body lie, which
-    /// [`Conn::octets`](crate::Conn::octets) lends.
+    /// The event, if there is one, without its fields and octets.
+    /// [`Conn::list`](crate::Conn::list) lends the fields. The event says where the octets of a
+    /// body lie, and [`Conn::octets`](crate::Conn::octets) lends them from there.
     pub happened: Option<Event<(), Complete>>,
 }
 
-/// The code with which the connection has failed; GOAWAY with it is the last frame of the
-/// output (RFC 9113, section 5.4.1). INTERNAL_ERROR means out of memory, unless the caller gave
-/// it ([`Conn::fail`](crate::Conn::fail)).
+/// The code with which the connection has failed; GOAWAY with this code is the last frame of the
+/// output (RFC 9113, section 5.4.1). INTERNAL_ERROR means out of memory, unless the caller gave it
+/// ([`Conn::fail`](crate::Conn::fail)).
 #[derive(Clone, Copy, Debug, PartialEq, Eq, Hash, Error)]
 #[error("the connection has failed: {code}")]
 pub struct ConnFault {

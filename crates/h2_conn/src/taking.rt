@@ -1,10 +1,11 @@
-//! Takes octets without lending. The prover accepts no body that lends from the cutter while
-//! the end is changed; so the result says where a body lies, and it is lent from there later.
+//! Takes octets without lending. The prover accepts no function that lends from the cutter while
+//! it changes the end. So the result says where the octets of a body lie, and they are lent from
+//! there later.
 
 ghost use Rattle.std.specs.Prelude.{◌≡◌, ℕ, ◌≤◌, List, None, IfOk, length};
 ghost use Rattle.h2_spec_machine.specs.Machine.{unprocessed_of_end};
 ghost use Rattle.h2_core.specs.Endpoint.{end_of, IsSoundEnd};
-ghost use Rattle.h2_conn.specs.Inner.{PartsTake};
+ghost use Rattle.h2_conn.specs.Parts.{PartsTake};
 ghost use Rattle.h2_conn.specs.Loans.{LiesThere, IsBodyOf};
 
 use crate::counts::Counts;

@@ -31,8 +31,9 @@ pub enum Why {
     /// the connection on another stream (sections 6.1 to 6.10): PROTOCOL_ERROR.
     #[error("a frame on a stream that its type does not allow (PROTOCOL_ERROR)")]
     WrongStream,
-    /// The length of a frame is not one that its type and flags allow (sections 6.1 to 6.10;
-    /// own: PRIORITY too, where section 6.3 has a stream error): FRAME_SIZE_ERROR.
+    /// The length of a frame is not one that its type and flags allow (sections 6.1 to 6.10; own:
+    /// a connection error for PRIORITY too, where section 6.3 has a stream error):
+    /// FRAME_SIZE_ERROR.
     #[error("a frame of a length that its type and flags do not allow (FRAME_SIZE_ERROR)")]
     WrongLength,
     /// The padding of DATA is as long as its payload, or longer (section 6.1), or that of
@@ -66,8 +67,8 @@ pub enum Why {
     #[error("DATA on a closed stream (STREAM_CLOSED)")]
     DataOnClosedStream,
     /// A field block came on a closed stream that this end has closed neither by RST_STREAM nor by
-    /// GOAWAY (section 5.1; own), or on a number that the peer has skipped (section 5.1.1):
-    /// PROTOCOL_ERROR.
+    /// GOAWAY (section 5.1; own), or on a stream whose number the peer has skipped (section
+    /// 5.1.1): PROTOCOL_ERROR.
     #[error("HEADERS on a closed stream (PROTOCOL_ERROR)")]
     BlockOnClosedStream,
     /// A field block came on an idle stream that the peer may not open: any at a client, an

@@ -1,5 +1,5 @@
 //! Why a frame fails a connection: the rule that it breaks, by the state of the end before the
-//! frame and the code with which it failed.
+//! frame and the code with which the end failed.
 
 ghost use Rattle.std.specs.Prelude.{◌≡◌, ℕ, Bool, pos, length};
 ghost use Rattle.h2_frame.specs.Frames.{Data as DataFrame, frame_of};
@@ -100,7 +100,7 @@ impl Before {
     }
 }
 
-/// The rule broken by a frame that keeps those of field blocks, by the code.
+/// The rule broken by a frame that breaks no rule of field blocks, by the code.
 fn rule_by_code(frame: FrameRef, code: Code, end: &Endpoint) -> Why
     ensures { (view : View) → SeesAfter view (end_of end.now)
         → result ≡ rule_by_code view (frame_of frame.entry) code }

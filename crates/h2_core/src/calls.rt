@@ -45,7 +45,7 @@ impl Endpoint {
     // contract: 10.5 (own) An own list above 65,536 octets is refused
     // contract: calls (own) A call does what it says, or is refused for its first condition
     /// Opens a stream by sending a field section on it, and returns the stream's number: 1, 3,
-    /// 5 and so on. `end` sets END_STREAM: this end sends no more fields or DATA on it.
+    /// 5 and so on. `end` sets END_STREAM: this end sends no more fields or DATA on the stream.
     ///
     /// # Errors
     ///
@@ -99,7 +99,7 @@ impl Endpoint {
     // rule: 10.5 (own) An own list above 65,536 octets is refused
     // contract: calls (own) A call does what it says, or is refused for its first condition
     /// Sends a field section on an active stream: a response's head, or trailers. `end` sets
-    /// END_STREAM: this end sends no more fields or DATA on it.
+    /// END_STREAM: this end sends no more fields or DATA on the stream.
     ///
     /// # Errors
     ///

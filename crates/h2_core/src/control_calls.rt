@@ -97,11 +97,11 @@ impl Endpoint {
     // contract: calls (own) A stream that the layer above refuses is reset
     // rule: calls (own) A stream that the layer above refuses is reset
     /// Resets an active stream for a fault of the peer that the layer above has found: sends
-    /// RST_STREAM with `code`. In these cases the call succeeds too, but the connection fails
-    /// instead:
+    /// RST_STREAM with `code`. In these cases the connection fails instead, and the call returns
+    /// `Ok` all the same:
     ///
-    /// - with INTERNAL_ERROR where `code` is INTERNAL_ERROR (2), which says that the layer
-    ///   above is out of memory, and where an allocation was refused;
+    /// - with INTERNAL_ERROR where `code` is INTERNAL_ERROR (2), by which the layer above says
+    ///   that it is out of memory, or where an allocation was refused here;
     /// - with ENHANCE_YOUR_CALM where this end has already reset 1,000 streams, or RST_STREAM
     ///   would bring the queued output above 262,144 octets.
     ///

@@ -10,7 +10,7 @@ impl Endpoint {
     // contract: calls (own) An end answers of its state, and of little once it has failed
     // rule: calls (own) An end answers of its state, and of little once it has failed
     /// Returns the receive window in octets: the connection's where `id` is 0, else an active
-    /// stream's, which is negative where this end's SETTINGS have lowered it so. `None` for
+    /// stream's, which may be negative after this end's SETTINGS have lowered it. `None` for
     /// other streams, and once the connection has failed. It takes no memory.
     pub fn peer_room(&self, id: u32) -> Option<i64>
         ensures { result ≡ peer_room_of (end_of self.now) id }

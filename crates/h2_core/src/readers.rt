@@ -122,7 +122,7 @@ impl Endpoint {
     // contract: calls (own) An end answers of its state, and of little once it has failed
     // rule: calls (own) An end answers of its state, and of little once it has failed
     /// Returns the send window in octets: the connection's where `id` is 0, else an active
-    /// stream's, which is negative where the peer's SETTINGS have lowered it so. `None` for
+    /// stream's, which may be negative after the peer's SETTINGS have lowered it. `None` for
     /// other streams, and once the connection has failed. It takes no memory.
     pub fn room(&self, id: u32) -> Option<i64>
         ensures { result ≡ room_of (end_of self.now) id }

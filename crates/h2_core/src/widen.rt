@@ -20,7 +20,7 @@ impl Endpoint {
     ///
     /// [`Refusal::Closed`] (C1), [`Refusal::OutputFull`] (C7), [`Refusal::WindowTooLarge`] (C14)
     /// where `count` is 0, or would make the window larger than 2^31 - 1 octets, and
-    /// [`Refusal::Memory`] (C12), in this order. Nothing has changed.
+    /// [`Refusal::Memory`] (C12), in this order. A refused call changes nothing.
     pub fn widen(&mut self, count: u32) -> Result<(), Refusal>
         requires sound { self.old.failed ≡ None → IsSoundEnd (end_of self.old) }
         ensures ok { OnOk result (CallAccepted (end_of self.old) (Widen count)

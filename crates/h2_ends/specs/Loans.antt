@@ -41,7 +41,7 @@ answer_of_taken (Err fault) = EndFailed fault.code
 -- The octets of a body that is handed out lie in the connection or the piece.
 unfoldable pub BodyLiesIn : End → List ℕ → Option LocatedPart → Type 0
 BodyLiesIn end piece (Some (events.Body id frame ends)) =
-    IsSome (body_at end.conn.inner.cutter piece frame)
+    IsSome (body_at end.conn.cutter piece frame)
 BodyLiesIn end piece _ = Unit {0}
 
 unfoldable pub BodyLiesThere : End → List ℕ → Result EndProgress ConnFault → Type 0
@@ -51,7 +51,7 @@ BodyLiesThere end piece (Err fault) = Unit {0}
 -- The octets of a body that is handed out are those that lie there.
 unfoldable pub IsBodyIn : End → List ℕ → List ℕ → Option LocatedPart → Type 0
 IsBodyIn end piece octets (Some (events.Body id frame ends)) =
-    body_at end.conn.inner.cutter piece frame ≡ Some octets
+    body_at end.conn.cutter piece frame ≡ Some octets
 IsBodyIn end piece octets _ = Unit {0}
 
 unfoldable pub IsBodyHanded : End → List ℕ → List ℕ → Result EndProgress ConnFault → Type 0

@@ -224,7 +224,7 @@ abbrev pub EndAdvances : End → List ℕ → (octets : List ℕ) → Result End
 EndAdvances old piece octets result new =
     (values : Values) (end : EndLog) → EndRepresents values old end
     → (after : EndLog)
-    × EndMayTake end piece (answer_handed new.conn.inner.end.list octets result) after
+    × EndMayTake end piece (answer_handed new.conn.end.list octets result) after
     × EndRepresents values new after
 
 -- The same once it is lent.

@@ -154,13 +154,13 @@ answer_of_report list octets count (Err fault) = EndFailed fault.code
 -- The octets of a body that is reported lie in the connection or the piece.
 abbrev pub LiesHere : End → List ℕ → LocatedEvent → Type 0
 LiesHere end piece happened =
-    IfSome (frame_in (Some happened)) (λ frame. IsSome (body_at end.conn.inner.cutter piece frame))
+    IfSome (frame_in (Some happened)) (λ frame. IsSome (body_at end.conn.cutter piece frame))
 
 -- The octets of a body that is reported are those that lie there.
 abbrev pub IsBodyHere : End → List ℕ → List ℕ → LocatedEvent → Type 0
 IsBodyHere end piece octets happened =
     IfSome (frame_in (Some happened))
-    (λ frame. body_at end.conn.inner.cutter piece frame ≡ Some octets)
+    (λ frame. body_at end.conn.cutter piece frame ≡ Some octets)
 
 -- Of what is reported, with the octets of its body, the end makes an answer of `take`.
 abbrev pub EndHands : End → List ℕ → LocatedEvent → (octets : List ℕ)
@@ -170,7 +170,7 @@ EndHands old piece happened octets result new =
     (body : List ℕ) × IsBodyHere old piece body happened
     × ((values : Values) (end : EndLog) (count : ℕ) (log : Log)
     → HasReported values old end piece count
-    (happened_value old.conn.inner.end.list body happened) log
+    (happened_value old.conn.end.list body happened) log
     → (after : EndLog)
-    × EndMayTake end piece (answer_of_report new.conn.inner.end.list octets count result) after
+    × EndMayTake end piece (answer_of_report new.conn.end.list octets count result) after
     × EndRepresents values new after)

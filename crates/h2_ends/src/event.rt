@@ -6,8 +6,8 @@ ghost use Rattle.h2_ends.specs.EndEvents.{end_event_with_parts};
 use hpack::FieldList;
 
 /// An event of an end: a part of a message (RFC 9113, section 8.1), or an event of its connection.
-/// `F` holds the fields of a part and `B` the octets of a body: lent, copied, or (octets) as the
-/// place in the input where they lie; `()` where the end keeps them.
+/// `F` holds the fields of a part and `B` the octets of a body: as a loan, a copy or a place, or
+/// as `()` where the end keeps them.
 #[derive(Clone, Copy, Debug, PartialEq, Eq)]
 pub enum EndEvent<F, B> {
     /// The head of an interim response has come (1xx; RFC 9113, section 8.1).
@@ -50,9 +50,9 @@ pub enum EndEvent<F, B> {
         id: u32,
         /// The error code (section 7).
         code: u32,
-        /// Whether this end closed it: for a fault of the peer, such as a malformed message,
-        /// because a field list was too large, or because this end takes no more streams. No
-        /// RST_STREAM is sent where the peer had closed the stream.
+        /// Whether this end reset the stream: for a fault of the peer (such as a malformed
+        /// message), because a field list was too large, or because this end takes no more
+        /// streams. No RST_STREAM is sent where the part that is refused has closed the stream.
         ours: bool,
     },
     /// The peer has not processed this request and will not (section 6.8): it may be sent

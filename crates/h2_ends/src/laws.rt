@@ -18,8 +18,8 @@ ghost use Rattle.h2_ends.specs.Turns.{Meanwhile, Pass, turn_after};
 
 // contract: 8.1 (own) What has come of a message that breaks no rule can be read
 /// If a message breaks no rule as it is sent (or, where it is sent in parts, has broken none so
-/// far), every beginning of it that was received can be read. Its body may come in any number of
-/// DATA frames, as long as none is empty without END_STREAM (RFC 9113, section 8.1).
+/// far), every prefix of it that was received can be read. Its body may come in any number of DATA
+/// frames, as long as none is empty without END_STREAM (RFC 9113, section 8.1).
 pub fn sent_parts_are_readable()
     ensures { (reads : Reads) (said : Said) (parts : List (Part × Bool)) → IsSoundSaid reads said
         → AllByRecursion IsNoEmptyPart parts
@@ -28,8 +28,8 @@ pub fn sent_parts_are_readable()
 {}
 
 // contract: 8.1 (own) A part of a message is sent where one was begun, and is checked
-/// Of an open message that was begun, all that was accepted was written to the output: nothing
-/// of it waits for `pump` (RFC 9113, section 8.1).
+/// If a message was begun and has not ended, all that was accepted of it was written to the
+/// output: nothing of it waits for `pump` (RFC 9113, section 8.1).
 pub fn parts_are_sent_at_once()
     ensures { (values : Values) (end : End) (happened : EndLog) (id : ℕ) (said : Said)
         (number : Option ℕ) → EndRepresents values end happened

@@ -1,5 +1,4 @@
-//! A client and a server of HTTP/2 over cleartext, without input and output (RFC 9113, section
-//! 8).
+//! A client and a server of HTTP/2 over cleartext, without input or output (RFC 9113, section 8).
 //!
 //! [`Client::request`] and [`Server::respond`] take a complete message, and its body is sent as
 //! windows allow. [`Client::begin`] and [`Server::begin`] send a head alone; `send_body` and
@@ -19,7 +18,7 @@
 #![tactic(auto)]
 
 mod body;
-mod client;
+mod calls;
 mod control;
 mod end;
 mod event;
@@ -31,12 +30,11 @@ mod passing;
 mod quiet;
 mod readers;
 mod refusal;
+mod roles;
 mod sending;
-mod server;
 mod span;
 mod taking;
 
-pub use client::Client;
 pub use event::{EndEvent, EndTaken};
 pub use h2_conn::{BadConfig, Config, Conn, ConnFault, Refusal, Why};
 pub use h2_frame::Code;
@@ -46,4 +44,4 @@ pub use h2_message::{
 };
 pub use laws::{parts_are_sent_at_once, sent_parts_are_readable, shares_are_given_in_turn};
 pub use refusal::EndRefusal;
-pub use server::Server;
+pub use roles::{Client, ClientRole, EndAs, Server, ServerRole};

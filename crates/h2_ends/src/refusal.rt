@@ -7,8 +7,8 @@ use h2_spec_log::Refusal;
 use thiserror::Error;
 
 /// Why a call was refused. [`EndRefusal::NotAsked`] (E3) is checked first, then
-/// [`EndRefusal::Answered`] (E4), [`EndRefusal::BadMessage`] (E1) and [`EndRefusal::Conn`]
-/// (E2). Nothing has changed, unless the call says otherwise.
+/// [`EndRefusal::Answered`] (E4), [`EndRefusal::BadMessage`] (E1) and [`EndRefusal::Conn`] (E2). A
+/// refused call has changed nothing, unless its documentation says otherwise.
 #[derive(Clone, Copy, Debug, PartialEq, Eq, Hash, Error)]
 pub enum EndRefusal {
     /// E1: the message is malformed; the value is the first rule that it breaks.
@@ -17,9 +17,9 @@ pub enum EndRefusal {
     /// E2: the connection refuses the call; the value is why.
     #[error("E2 Conn: {0}")]
     Conn(Refusal),
-    /// E3: the stream isn't active; or, of `respond` and `begin` of a server, no request on it
-    /// was handed out; or, of `send_body` and `send_trailers`, no message was begun on it or
-    /// its end was given.
+    /// E3: the stream isn't active; or, for a server's `respond` and `begin`, no request on it was
+    /// handed out; or, for `send_body` and `send_trailers`, no message was begun on it, or the
+    /// message has ended.
     #[error("E3 NotAsked: the stream has no request to answer, or no open message")]
     NotAsked,
     /// E4: the stream has its response, or one was begun.

@@ -131,8 +131,8 @@ impl End {
         ensures conn { self.new.conn ≡ self.old.conn }
         ensures reads { (values : Values) (happened : EndLog)
             → IsReadOn values self.old happened id
-            (FieldsPart self.old.conn.inner.end.list, end)
-            → ReadsFields values happened id self.old.conn.inner.end.list end result self.new }
+            (FieldsPart self.old.conn.end.list, end)
+            → ReadsFields values happened id self.old.conn.end.list end result self.new }
     {
         let Some(stream) = self.streams.get_mut(id) else {
             return self.read_first(id, end);
@@ -154,8 +154,8 @@ impl End {
         ensures conn { self.new.conn ≡ self.old.conn }
         ensures reads { (values : Values) (happened : EndLog)
             → IsReadOn values self.old happened id
-            (FieldsPart self.old.conn.inner.end.list, end)
-            → ReadsFields values happened id self.old.conn.inner.end.list end result self.new }
+            (FieldsPart self.old.conn.end.list, end)
+            → ReadsFields values happened id self.old.conn.end.list end result self.new }
     {
         let mut reading = Reading::new(self.first_reads());
         let Some(place) = reading.fields(self.conn.list(), end) else {

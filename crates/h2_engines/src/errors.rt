@@ -36,10 +36,10 @@ pub(crate) fn unless_failed<T>(answer: Result<T, ConnFault>) -> Result<T, LinkEr
 
 // rule: engines (own) N2 has the code with which the connection failed; memory is N3
 // rule: engines (own) N5 comes only where a write has taken nothing
-/// Returns how it ends once a call was refused: [`Refusal::Memory`] (C12) becomes
+/// Returns how a connection ends once a call was refused: [`Refusal::Memory`] (C12) becomes
 /// [`LinkError::Memory`] (N3), any other refusal [`LinkError::NoProgress`] (N5). Over a link no
-/// other is expected. Without a link [`Refusal::OutputFull`] (C7) comes where so much output
-/// waits that a request can't be answered.
+/// other is expected. Without a link [`Refusal::OutputFull`] (C7) comes where so much output waits
+/// that a request can't be answered or a stream can't be reset.
 pub(crate) fn error_of_refusal(refusal: EndRefusal) -> LinkError
     ensures error { result ≡ error_after refusal }
     ensures kind { IsOfCall result }

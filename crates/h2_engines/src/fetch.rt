@@ -21,12 +21,12 @@ use std::alloc::Global;
 // contract: engines (own) N6 has the code with which the request's stream was reset
 // contract: engines (own) N7 comes only where the message breaks a rule or is too large
 /// Makes a request over a new connection, and returns the complete response as soon as it has
-/// come, even if a part of the request is still unsent. Octets read after the response are not
-/// taken.
+/// come, even if a part of the request is still unsent. It discards octets that it has read beyond
+/// the end of the response.
 ///
-/// If the call returns [`LinkError::CutOff`] (N4), the client has returned all credit for DATA that
-/// it discarded and for streams that are over. If it has also read octets from the server, nothing
-/// is owed on any stream, and only the windows hold back what still waits of the request.
+/// If the call returns [`LinkError::CutOff`] (N4), the client has returned all credit for DATA
+/// that it discarded and for closed streams. If it has also read octets from the server, no credit
+/// is owed on any stream, and only the windows hold back what is unsent of the request.
 ///
 /// # Errors
 ///
@@ -34,13 +34,13 @@ use std::alloc::Global;
 /// - [`LinkError::Stream`] (N2) where the connection failed, once its GOAWAY was written.
 /// - [`LinkError::Memory`] (N3) where an allocation was refused.
 /// - [`LinkError::CutOff`] (N4) where the input ended before the response was complete.
-/// - [`LinkError::NoProgress`] (N5) where a write took nothing; also, though neither is expected,
-///   after 2^64 - 1 rounds, or where the client refuses the request for a reason that is neither N3
-///   nor N7 here.
+/// - [`LinkError::NoProgress`] (N5) where a write took nothing. Two more causes are not expected:
+///   2^64 - 1 rounds of a loop, and a refusal of the request for a reason other than those of N3
+///   and N7.
 /// - [`LinkError::Reset`] (N6) where either end reset the stream, or the server did not process
 ///   the request.
 /// - [`LinkError::Refused`] (N7) where the message breaks a rule, or its head or its trailers
-///   are larger than 65,536 octets.
+///   are larger than 65,536 octets, with 32 counted for each field.
 pub fn fetch_link<L: Link>(
     alloc: Global,
     link: &mut L,
@@ -60,8 +60,8 @@ pub fn fetch_link<L: Link>(
 
 // contract: engines (own) Over a link it is said why the connection has failed
 // rule: engines (own) Over a link it is said why the connection has failed
-/// Does what [`fetch_link`] does, and sets `why` to the reason for which the connection has
-/// failed, if it has: the rule that the server has broken, or what else has ended it.
+/// Does what [`fetch_link`] does, and sets `why` to the reason why the connection has failed (the
+/// rule that the server has broken, or what else has ended it), or to `None` if it has not failed.
 ///
 /// # Errors
 ///

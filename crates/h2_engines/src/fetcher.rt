@@ -43,8 +43,8 @@ pub(crate) struct Coming {
     pub(crate) trailers: Option<Vec<Field>>,
 }
 
-/// A client that makes one request and keeps what comes of the response, without input or
-/// output.
+/// A client that makes one request and keeps the parts of the response that have come. It does no
+/// input or output.
 #[derive(Drop)]
 pub struct Fetcher {
     pub(crate) alloc: Global,
@@ -58,8 +58,8 @@ pub struct Fetcher {
 
 impl Coming {
     // rule: engines (own) A response that is fetched is the message handed out, whole
-    /// Keeps a part of the response on a stream, and returns whether that is complete. Memory
-    /// is refused only for a part of a message.
+    /// Keeps a part of the response on a stream, and returns whether the response is complete.
+    /// Memory is refused only for a part of a message.
     fn note(
         &mut self,
         alloc: Global,
@@ -103,8 +103,10 @@ impl Fetcher {
     /// # Errors
     ///
     /// - [`LinkError::Memory`] (N3) where an allocation was refused.
+    /// - [`LinkError::NoProgress`] (N5) where the client refuses the request for a reason other
+    ///   than those of N3 and N7, which is not expected.
     /// - [`LinkError::Refused`] (N7) where the message breaks a rule, or its head or its
-    ///   trailers are larger than 65,536 octets.
+    ///   trailers are larger than 65,536 octets, with 32 counted for each field.
     pub fn new(alloc: Global, config: Config, message: Message) -> Result<Fetcher, LinkError>
         ensures ok { IfOk result (λ fetcher. HasRequested (values_of config)
             (message_value message) fetcher) }
@@ -173,9 +175,9 @@ impl Fetcher {
     ///
     /// # Errors
     ///
-    /// - [`LinkError::Stream`] (N2) where the connection failed; its GOAWAY waits.
+    /// - [`LinkError::Stream`] (N2) where the connection failed, and its GOAWAY is queued.
     /// - [`LinkError::Memory`] (N3) where an allocation was refused.
-    /// - [`LinkError::NoProgress`] (N5) after 2^64 - 1 rounds.
+    /// - [`LinkError::NoProgress`] (N5) after 2^64 - 1 rounds of a loop, which is not expected.
     /// - [`LinkError::Reset`] (N6) where either end reset the stream, or the server did not
     ///   process the request.
     pub fn take_in(&mut self, piece: &[u8]) -> Result<bool, LinkError>
@@ -191,11 +193,11 @@ impl Fetcher {
     }
 
     // rule: engines (own) Without a link a server answers whole requests, a client reads one
-    /// Queues WINDOW_UPDATE for all credit that is owed, and as much of what waits of the request
-    /// as the windows allow, but no more once 65,536 octets of output wait: the rest is left to the
-    /// next call. Then appends at most `count` octets of the output to `out`, fewer only where no
-    /// more wait. Returns their number; call it until that is 0. Once the connection has failed, it
-    /// still puts out what waits, GOAWAY last.
+    /// Queues WINDOW_UPDATE for all credit that is owed, and as much of the unsent request as the
+    /// windows allow, but no more once 65,536 octets of output wait: the rest is left to the next
+    /// call. Then appends at most `count` octets of the output to `out`, fewer only where no more
+    /// wait. Returns how many were appended; call it until that is 0. Once the connection has
+    /// failed, it still puts out what waits, GOAWAY last.
     ///
     /// # Errors
     ///

@@ -1,9 +1,9 @@
 //! A complete HTTP/2 connection over any link (RFC 9113): a server that answers each request
 //! with the request itself, and a client that fetches one response.
 //!
-//! [`serve_link`] and [`fetch_link`] read and write a [`Link`]. [`Responder`] and [`Fetcher`]
-//! are the same ends without a link, for a caller that carries the octets. [`write_waiting`]
-//! writes the output of a connection to a link.
+//! [`serve_link`] and [`fetch_link`] read and write a [`Link`]. [`Responder`] and [`Fetcher`] are
+//! the same server and client without a link, for a caller that carries the octets.
+//! [`write_waiting`] writes the output of a connection to a link.
 #![tactic(auto)]
 
 mod errors;

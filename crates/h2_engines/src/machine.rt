@@ -140,7 +140,7 @@ fn write_out<M: Machine, L: Link>(machine: &mut M, link: &mut L) -> Result<(), L
 }
 
 // rule: engines (own) Over a link input is used in order and all output is written
-/// Writes to a link all octets that wait at a connection, in order. It copies none: they may lie
+/// Writes to a link all queued output of a connection, in order. It copies no octets: they may lie
 /// in several parts ([`Conn::waiting_from`]), and each call of the link gets up to four of these,
 /// until all are written. The octets stay queued: the caller removes them ([`Conn::consume`]).
 ///

@@ -28,7 +28,7 @@ const MORE_ROOM: usize = 9;
 /// A request that is being received.
 #[derive(Drop)]
 pub(crate) struct Request {
-    /// The response: the method, a space, the path, a line end, and the body so far.
+    /// The response: the method, a space, the path, a newline, and the body so far.
     pub(crate) text: Vec<u8>,
     /// Where the body begins in `text`.
     pub(crate) start: usize,

@@ -21,10 +21,10 @@ use h2_ends::{Code, Config, EndRefusal, Refusal, Server};
 use h2_link::LinkError;
 use std::alloc::Global;
 
-/// A server that answers each complete request with its method, a space, its path, a line end
-/// and its body. It does no input or output. A response to HEAD has neither body nor
-/// `content-length`. A stream whose request has a body of more than 1,048,576 octets is reset
-/// with ENHANCE_YOUR_CALM.
+/// A server that answers each complete request with its method, a space, its path, a newline and
+/// its body. It does no input or output. A response to HEAD has neither body nor `content-length`.
+/// A stream whose request has a body of more than 1,048,576 octets is reset with
+/// ENHANCE_YOUR_CALM.
 #[derive(Drop)]
 pub struct Responder {
     pub(crate) alloc: Global,
@@ -131,11 +131,13 @@ impl Responder {
     ///
     /// # Errors
     ///
-    /// - [`LinkError::Stream`] (N2) where the connection failed, whose GOAWAY waits; or, with
-    ///   ENHANCE_YOUR_CALM, where 1,000 streams were reset and no more can be.
+    /// - [`LinkError::Stream`] (N2) where the connection failed, and its GOAWAY is queued; or,
+    ///   with ENHANCE_YOUR_CALM, where 1,000 streams were reset and no more can be.
     /// - [`LinkError::Memory`] (N3) where an allocation was refused.
     /// - [`LinkError::NoProgress`] (N5) where so much output waits that a request can't be
-    ///   answered, and after 2^64 - 1 rounds or 2^32 - 1 responses.
+    ///   answered or a stream can't be reset. Three more causes are not expected: 2^64 - 1 rounds
+    ///   of a loop, 2^32 - 1 responses, and a refusal of a response or a reset for a reason other
+    ///   than this one and those of N2 and N3.
     pub fn take_in(&mut self, piece: &[u8]) -> Result<(), LinkError>
         ensures takes { ServerTakesIn self.old self.new piece.now result }
         ensures err { IfErr result IsOfServer }
@@ -146,11 +148,11 @@ impl Responder {
     }
 
     // rule: engines (own) Without a link a server answers whole requests, a client reads one
-    /// Queues WINDOW_UPDATE for all credit that is owed, and as much of what waits of responses
-    /// as the windows allow, but no more once 65,536 octets of output wait: the rest is left to the
+    /// Queues WINDOW_UPDATE for all credit that is owed, and as much of the unsent responses as
+    /// the windows allow, but no more once 65,536 octets of output wait: the rest is left to the
     /// next call. Then appends at most `count` octets of the output to `out`, fewer only where no
-    /// more wait. Returns their number; call it until that is 0. Once the connection has failed, it
-    /// still puts out what waits, GOAWAY last.
+    /// more wait. Returns how many were appended; call it until that is 0. Once the connection has
+    /// failed, it still puts out what waits, GOAWAY last.
     ///
     /// # Errors
     ///

@@ -19,13 +19,14 @@ use std::alloc::Global;
 // rule: engines (own) N1 comes exactly where a call of the link has failed
 // contract: engines (own) N2 has the code with which the connection failed; memory is N3
 /// Serves a connection until its input ends, and returns how many requests were answered. Answers
-/// each complete request with its method, a space, its path, a line end and its body; a response to
+/// each complete request with its method, a space, its path, a newline and its body; a response to
 /// HEAD has neither body nor `content-length`. Resets each stream whose request has a body of more
 /// than 1,048,576 octets, with ENHANCE_YOUR_CALM.
 ///
-/// If a number is returned, the connection's credit was returned, and each response was sent
-/// completely unless its stream was reset. If it returns [`LinkError::CutOff`] (N4), all credit
-/// that was owed was returned, and only the windows hold back what still waits.
+/// If the call succeeds, the server has returned all credit of the connection's window, and has
+/// sent each response completely unless its stream was reset. If the call returns
+/// [`LinkError::CutOff`] (N4), the server has returned all credit that was owed, and only the
+/// windows hold back what is unsent of the responses.
 ///
 /// # Errors
 ///
@@ -35,9 +36,9 @@ use std::alloc::Global;
 /// - [`LinkError::Memory`] (N3) where an allocation was refused.
 /// - [`LinkError::CutOff`] (N4) where the input ended inside the preface or a frame, or while a
 ///   stream was active.
-/// - [`LinkError::NoProgress`] (N5) where a write took nothing; also, which is not expected,
-///   after 2^64 - 1 rounds or 2^32 - 1 responses, or where the end refuses a response or a
-///   reset.
+/// - [`LinkError::NoProgress`] (N5) where a write took nothing. Three more causes are not
+///   expected: 2^64 - 1 rounds of a loop, 2^32 - 1 responses, and a refusal of a response or a
+///   reset for a reason other than those of N2 and N3.
 pub fn serve_link<L: Link>(alloc: Global, link: &mut L, config: Config) -> Result<u32, LinkError>
     requires { L.faults link.old < 2 ^ 64 - 1 }
     ensures serves { Serves (values_of config)
@@ -54,8 +55,8 @@ pub fn serve_link<L: Link>(alloc: Global, link: &mut L, config: Config) -> Resul
 
 // contract: engines (own) Over a link it is said why the connection has failed
 // rule: engines (own) Over a link it is said why the connection has failed
-/// Does what [`serve_link`] does, and sets `why` to the reason for which the connection has
-/// failed, if it has: the rule that the client has broken, or what else has ended it.
+/// Does what [`serve_link`] does, and sets `why` to the reason why the connection has failed (the
+/// rule that the client has broken, or what else has ended it), or to `None` if it has not failed.
 ///
 /// # Errors
 ///

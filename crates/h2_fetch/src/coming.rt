@@ -114,7 +114,7 @@ fn came_of(
     }
 }
 
-/// Returns the stream of an event that is a part of a final response, or after which no more
+/// Returns the stream of an event that has a part of a final response, or after which no more
 /// comes on the stream.
 fn stream_of_handed(event: EndEvent<&FieldList, &[u8]>) -> Option<u32>
     ensures { result ≡ stream_of_handed (event_handed event.entry) }

@@ -20,10 +20,12 @@ use h2_link::{Link, LinkError};
 use std::alloc::Global;
 
 /// A client that makes one request over a link and returns its response part by part. It keeps one
-/// piece of the input, and returns credit to the server just before it reads the next: all that is
-/// owed, unless the last read filled its 16,384 octets. Then it returns none until as much is owed
-/// as the server may still send on the stream or on the connection; if what is owed and what may
-/// still be sent there are together less than 65,535 octets, it returns all at once.
+/// piece of the input, at most 16,384 octets, and returns credit to the server just before it
+/// reads the next piece: all that is owed, unless the last read returned 16,384 octets. After such
+/// a read it returns none while what is owed on the stream is less than the server may still send
+/// on the stream, and less than it may still send on the connection. But if, for either of them,
+/// what is owed and what may still be sent are together less than 65,535 octets, it holds none
+/// back.
 #[derive(Drop)]
 pub struct PartFetch {
     pub(crate) alloc: Global,
@@ -70,7 +72,7 @@ impl PartFetch {
     ///
     /// - [`LinkError::Memory`] (N3) where an allocation was refused.
     /// - [`LinkError::Refused`] (N7) where the message breaks a rule, or its head or its
-    ///   trailers are larger than 65,536 octets.
+    ///   trailers are larger than 65,536 octets, with 32 counted for each field.
     pub fn new(alloc: Global, config: Config, message: Message) -> Result<PartFetch, LinkError>
         ensures ok { IfOk result (BeginsFetch (values_of config) (message_value message)) }
         ensures refused { IfErr result (λ error. IsNotAccepted (values_of config)
@@ -95,7 +97,7 @@ impl PartFetch {
     }
 
     /// Returns the connection, to query its state, such as why it has failed ([`Conn::why`]).
-    /// It takes no memory.
+    /// The call takes no memory.
     pub fn conn(&self) -> &Conn
         ensures { result.now ≡ self.now.client.end.conn }
     {
@@ -108,8 +110,9 @@ impl PartFetch {
     ///
     /// # Errors
     ///
-    /// [`Refusal::Closed`] (C1), [`Refusal::OutputFull`] (C7), [`Refusal::WindowTooLarge`] (C14)
-    /// and [`Refusal::Memory`] (C12), in this order. Nothing has changed.
+    /// The first that holds of [`Refusal::Closed`] (C1), [`Refusal::OutputFull`] (C7),
+    /// [`Refusal::WindowTooLarge`] (C14) and [`Refusal::Memory`] (C12). A refused call changes
+    /// nothing.
     pub fn widen(&mut self, count: u32) -> Result<(), Refusal>
         ensures widens { WidensFetch count (answer_by (λ done. Done) result) self.old self.new }
         ensures stream { self.new.id ≡ self.old.id }
@@ -119,10 +122,9 @@ impl PartFetch {
 
     // contract: engines (own) A response in parts is what is handed out, in order
     // rule: engines (own) A response in parts is what is handed out, in order
-    /// Returns the next part of the response. If no further part has come yet, returns credit as
-    /// [`PartFetch`] says, writes what waits, and then reads the link.
-    /// Don't call it after the part that ends the response, after N3, N5 or N6, nor with a link
-    /// that has failed.
+    /// Returns the next part of the response. Until it has come, returns credit as [`PartFetch`]
+    /// says, writes what waits, and reads the link. Don't call it after the part that ends the
+    /// response, after N3, N5 or N6, nor with a link that has failed.
     ///
     /// # Errors
     ///
@@ -131,7 +133,7 @@ impl PartFetch {
     /// - [`LinkError::Device`] (N1) where the link failed.
     /// - [`LinkError::Stream`] (N2) where the connection failed, once its GOAWAY was written.
     /// - [`LinkError::Memory`] (N3) where an allocation was refused.
-    /// - [`LinkError::CutOff`] (N4) where the input ended.
+    /// - [`LinkError::CutOff`] (N4) where the input ended before the response was complete.
     /// - [`LinkError::NoProgress`] (N5) where a write took nothing, and after 2^64 - 1 rounds.
     /// - [`LinkError::Reset`] (N6) where either end reset the stream, or the server did not
     ///   process the request.

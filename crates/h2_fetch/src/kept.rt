@@ -17,7 +17,7 @@ pub(crate) fn take_kept(kept: &mut VecDeque<(u32, Came)>, id: u32) -> Option<Cam
     Some(came)
 }
 
-/// Returns its place.
+/// Returns the place of the first that is kept of a stream.
 fn place_of(kept: &VecDeque<(u32, Came)>, id: u32) -> Option<usize>
     ensures { result ≡ position (is_of id) kept.now.items }
 {

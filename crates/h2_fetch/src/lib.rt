@@ -1,6 +1,6 @@
 //! Clients that make one request, or several at once, over any link (RFC 9113), and return each
-//! response part by part as it comes. They keep one piece of the input, and return credit to
-//! the server only once the next piece is to be read.
+//! response part by part as it comes. They read the input in pieces of at most 16,384 octets, and
+//! return credit to the server only just before they read the next piece.
 #![tactic(auto)]
 
 mod asking;

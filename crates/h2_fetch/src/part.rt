@@ -16,7 +16,7 @@ pub enum ResponsePart {
         /// Its fields, in order.
         list: Vec<Field>,
     },
-    /// The head.
+    /// The head of the final response.
     Head {
         /// Its fields, in order.
         list: Vec<Field>,
@@ -30,7 +30,7 @@ pub enum ResponsePart {
         /// Whether the response is complete.
         end: bool,
     },
-    /// The trailers: the response is complete.
+    /// The trailers, with which the response is complete.
     Trailers {
         /// Their fields, in order.
         list: Vec<Field>,
@@ -38,7 +38,7 @@ pub enum ResponsePart {
 }
 
 // rule: engines (own) A response in parts is what is handed out, in order
-/// Returns the part of the response on a stream that an event is, if it is one. Memory is
+/// Returns the part of the response on a stream that an event has, if it has one. Memory is
 /// refused only for a part of a message.
 pub(crate) fn part_of(
     alloc: Global,

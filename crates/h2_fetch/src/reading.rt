@@ -18,9 +18,9 @@ use h2_link::{Link, LinkError};
 const PIECE: usize = 16_384;
 
 // rule: 6.9 (own) Credit is returned by half of a window
-/// The credit that is returned before a read: this, or none, if the last read filled its room with
-/// `last` octets, so that more is there, and what is owed on the stream is less than half of its
-/// window and of the connection's.
+/// The credit that is returned before a read: `credit`; or none, if the last read filled its
+/// buffer with `last` octets, so that more may be there, and what is owed on the stream is not due
+/// ([`is_credit_due`]) in its window, nor in that of the connection.
 pub(crate) fn credit_before(conn: &Conn, id: u32, last: usize, credit: Credit) -> Credit
     ensures { (values : Values) (log : Log) → ConnRepresents values conn.now log
         → result ≡ credit_before log id last credit }

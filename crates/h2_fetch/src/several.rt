@@ -24,8 +24,9 @@ use std::collections::VecDeque;
 pub enum Came {
     /// The next part of the response.
     Part(ResponsePart),
-    /// The stream was reset with this code, by either end (RFC 9113, section 6.4); or its
-    /// request was not processed (section 6.8), with REFUSED_STREAM. No more comes on it.
+    /// The stream was reset with this code, by either end (RFC 9113, section 6.4). The code is
+    /// REFUSED_STREAM also where a GOAWAY says that the server did not process the request
+    /// (section 6.8). No more comes on the stream.
     Dropped(u32),
 }
 
@@ -37,7 +38,8 @@ pub enum Came {
 ///
 /// The connection's window is 65,535 octets plus what [`SeveralFetch::widen`] adds, and bodies that
 /// are kept use it up. So with `n` requests give [`Config::new`] an initial window of at most an
-/// `n`th of it: otherwise what is kept may take all of it, and nothing more comes.
+/// `n`th of the connection's: otherwise what is kept may use up all of that window, and nothing
+/// more comes.
 #[derive(Drop)]
 pub struct SeveralFetch {
     pub(crate) alloc: Global,
@@ -66,10 +68,11 @@ impl SeveralFetch {
     /// # Errors
     ///
     /// - [`LinkError::Memory`] (N3) where an allocation was refused.
-    /// - [`LinkError::NoProgress`] (N5) where the client refuses a request for any other reason:
-    ///   there are more than 100 (C4), or 65,536 octets wait already (C7).
+    /// - [`LinkError::NoProgress`] (N5) where the client refuses a request for a reason that is
+    ///   neither N3 nor N7: there are more than 100 requests (C4), or 65,536 octets or more of
+    ///   output wait already (C7).
     /// - [`LinkError::Refused`] (N7) where a message breaks a rule, or its head or its trailers
-    ///   are larger than 65,536 octets.
+    ///   are larger than 65,536 octets, with 32 counted for each field.
     pub fn new(
         alloc: Global,
         config: Config,
@@ -100,7 +103,7 @@ impl SeveralFetch {
         })
     }
 
-    /// Returns the streams of the requests, in their order.
+    /// Returns the stream of each request, in the order in which [`SeveralFetch::new`] got them.
     pub fn streams(&self) -> &[u32]
         ensures { result.now ≡ self.now.ids.items }
     {
@@ -108,7 +111,7 @@ impl SeveralFetch {
     }
 
     /// Returns the connection, to query its state, such as why it has failed ([`Conn::why`]).
-    /// It takes no memory.
+    /// The call takes no memory.
     pub fn conn(&self) -> &Conn
         ensures { result.now ≡ self.now.client.end.conn }
     {
@@ -122,8 +125,9 @@ impl SeveralFetch {
     ///
     /// # Errors
     ///
-    /// [`Refusal::Closed`] (C1), [`Refusal::OutputFull`] (C7), [`Refusal::WindowTooLarge`] (C14)
-    /// and [`Refusal::Memory`] (C12), in this order. Nothing has changed.
+    /// The first that holds of [`Refusal::Closed`] (C1), [`Refusal::OutputFull`] (C7),
+    /// [`Refusal::WindowTooLarge`] (C14) and [`Refusal::Memory`] (C12). A refused call changes
+    /// nothing.
     pub fn widen(&mut self, count: u32) -> Result<(), Refusal>
         ensures widens { WidensSeveral count (answer_by (λ done. Done) result) self.old self.new }
         ensures streams { self.new.ids ≡ self.old.ids }
@@ -133,13 +137,15 @@ impl SeveralFetch {
 
     // contract: engines (own) Responses of several requests are what is handed out, each in order
     // rule: engines (own) Responses of several requests are what is handed out, each in order
-    /// Returns what came next on a stream of [`SeveralFetch::streams`]. If nothing is kept of it,
-    /// returns the credit that is owed on that stream, writes what waits, and then reads the link.
-    /// After a read that filled its 16,384 octets, credit is held back until as much is owed as the
-    /// server may still send on the stream or on the connection; if what is owed and what may still
-    /// be sent there are together less than 65,535 octets, it is returned at once. Don't call it
-    /// after the part that ends the response, after [`Came::Dropped`], after N3 or N5, nor with a
-    /// link that has failed.
+    /// Returns what came next on a stream of [`SeveralFetch::streams`]. Until something has come
+    /// on it, returns the credit that is owed on that stream, writes what waits, and reads the
+    /// link. After a read that returned 16,384 octets, it returns none while what is owed on the
+    /// stream is less than the server may still send on the stream, and less than it may still
+    /// send on the connection. But if, for either of them, what is owed and what may still be sent
+    /// are together less than 65,535 octets, it holds none back.
+    ///
+    /// Don't call it for a stream after the part that ends its response, or after
+    /// [`Came::Dropped`]. Don't call it at all after N3 or N5, nor with a link that has failed.
     ///
     /// # Errors
     ///

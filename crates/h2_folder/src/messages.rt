@@ -191,7 +191,7 @@ fn short_text(alloc: Global, status: u16) -> Result<Vec<u8>, AllocError>
     Ok(text.into_bytes())
 }
 
-/// The phrase of a status (RFC 9110, section 15), or nothing.
+/// The phrase that the crate `http` has for a status (RFC 9110, section 15), or nothing.
 fn phrase_of(status: u16) -> &'static str
     ensures { result.now ≡ phrase_or_nothing status }
 {

@@ -18,7 +18,7 @@ pub enum FrameRef<'a> {
     Data {
         /// The stream, not 0.
         stream: u32,
-        /// Whether END_STREAM is set: the sender sends no more fields or DATA on it.
+        /// Whether END_STREAM is set: the sender sends no more fields or DATA on the stream.
         end: bool,
         /// The octets, without padding.
         octets: &'a [u8],
@@ -38,10 +38,10 @@ pub enum FrameRef<'a> {
         fragment: &'a [u8],
         /// The pad length, if there was one (PADDED).
         pad: Option<u8>,
-        /// The five octets of the priority, if there was one (PRIORITY); they are ignored.
+        /// The five octets of the priority, if there was one (PRIORITY); an end ignores them.
         priority: Option<[u8; 5]>,
     },
-    /// PRIORITY, which is ignored (section 6.3).
+    /// PRIORITY, which an end ignores (section 6.3).
     Priority {
         /// The stream, not 0.
         stream: u32,
@@ -57,21 +57,22 @@ pub enum FrameRef<'a> {
     },
     /// SETTINGS: values, or the acknowledgment of the peer's values (section 6.5).
     Settings {
-        /// Whether ACK is set: the peer's values were applied. Then there are no pairs.
+        /// Whether ACK is set: the sender has applied its peer's values. Then there are no pairs.
         ack: bool,
         /// Identifiers and values, in order.
         pairs: Pairs<'a>,
     },
     /// PING: eight octets to be sent back, or the answer with them (section 6.7).
     Ping {
-        /// Whether ACK is set: it is the answer.
+        /// Whether ACK is set: the frame is the answer.
         ack: bool,
         /// The octets.
         octets: [u8; 8],
     },
     /// GOAWAY: the sender accepts no further streams (section 6.8).
     GoAway {
-        /// The last stream that the sender has processed, less than 2<sup>31</sup>.
+        /// The greatest number of a stream that the sender has processed or may still process,
+        /// less than 2<sup>31</sup>; 0 if there is none.
         last: u32,
         /// The error code (section 7); any is allowed.
         code: u32,

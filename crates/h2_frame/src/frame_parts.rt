@@ -200,7 +200,7 @@ impl<'a> FrameParts<'a> {
     }
 
     // rule: 4.1 A frame is sent without its reserved bit and undefined flags
-    /// Whether the stream's number has 31 bits, and a frame of this type may be on it.
+    /// Whether the stream's number has at most 31 bits, and a frame of this type may be on it.
     pub(crate) fn has_good_stream(&self) -> bool
         ensures { result ≡ (nat_lt self.now.stream (2 ^ 31)
             && stream_fits self.now.kind self.now.stream) }

@@ -10,13 +10,13 @@ pub enum Kind {
     Data,
     /// 1, HEADERS: the beginning of a field block.
     Headers,
-    /// 2, PRIORITY, which is ignored.
+    /// 2, PRIORITY, which an end ignores.
     Priority,
     /// 3, RST_STREAM: a stream ends with an error code.
     RstStream,
     /// 4, SETTINGS: values, or the acknowledgment of the peer's values.
     Settings,
-    /// 5, PUSH_PROMISE, which is refused.
+    /// 5, PUSH_PROMISE, which [`head_fault`](crate::head_fault) refuses.
     PushPromise,
     /// 6, PING: eight octets to be sent back, or the answer with them.
     Ping,

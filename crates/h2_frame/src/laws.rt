@@ -7,7 +7,7 @@ ghost use Rattle.h2_frame.specs.Frames.{Frame, Encodes, payload_fault};
 ghost use Rattle.h2_frame.specs.Encoding.{payload_of, encoding_of, refusal, IsTyped};
 
 // contract: 4.1 Octets encode at most one frame
-/// Octets encode at most one frame.
+/// The same octets never encode two different frames.
 pub fn one_frame()
     ensures { (frame other : Frame) (octets : List ℕ) → Encodes frame octets → Encodes other octets
         → frame ≡ other }

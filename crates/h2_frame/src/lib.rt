@@ -3,9 +3,9 @@
 //!
 //! [`head`] reads the nine octets of a frame header, here the *head*, and [`head_fault`] checks
 //! it before any octet of the payload has come. [`pad_length`] checks the payload, and
-//! [`payload_frame`] returns the frame, whose payload is lent: reading allocates nothing.
-//! [`write`] appends the encoding of a frame that owns its payload, [`write_ref`] that of one
-//! whose payload is lent.
+//! [`payload_frame`] returns the frame, whose payload is lent; [`read_payload`] does both. Reading
+//! allocates nothing. [`write`] appends the encoding of a frame that owns its payload,
+//! [`write_ref`] that of one whose payload is lent.
 #![tactic(auto)]
 
 mod appending;

@@ -10,7 +10,7 @@ pub enum Frame {
     Data {
         /// The stream, not 0.
         stream: u32,
-        /// Whether END_STREAM is set: the sender sends no more fields or DATA on it.
+        /// Whether END_STREAM is set: the sender sends no more fields or DATA on the stream.
         end: bool,
         /// The octets.
         octets: Vec<u8>,
@@ -49,21 +49,22 @@ pub enum Frame {
     },
     /// SETTINGS: values, or the acknowledgment of the peer's values (section 6.5).
     Settings {
-        /// Whether ACK is set: the peer's values were applied. Then there are no pairs.
+        /// Whether ACK is set: the sender has applied its peer's values. Then there are no pairs.
         ack: bool,
         /// Identifiers and values, in order.
         pairs: Vec<(u16, u32)>,
     },
     /// PING: eight octets to be sent back, or the answer with them (section 6.7).
     Ping {
-        /// Whether ACK is set: it is the answer.
+        /// Whether ACK is set: the frame is the answer.
         ack: bool,
         /// The octets.
         octets: [u8; 8],
     },
     /// GOAWAY: the sender accepts no further streams (section 6.8).
     GoAway {
-        /// The last stream that the sender has processed, less than 2<sup>31</sup>.
+        /// The greatest number of a stream that the sender has processed or may still process,
+        /// less than 2<sup>31</sup>; 0 if there is none.
         last: u32,
         /// The error code (section 7).
         code: u32,

@@ -21,13 +21,13 @@ use byteorder::{BigEndian, ByteOrder};
 // contract: 6.2 Padding of HEADERS above what the priority leaves is PROTOCOL_ERROR
 // rule: 6.2 Padding of HEADERS above what the priority leaves is PROTOCOL_ERROR
 /// Checks the payload after a head without fault, and returns its pad length; `None` if it has
-/// none (RFC 9113, sections 6.1 and 6.2). The slice has as many octets as the head's `length`
-/// says. It allocates nothing.
+/// none (RFC 9113, sections 6.1 and 6.2). The slice must have as many octets as the head's
+/// `length` says. It allocates nothing.
 ///
 /// # Errors
 ///
-/// PROTOCOL_ERROR where the pad length of DATA is not less than the payload's length, or that
-/// of HEADERS is above the number of octets that follow it and the priority.
+/// PROTOCOL_ERROR where the pad length of DATA is not less than the payload's length, or the pad
+/// length of HEADERS is above the number of octets that follow it and the priority.
 #[tactic(auto, unfolding(crate::proofs::Rules::payload_rules))]
 pub fn pad_length(head: &Head, payload: &[u8]) -> Result<Option<u8>, Code>
     // The head has no fault, except perhaps a length above the limit.
@@ -63,8 +63,8 @@ pub fn pad_length(head: &Head, payload: &[u8]) -> Result<Option<u8>, Code>
 // contract: 6.7 PING is read with its octets
 // contract: 7 A received code is any number of 32 bits, and an unknown one does nothing
 /// Checks the payload after a head without fault, and returns the frame, whose payload is lent
-/// (RFC 9113, section 6). The slice has as many octets as the head's `length` says. It allocates
-/// nothing.
+/// (RFC 9113, section 6). The slice must have as many octets as the head's `length` says. It
+/// allocates nothing.
 ///
 /// # Errors
 ///
@@ -93,9 +93,9 @@ pub fn read_payload<'a>(head: &Head, payload: &'a [u8]) -> Result<FrameRef<'a>, 
 // rule: 6.9 The reserved bit of WINDOW_UPDATE is ignored
 // rule: 6.10 CONTINUATION is a fragment, and END_HEADERS ends the block
 // rule: 7 A received code is any number of 32 bits, and an unknown one does nothing
-/// Returns the frame of a payload without fault, after a head without fault (RFC 9113, section
-/// 6); the payload is lent. The slice has as many octets as the head's `length` says, and `pad` is
-/// what [`pad_length`] returned for it. It allocates nothing.
+/// Returns the frame of a payload without fault, after a head without fault (RFC 9113, section 6);
+/// the payload is lent. The slice must have as many octets as the head's `length` says, and `pad`
+/// must be what [`pad_length`] returned for it. It allocates nothing.
 #[tactic(auto, unfolding(crate::proofs::Rules::payload_rules))]
 #[inline(always)]
 pub fn payload_frame<'a>(head: &Head, pad: Option<u8>, payload: &'a [u8]) -> FrameRef<'a>

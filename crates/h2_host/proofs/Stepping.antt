@@ -50,6 +50,7 @@ turn_kept turn next token (owns.Ready reads writes) octets is = same_token turn 
 turn_kept turn next token owns.NoneCame octets is = same_token turn next is
 turn_kept turn next token owns.Ended octets is = same_token turn next is
 turn_kept turn next token owns.NoneWent octets is = same_token turn next is
+turn_kept turn next token owns.Lost octets is = same_token turn next is
 turn_kept turn next token (owns.Refused bound) octets is = same_token turn next is
 turn_kept turn next token (owns.Passed now) octets is = absurd (let no = is in cc)
 

@@ -115,6 +115,7 @@ counted_less turn next token (owns.Ready reads writes) octets is = same_turn tur
 counted_less turn next token owns.NoneCame octets is = same_turn turn next is
 counted_less turn next token owns.Ended octets is = same_turn turn next is
 counted_less turn next token owns.NoneWent octets is = same_turn turn next is
+counted_less turn next token owns.Lost octets is = same_turn turn next is
 counted_less turn next token (owns.Refused bound) octets is = same_turn turn next is
 counted_less turn next token (owns.Passed now) octets is = absurd (let no = is in cc)
 
@@ -131,6 +132,7 @@ module _ {P : Type 0} (steps : P → Own → List ℕ → Answer → P → Type 
   own_taken token owns.NoneCame octets answer = refl
   own_taken token owns.Ended octets answer = refl
   own_taken token owns.NoneWent octets answer = refl
+  own_taken token owns.Lost octets answer = refl
   own_taken token (owns.Refused bound) octets answer = refl
   own_taken token (owns.Passed now) octets answer = refl
 
@@ -144,6 +146,7 @@ module _ {P : Type 0} (steps : P → Own → List ℕ → Answer → P → Type 
   own_given token owns.NoneCame answer = refl
   own_given token owns.Ended answer = refl
   own_given token owns.NoneWent answer = refl
+  own_given token owns.Lost answer = refl
   own_given token (owns.Refused bound) answer = refl
   own_given token (owns.Passed now) answer = refl
 
@@ -159,6 +162,7 @@ module _ {P : Type 0} (steps : P → Own → List ℕ → Answer → P → Type 
   none_taken token owns.NoneCame octets = (refl, refl)
   none_taken token owns.Ended octets = (refl, refl)
   none_taken token owns.NoneWent octets = (refl, refl)
+  none_taken token owns.Lost octets = (refl, refl)
   none_taken token (owns.Refused bound) octets = (refl, refl)
   none_taken token (owns.Passed now) octets = (refl, refl)
 
@@ -174,6 +178,7 @@ module _ {P : Type 0} (steps : P → Own → List ℕ → Answer → P → Type 
   none_given token owns.NoneCame = (refl, refl)
   none_given token owns.Ended = (refl, refl)
   none_given token owns.NoneWent = (refl, refl)
+  none_given token owns.Lost = (refl, refl)
   none_given token (owns.Refused bound) = (refl, refl)
   none_given token (owns.Passed now) = (refl, refl)
 

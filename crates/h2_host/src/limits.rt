@@ -5,9 +5,9 @@
 pub struct Limits {
     /// The maximum number of connections, never above 1,048,576.
     pub connections: usize,
-    /// How many octets a connection may hold: one that holds more is closed. Not counted, and so on
-    /// top of that: header tables, field blocks and lists, entries of streams, and the spare
-    /// capacity of buffers.
+    /// How many octets a connection may hold: one that holds more is closed. Not counted, and so
+    /// held in addition: header tables, field blocks and lists, entries of streams, the spare capacity
+    /// of buffers, and what a handler keeps of requests beyond what its `held` says.
     pub held: usize,
     /// How many octets all connections may hold: if they hold more, the one that holds most is
     /// closed.

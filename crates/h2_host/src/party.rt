@@ -2,7 +2,9 @@
 
 ghost use Rattle.std.specs.Prelude.{◌≡◌, ℕ, List, Bool, length};
 ghost use Rattle.h2_host.specs.declared.party.Own.{Own as OwnStep};
+ghost use Rattle.h2_host.specs.declared.party.Own.TheVariants as owns;
 ghost use Rattle.h2_host.specs.declared.party.Answer.{Answer as OwnAnswer};
+ghost use Rattle.h2_host.specs.declared.party.Answer.TheVariants as answers;
 ghost use Rattle.h2_host.specs.Parties.{IsGivenUp, IsRefusal};
 ghost use Rattle.h2_host.specs.Readers.{LendsFirst};
 
@@ -33,6 +35,8 @@ pub enum Own {
     },
     /// Nothing was written: the transport cannot be written now.
     NoneWent,
+    /// The transport has failed: nothing can be read or written any more.
+    Lost,
     /// Time has passed. The host makes this step for all connections at once.
     Passed {
         /// The time, in milliseconds.
@@ -50,7 +54,7 @@ pub enum Own {
 pub enum Bound {
     /// It holds more octets than one connection may.
     Held,
-    /// All connections hold more octets than they may, and this one holds most.
+    /// All connections together hold more octets than they may, and this one holds the most.
     HeldInAll,
     /// An allocation was refused.
     Memory,
@@ -84,10 +88,12 @@ pub trait Party: Drop {
     ghost output_of: { Self → List ℕ };
 
     /// Makes a step; `octets` are those received, if it is [`Own::Came`]. `room` is scratch space.
-    /// After [`Own::Refused`] the party holds nothing, is ready, and answers [`Answer::Over`].
+    /// After [`Own::Refused`] the party holds nothing, is ready, and answers [`Answer::Over`]; after
+    /// [`Own::Lost`] it answers that too.
     fn step(&mut self, own: Own, octets: &[u8], room: &mut [u8]) -> Answer
         ensures steps { steps self.old own octets.now result self.new }
         ensures refused { IsRefusal own → IsGivenUp result (held_of self.new) (ready_of self.new) }
+        ensures lost { own ≡ owns.Lost → result ≡ answers.Over }
         ensures room { length room.new ≡ length room.old };
 
     /// Returns the octets that it holds and that count against the limits.

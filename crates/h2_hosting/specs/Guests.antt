@@ -4,17 +4,7 @@ use Rattle.std.specs.Prelude.{is_some}
 use Rattle.h2_host.specs.declared.party.Answer.{Answer}
 use Rattle.h2_host.specs.declared.party.Own.{Own}
 use Rattle.h2_host.specs.declared.party.Own.TheVariants.{Came, Passed}
-use Rattle.h2_handlers.specs.Exchanges.{Relations}
-use Rattle.h2_seat.specs.Seats.{SeatHandles, phase_left}
-use Rattle.h2_seat.specs.declared.seat.Seat.{Seat}
-use Rattle.h2_seat.specs.declared.why.Why.TheVariants.{Asked}
 use Rattle.h2_hosting.specs.declared.guest.Guest.{Guest}
-
--- A seat was asked to end in order: only what may happen at a server with its handler has happened,
--- and one that goes on ends from now on, since that was asked.
-pub record SeatLeaves {H W : Type 0} (rel : Relations H W) (old new : Seat H W) : Type 0 where
-  pub handles : SeatHandles rel old new
-  pub phase : new.phase ≡ phase_left old.phase Asked old.time
 
 -- what a connection lacks of the window of its host: that, but for the 65,535 octets that each has
 -- (RFC 9113, section 6.9.2)

@@ -8,11 +8,11 @@ use Rattle.std.specs.declared.net.ip_addr.IpAddr.{IpAddr}
 use Rattle.hpack.specs.declared.types.field.Field.{Field}
 use Rattle.h2_folder.specs.LogLines.{IsLogLine}
 use Rattle.h2_folder.specs.declared.log.LogEntry.{LogEntry}
-use Rattle.h2_handlers.specs.declared.handler.Cause.{Cause}
-use Rattle.h2_handlers.specs.declared.handler.HandlerFault.{HandlerFault}
-use Rattle.h2_handlers.specs.declared.handler.HandlerFault.TheVariants.{Memory}
-use Rattle.h2_handlers.specs.declared.handler.Part.{Part}
-use Rattle.h2_handlers.specs.declared.handler.Reply.{Reply}
+use Rattle.h2_server.specs.declared.handler.Cause.{Cause}
+use Rattle.h2_server.specs.declared.handler.HandlerFault.{HandlerFault}
+use Rattle.h2_server.specs.declared.handler.HandlerFault.TheVariants.{Memory}
+use Rattle.h2_server.specs.declared.handler.Part.{Part}
+use Rattle.h2_server.specs.declared.handler.Reply.{Reply}
 use Rattle.h2_hosting.specs.Noting.{IsNoted, CountsPart, NotesReply}
 use Rattle.h2_hosting.specs.declared.logged.Logged.{Logged}
 use Rattle.h2_hosting.specs.declared.logged.Note.{Note}

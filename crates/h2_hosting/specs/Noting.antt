@@ -5,11 +5,11 @@ use Rattle.std.specs.Prelude.{option_and_then, option_map}
 use Rattle.std.specs.Prelude.{if◌then◌else◌, nat_le}
 use Rattle.hpack.specs.declared.types.field.Field.{Field}
 use Rattle.h2_folder.specs.Answering.{value_in}
-use Rattle.h2_handlers.specs.declared.handler.HandlerFault.{HandlerFault}
-use Rattle.h2_handlers.specs.declared.handler.Part.{Part}
-use Rattle.h2_handlers.specs.declared.handler.Part.TheVariants.{Octets, Last}
-use Rattle.h2_handlers.specs.declared.handler.Reply.{Reply}
-use Rattle.h2_handlers.specs.declared.handler.Reply.TheVariants.{Whole, Parts}
+use Rattle.h2_server.specs.declared.handler.HandlerFault.{HandlerFault}
+use Rattle.h2_server.specs.declared.handler.Part.{Part}
+use Rattle.h2_server.specs.declared.handler.Part.TheVariants.{Octets, Last}
+use Rattle.h2_server.specs.declared.handler.Reply.{Reply}
+use Rattle.h2_server.specs.declared.handler.Reply.TheVariants.{Whole, Refuse, Parts}
 use Rattle.h2_hosting.specs.declared.logged.Note.{Note}
 
 -- the octets of a method or a path that are noted: the first 1,024; none where no lines are written
@@ -38,12 +38,14 @@ head_status (field ∷ others) = status_of_digits field.value
 -- the status that an answer gives
 abbrev pub status_in : Reply → Option ℕ
 status_in (Whole message) = head_status message.head.items
+status_in (Refuse message) = head_status message.head.items
 status_in (Parts head) = head_status head.items
 status_in reply = None
 
 -- how many octets of a body an answer gives at once
 abbrev pub octets_at_once : Reply → ℕ
 octets_at_once (Whole message) = length message.body.items
+octets_at_once (Refuse message) = length message.body.items
 octets_at_once reply = 0
 
 -- a status, or else another one
@@ -53,7 +55,7 @@ status_or (Some status) other = Some status
 
 -- The status that is noted after an answer: its own, or the one before; of one that has failed, 500
 -- where there was none before.
--- rule: hosts (own) Of each request the log has what was answered
+-- rule: hosts (own) Of each request the log has what its handler gave
 abbrev pub status_after : Option ℕ → Result Reply HandlerFault → Option ℕ
 status_after status (Ok reply) = status_or (status_in reply) status
 status_after status (Err fault) = status_or status (Some 500)
@@ -63,20 +65,20 @@ abbrev pub more_octets : (octets more : ℕ) → ℕ
 more_octets octets more = min (2 ^ 64 - 1) (octets + more)
 
 -- how many octets of the body are noted after an answer
--- rule: hosts (own) Of each request the log has what was answered
+-- rule: hosts (own) Of each request the log has what its handler gave
 abbrev pub octets_after : ℕ → Result Reply HandlerFault → ℕ
 octets_after octets (Ok reply) = more_octets octets (octets_at_once reply)
 octets_after octets (Err fault) = octets
 
 -- how many octets of the body are noted after a part of an answer
--- rule: hosts (own) Of each request the log has what was answered
+-- rule: hosts (own) Of each request the log has what its handler gave
 abbrev pub octets_with_part : ℕ → Result Part HandlerFault → ℕ
 octets_with_part octets (Ok (Octets count)) = more_octets octets count
 octets_with_part octets (Ok (Last count)) = more_octets octets count
 octets_with_part octets part = octets
 
 -- What is noted of a request, with this head, that was answered so.
--- rule: hosts (own) Of each request the log has what was answered
+-- rule: hosts (own) Of each request the log has what its handler gave
 pub record IsNoted {W : Type 0} (is_noted : Bool) (list : List Field) (reply : Reply)
     (note : Note W) : Type 0 where
   pub method : note.method.items ≡ noted_of is_noted (value_in (codes ":method") list)
@@ -90,7 +92,7 @@ pub record KeepsRequest {W : Type 0} (old new : Note W) : Type 0 where
   pub path : new.path.items ≡ old.path.items
 
 -- What is noted after an answer to more of the request.
--- rule: hosts (own) Of each request the log has what was answered
+-- rule: hosts (own) Of each request the log has what its handler gave
 pub record NotesReply {W : Type 0} (old : Note W) (reply : Result Reply HandlerFault)
     (new : Note W) : Type 0 where
   pub request : KeepsRequest old new
@@ -98,7 +100,7 @@ pub record NotesReply {W : Type 0} (old : Note W) (reply : Result Reply HandlerF
   pub octets : new.octets ≡ octets_after old.octets reply
 
 -- What is noted after a part of an answer.
--- rule: hosts (own) Of each request the log has what was answered
+-- rule: hosts (own) Of each request the log has what its handler gave
 pub record CountsPart {W : Type 0} (old : Note W) (part : Result Part HandlerFault) (new : Note W)
     : Type 0 where
   pub request : KeepsRequest old new

@@ -5,18 +5,18 @@ use Rattle.h2_folder.specs.Answering.{AnswersRequest}
 use Rattle.h2_folder.specs.Parting.{GivesPart}
 use Rattle.h2_folder.specs.declared.answer.Answered.TheVariants as answered
 use Rattle.h2_folder.specs.declared.sending.Sending.{Sending}
-use Rattle.h2_handlers.specs.declared.handler.HandlerFault.{HandlerFault}
-use Rattle.h2_handlers.specs.declared.handler.HandlerFault.TheVariants.{Memory, Failed}
-use Rattle.h2_handlers.specs.declared.handler.Part.{Part}
-use Rattle.h2_handlers.specs.declared.handler.Part.TheVariants.{Octets, Last}
-use Rattle.h2_handlers.specs.declared.handler.Reply.{Reply}
-use Rattle.h2_handlers.specs.declared.handler.Reply.TheVariants.{Whole, Parts}
+use Rattle.h2_server.specs.declared.handler.HandlerFault.{HandlerFault}
+use Rattle.h2_server.specs.declared.handler.HandlerFault.TheVariants.{Memory, Failed}
+use Rattle.h2_server.specs.declared.handler.Part.{Part}
+use Rattle.h2_server.specs.declared.handler.Part.TheVariants.{Octets, Last}
+use Rattle.h2_server.specs.declared.handler.Reply.{Reply}
+use Rattle.h2_server.specs.declared.handler.Reply.TheVariants.{Refuse, Parts}
 
 -- The answer is the folder's: a whole message, or a head and a file under way.
 -- rule: hosts (own) A site answers as its folder does
 abbrev pub AnswersSite : {F : Type 0} → List Field
     → Result (Option (Sending F) × Reply) HandlerFault → Type 0
-AnswersSite {F} list (Ok (None, Whole message)) =
+AnswersSite {F} list (Ok (None, Refuse message)) =
     AnswersRequest {F = F} list (answered.Whole message)
 AnswersSite list (Ok (Some sending, Parts head)) =
     AnswersRequest list (answered.Parts head sending)

@@ -5,9 +5,8 @@ ghost use Rattle.std.specs.Prelude.{◌≡◌, ⊤, ℕ, Bool, IfOk, false, is_s
 ghost use Rattle.h2_hosting.specs.Guests.{IsTimeStep, WidensAfter};
 
 use crate::window::{Widened, Windows};
-use h2_handlers::Handler;
 use h2_host::{Answer, Own, Party};
-use h2_seat::Seat;
+use h2_server::{Connection, Handler};
 use std::alloc::{AllocError, Global};
 use std::cell::Cell;
 
@@ -17,21 +16,19 @@ pub trait Leaves {
     ghost leaves: { Self → Self → Type 0 } = { λ _ _. ⊤ };
 
     /// Begins a graceful shutdown: pending requests are still answered. If 65,536 octets of output
-    /// or more wait, or memory is refused, the connection fails at once with NO_ERROR, and pending
-    /// requests are not answered.
+    /// or more wait, or an allocation is refused, the connection fails at once with NO_ERROR, and
+    /// pending requests are not answered.
     fn leave(&mut self)
         ensures { leaves self.old self.new };
 }
 
-impl<W: Drop, H: Handler<Work = W>> Leaves for Seat<H, W> {
-    ghost use Rattle.h2_handlers.specs.Exchanges.{relations};
-    ghost use Rattle.h2_hosting.specs.Guests.{SeatLeaves};
+impl<H: Handler> Leaves for Connection<H> {
+    ghost use Rattle.h2_server.specs.Connections.{ConnectionLeaves};
 
-    ghost leaves = { λ old new.
-        SeatLeaves (relations H.heads H.bodies H.trails H.gives H.ends) old new };
+    ghost leaves = { λ old new. ConnectionLeaves H.Handler old new };
 
     fn leave(&mut self) {
-        Seat::leave(self);
+        Connection::leave(self);
     }
 }
 
@@ -43,7 +40,7 @@ pub trait Widens {
     /// Relates the states before and after [`Widens::widen`], with its number and its result.
     ghost widens: { Self → ℕ → Bool → Self → Type 0 } = { λ _ _ _ _. ⊤ };
 
-    /// Whether octets of bodies have come, and a request is incomplete.
+    /// Whether the connection is open, octets of bodies have come, and some request is incomplete.
     fn is_receiving(&self) -> bool
         ensures { receives self.now result };
 
@@ -53,41 +50,42 @@ pub trait Widens {
         ensures { widens self.old count result self.new };
 }
 
-impl<W: Drop, H: Handler<Work = W>> Widens for Seat<H, W> {
-    ghost use Rattle.h2_seat.specs.Seats.{SeatWidens, is_seat_receiving};
+impl<H: Handler> Widens for Connection<H> {
+    ghost use Rattle.h2_server.specs.Connections.{ConnectionWidens, is_open_and_receiving};
 
-    ghost receives = { λ seat result. result ≡ is_seat_receiving seat };
+    ghost receives = { λ connection result. result ≡ is_open_and_receiving connection };
 
-    ghost widens = { λ old count result new. SeatWidens old count result new };
+    ghost widens = { λ old count result new. ConnectionWidens old count result new };
 
     fn is_receiving(&self) -> bool {
-        Seat::is_receiving(self)
+        Connection::is_receiving(self)
     }
 
     fn widen(&mut self, count: u32) -> bool {
-        Seat::widen(self, count)
+        Connection::widen(self, count)
     }
 }
 
-/// A connection that shuts down at the next tick of its host's clock once `leaving` is set, and
-/// whose window is widened once, once octets of some body have come and some request is incomplete.
+/// A connection that begins a graceful shutdown at the next tick of its host's clock once the
+/// `leaving` of [`Guest::new`] is set. Its window is widened at most once, when octets of some
+/// body have come and some request is incomplete.
 #[derive(Drop)]
 pub struct Guest<'a, P> {
     /// The connection, in a box, since a host moves its connections at each step.
     party: Box<P>,
     /// Whether all connections are to shut down.
     leaving: &'a Cell<bool>,
-    /// Whether this one was asked to.
+    /// Whether this one was asked to shut down.
     asked: bool,
     /// The windows of all connections.
     windows: &'a Windows,
-    /// By what this one is widened, once it was asked for.
+    /// The octets by which this one was widened; `None` before that.
     widened: Option<Widened<'a>>,
 }
 
 impl<'a, P: Drop> Guest<'a, P> {
-    /// Wraps a connection, which shuts down once the cell is set, and is widened by what `windows`
-    /// has for it.
+    /// Wraps a connection, which begins a graceful shutdown once `leaving` is set. Its window is
+    /// widened as [`Windows::new`] says of `windows`.
     ///
     /// # Errors
     ///
@@ -126,9 +124,9 @@ impl<'a, P: Drop> Guest<'a, P> {
 
 impl<'a, P: Party + Widens> Guest<'a, P> {
     // rule: hosts (own) A connection is widened once, as a body comes, by what is left
-    /// After octets have come: if they are of a body of which more is to come, widens the
-    /// connection by what is left for it, unless that was done before. If it cannot be widened
-    /// now, what was left for it stays for others.
+    /// After octets have come: if [`Widens::is_receiving`] returns true, widens the connection by
+    /// what it lacks, unless that was done before. If too little is left, or the call is refused,
+    /// nothing is used up, and it may be widened later.
     fn widen_after(&mut self, own: Own)
         ensures asked { self.new.asked ≡ self.old.asked }
         ensures windows { self.new.windows ≡ self.old.windows }

@@ -3,9 +3,8 @@
 use crate::guest::Guest;
 use crate::journal::Journal;
 use crate::window::Windows;
-use h2_handlers::{Config, Handler};
 use h2_mio::Opens;
-use h2_seat::{Seat, SeatLimits};
+use h2_server::{Config, Connection, ConnectionLimits, Handler};
 use std::alloc::Global;
 use std::cell::Cell;
 use std::io::{self, Write};
@@ -30,7 +29,7 @@ pub struct Guests<'a, M, W> {
     /// The settings that each connection sends.
     pub config: Config,
     /// The limits of each connection.
-    pub limits: SeatLimits,
+    pub limits: ConnectionLimits,
     /// Whether all connections are to shut down.
     pub leaving: &'a Cell<bool>,
     /// The windows of all connections.
@@ -41,13 +40,17 @@ pub struct Guests<'a, M, W> {
     pub out: W,
 }
 
-impl<'a, H: Handler<Work = V>, V: Drop, M: Makes<H>, W: Write> Opens<Guest<'a, Seat<H, V>>>
-    for Guests<'a, M, W> {
-    fn open(&mut self, alloc: Global, now: u64, peer: SocketAddr) -> Option<Guest<'a, Seat<H, V>>> {
+impl<'a, H: Handler, M: Makes<H>, W: Write> Opens<Guest<'a, Connection<H>>> for Guests<'a, M, W> {
+    fn open(
+        &mut self,
+        alloc: Global,
+        now: u64,
+        peer: SocketAddr,
+    ) -> Option<Guest<'a, Connection<H>>> {
         let handler = self.makes.make(peer);
         // Out of memory: the peer may try again.
-        let seat = Seat::new(alloc, self.config, self.limits, now, handler).ok()?;
-        Guest::new(alloc, seat, self.leaving, self.windows).ok()
+        let connection = Connection::new(alloc, self.config, self.limits, now, handler).ok()?;
+        Guest::new(alloc, connection, self.leaving, self.windows).ok()
     }
 
     fn leave(&mut self) {

@@ -1,4 +1,4 @@
-//! Serves a port to many connections.
+//! Serves many connections at a port.
 
 ghost use Rattle.std.specs.Prelude.{◌≡◌, ◌≤◌, ◌*◌, is_some};
 ghost use Rattle.std.specs.Net.Socket.{socket_ip, socket_port};
@@ -12,10 +12,9 @@ use crate::site::Site;
 use h2_cli::{Failure, Hint, Status, write_hint};
 use h2_folder::{Folder, Recent};
 use h2_frame::limits::{FIRST_TABLE, LEAST_MAX_STREAMS};
-use h2_handlers::{Config, Echo, Gather};
 use h2_host::Limits;
 use h2_mio::Place;
-use h2_seat::SeatLimits;
+use h2_server::{Buffered, Config, ConnectionLimits, Echo};
 use std::alloc::Global;
 use std::fs::{self, Files};
 use std::io::{self, ErrorKind, Write};
@@ -43,7 +42,7 @@ pub struct HostOptions<'a> {
     pub idle: u64,
     /// Whether a line is printed for each request.
     pub log: bool,
-    /// Whether the host shuts down gracefully once standard input is closed.
+    /// Whether the host shuts down gracefully once standard input, a pipe, is closed.
     pub until_closed: bool,
     /// The window of each stream, and of a connection once a body comes, in octets, from 1 to
     /// 2,147,483,647: see [`HostSettings::config`].
@@ -58,14 +57,14 @@ struct Echoes<'a, 'j, R> {
     alloc: Global,
 }
 
-impl<'a, 'j, R> Makes<Logged<'a, R, &'j Journal, Gather<Echo>>> for Echoes<'a, 'j, R> {
-    fn make(&self, peer: SocketAddr) -> Logged<'a, R, &'j Journal, Gather<Echo>> {
+impl<'a, 'j, R> Makes<Logged<'a, R, &'j Journal, Buffered<Echo>>> for Echoes<'a, 'j, R> {
+    fn make(&self, peer: SocketAddr) -> Logged<'a, R, &'j Journal, Buffered<Echo>> {
         Logged {
             clock: self.rt,
             journal: self.journal,
             alloc: self.alloc,
             peer,
-            handler: Gather::new(Echo, MOST_BODY),
+            handler: Buffered::new(Echo, MOST_BODY),
             lost: 0,
         }
     }
@@ -121,11 +120,12 @@ impl<'a, 'j, R> Makes<Logged<'a, R, &'j Journal, Site<'a, R>>> for Sites<'a, 'j,
 
 // contract: hosts (own) A host ends with one of three statuses
 // rule: hosts (own) A host ends with one of three statuses
-/// Serves a port to many connections at once, until an error, or until standard input is closed
-/// if `until_closed` is set. Returns the exit status.
+/// Serves many connections at once at a port, until an error ends the host, or, if `until_closed`
+/// is set, until standard input is closed. Returns the exit status.
 ///
-/// Requests are answered with files of `root`, or echoed if there is none. If the port or the
-/// folder is not available, or the loop fails, the reason is printed on `err`.
+/// Requests are answered with files of `root`, or echoed if that is `None`. Log lines are printed
+/// on `out`. If the port or the folder is not available, or the loop fails, the reason is printed
+/// on `err`.
 pub fn host_port<'x, R: Net + Files + Clock, W: Write, E: Write>(
     rt: &'x R,
     alloc: Global,
@@ -159,7 +159,7 @@ fn serve_asked<'x, R: Net + Files + Clock, W: Write>(
     let settings = HostSettings {
         place: place_of(options),
         config: config_of(options.window),
-        limits: seat_limits(options.idle),
+        limits: connection_limits(options.idle),
     };
     match options.root {
         Some(root) => {
@@ -185,7 +185,7 @@ fn journal_if<'j>(journal: &'j Journal, log: bool) -> Option<&'j Journal>
     if log { Some(journal) } else { None }
 }
 
-/// Fails unless the folder exists.
+/// Fails unless there is a folder with this path.
 fn is_folder<R: Files>(rt: &R, root: &str) -> io::Result<()> {
     let known = fs::metadata(rt, root)?;
     if known.is_dir() {
@@ -213,17 +213,17 @@ fn place_of(options: HostOptions<'_>) -> Place
 
 // contract: hosts (own) The options of a host say what is served, where, and for how long
 /// The default limits of a connection, with this idle time in seconds.
-fn seat_limits(idle: u64) -> SeatLimits
+fn connection_limits(idle: u64) -> ConnectionLimits
     ensures { result.times.idle ≡ in_milliseconds idle }
 {
-    let mut limits = SeatLimits::default();
+    let mut limits = ConnectionLimits::default();
     limits.times.idle = idle.saturating_mul(1_000);
     limits
 }
 
 // contract: hosts (own) The options of a host say what is served, where, and for how long
 /// The default limits of a host, with this maximum number of connections. A connection may hold
-/// twice the window at least, so that one full window ends none.
+/// at least twice the window, so that one full window does not end it.
 fn host_limits(connections: usize, window: u32) -> Limits
     ensures connections { result.connections ≡ connections }
     ensures held { window * 2 ≤ result.held }
@@ -303,7 +303,7 @@ fn hint_of_port(kind: ErrorKind) -> Option<Hint>
     }
 }
 
-/// Prints on standard error why the host ends, and a hint, and returns the status.
+/// Prints on `err` why the host ends, and the hint if there is one, and returns the status.
 fn give_up<E: Write>(error: &io::Error, hint: Option<Hint>, err: &mut E) -> Status
     ensures { IsFailedHost result }
 {

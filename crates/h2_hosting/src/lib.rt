@@ -1,8 +1,9 @@
-//! Serves a folder, or echoes requests, on many connections, as `h2 host` does.
+//! Serves many connections at once, over sockets: a folder or an echo, as `h2 host` does, or with
+//! any other handler.
 //!
 //! [`host_port`] runs the loop over sockets, a [`Driver`](h2_mio::Driver) of `h2_mio`, whose
-//! connections are [`Guest`]s. Each holds a [`Seat`](h2_seat::Seat) of `h2_seat`: a server with its
-//! handler and its time limits. The handler is a [`Logged`], which wraps a [`Site`] or an echo.
+//! connections are [`Guest`]s. Each holds a [`Connection`](h2_server::Connection) with its handler
+//! and its limits. The handler is a [`Logged`], which wraps a [`Site`] or an echo.
 //! [`host_handlers`] serves with any other handler.
 #![tactic(auto)]
 
@@ -18,11 +19,9 @@ mod window;
 
 pub use guest::{Guest, Leaves, Widens};
 pub use guests::{Guests, Makes};
-pub use h2_handlers::Config;
 pub use h2_host::Limits;
 pub use h2_mio::Place;
-pub use h2_seat::SeatLimits;
-pub use h2_times::{FloodLimits, TimeLimits};
+pub use h2_server::{Config, ConnectionLimits, FloodLimits, TimeLimits};
 pub use hosting::{HostOptions, host_port};
 pub use journal::{Journal, TakesLines};
 pub use logged::{Logged, Note};

@@ -8,12 +8,16 @@ ghost use Rattle.h2_hosting.specs.Logging.{AddsLine, IsNoteLine, WritesLine};
 use crate::journal::TakesLines;
 use crate::note::{noted, octets_after, octets_at_once, octets_with_part, status_after, status_in};
 use h2_folder::{LogEntry, log_line, value_in};
-use h2_handlers::{Cause, FieldList, Handler, HandlerFault, Part, Reply};
+use h2_server::{Cause, FieldList, Handler, HandlerFault, Part, Reply, ResponseFault};
 use std::alloc::{AllocError, Global};
 use std::net::SocketAddr;
 use std::time::Clock;
 
-/// A handler that logs each exchange when it is over, if there is a journal.
+/// A handler that, if there is a journal, logs each exchange once its `over` is called. The line
+/// has the status that `handler` gave, and the length of the body that it gave. So a body to HEAD
+/// counts, though it is not sent; and where the client gets status 500 in place of a bad response,
+/// the line has the status of the bad response. If `handler` failed in `body` or `trailers` before
+/// it gave a status, the line has 500. An exchange whose `head` failed has no line.
 #[derive(Drop)]
 pub struct Logged<'a, R, J, H> {
     /// The clock.
@@ -22,11 +26,11 @@ pub struct Logged<'a, R, J, H> {
     pub journal: Option<J>,
     /// The allocator.
     pub alloc: Global,
-    /// The peer.
+    /// The peer's address.
     pub peer: SocketAddr,
     /// The handler that answers.
     pub handler: H,
-    /// The number of lines lost because memory was refused.
+    /// The number of lines lost because an allocation was refused.
     pub lost: u64,
 }
 
@@ -44,7 +48,7 @@ pub struct Note<W> {
 impl<'a, R: Clock, J: TakesLines + Drop, H: Drop> Logged<'a, R, J, H> {
     // contract: hosts (own) Each request that has ended has one line in the log
     // rule: hosts (own) Each request that has ended has one line in the log
-    /// Logs an exchange that is over; its line is lost if memory is refused.
+    /// Logs an exchange that is over; its line is lost if an allocation is refused.
     fn write_down<W: Drop>(&mut self, note: &Note<W>)
         ensures line { WritesLine J.lines_of (socket_ip self.old.peer) note.now self.old.journal
             self.new.journal self.old.lost self.new.lost }
@@ -193,6 +197,10 @@ impl<'a, R: Clock, J: TakesLines + Drop, W: Drop, H: Handler<Work = W>> Handler
 
     fn unused(&self, work: &Note<W>) -> u32 {
         self.handler.unused(&work.work)
+    }
+
+    fn fault(&self, id: u32, fault: ResponseFault) {
+        self.handler.fault(id, fault);
     }
 
     fn over(&mut self, work: Note<W>, cause: Cause) {

@@ -5,10 +5,10 @@ ghost use Rattle.h2_hosting.specs.Noting.{digit_of, noted_of, three_digits, octe
 ghost use Rattle.h2_hosting.specs.Noting.{octets_with_part, octets_at_once};
 ghost use Rattle.h2_hosting.specs.Noting.{status_after, status_in, head_status, status_of_digits};
 
-use h2_handlers::{Field, HandlerFault, Part, Reply};
+use h2_server::{Field, HandlerFault, Part, Reply};
 use std::alloc::{AllocError, Global};
 
-/// The number of octets of a method and of a path that are logged.
+/// The maximum number of octets logged of a method, and of a path.
 const MOST_NOTED: usize = 1_024;
 
 /// The octets logged of a method or a path; none if there is no log.
@@ -22,8 +22,8 @@ pub(crate) fn noted(alloc: Global, octets: &[u8], is_noted: bool) -> Result<Vec<
     Vec::from_slice(alloc, &octets[..most])
 }
 
-// contract: hosts (own) Of each request the log has what was answered
-// rule: hosts (own) Of each request the log has what was answered
+// contract: hosts (own) Of each request the log has what its handler gave
+// rule: hosts (own) Of each request the log has what its handler gave
 /// The status logged after a reply.
 pub(crate) fn status_after(status: Option<u16>, reply: &Result<Reply, HandlerFault>) -> Option<u16>
     ensures { result ≡ status_after status reply.now }
@@ -50,8 +50,8 @@ pub(crate) fn octets_after(octets: u64, reply: &Result<Reply, HandlerFault>) -> 
     }
 }
 
-// contract: hosts (own) Of each request the log has what was answered
-// rule: hosts (own) Of each request the log has what was answered
+// contract: hosts (own) Of each request the log has what its handler gave
+// rule: hosts (own) Of each request the log has what its handler gave
 /// The number of octets logged after a part of a response.
 pub(crate) fn octets_with_part(octets: u64, part: &Result<Part, HandlerFault>) -> u64
     ensures { result ≡ octets_with_part octets part.now }
@@ -67,7 +67,7 @@ pub(crate) fn status_in(reply: &Reply) -> Option<u16>
     ensures { result ≡ status_in reply.now }
 {
     match reply {
-        Reply::Whole(message) => head_status(&message.head),
+        Reply::Whole(message) | Reply::Refuse(message) => head_status(&message.head),
         Reply::Parts(head) => head_status(head),
         Reply::Later | Reply::Reset(_) => None,
     }
@@ -78,7 +78,7 @@ pub(crate) fn octets_at_once(reply: &Reply) -> u64
     ensures { result ≡ octets_at_once reply.now }
 {
     match reply {
-        Reply::Whole(message) => message.body.len() as u64,
+        Reply::Whole(message) | Reply::Refuse(message) => message.body.len() as u64,
         _ => 0,
     }
 }

@@ -6,9 +6,8 @@ use crate::guest::Guest;
 use crate::guests::{Guests, Makes};
 use crate::journal::Journal;
 use crate::window::Windows;
-use h2_handlers::{Config, Handler};
 use h2_mio::{Driver, Place};
-use h2_seat::{Seat, SeatLimits};
+use h2_server::{Config, Connection, ConnectionLimits, Handler};
 use std::alloc::Global;
 use std::cell::Cell;
 use std::io::{self, Write};
@@ -25,26 +24,27 @@ pub struct HostSettings {
     /// the connection's window is widened to it once octets of some body have come and some request
     /// is incomplete, but to at most half of what the connection may hold. All connections together
     /// are widened by at most half of what all may hold. While too little of that is left for a
-    /// connection, it is not widened; this is tried again each time octets come.
+    /// connection, or the call to widen it is refused, its window stays at 65,535 octets, and the
+    /// host tries to widen it again each time octets come.
     pub config: Config,
     /// The time limits and flood limits of each connection; one that exceeds them is ended.
-    pub limits: SeatLimits,
+    pub limits: ConnectionLimits,
 }
 
 /// Serves many connections at once, in this thread, each with a handler made by `makes`. If
 /// `until_closed` of `place` is set, closing standard input, a pipe, begins a graceful shutdown:
-/// pending responses are sent, within [`SeatLimits::closing`](h2_seat::SeatLimits), and then the
-/// call returns. Otherwise it returns only with an error, or after 2^64 - 1 rounds.
+/// pending responses are sent, within [`ConnectionLimits::closing`], and then the call returns.
+/// Otherwise it returns only with an error, or after 2^64 - 1 rounds.
 ///
 /// All handlers are called in this thread, so a handler that blocks stops all connections.
 ///
 /// # Errors
 ///
 /// The address is not available, standard input cannot be polled (it is a file, for example)
-/// though `until_closed` is set, the clock or the wait for sockets failed, or memory for the host
-/// itself was refused. An error of one connection, refused memory included, ends only that
-/// connection.
-pub fn host_handlers<R, V, H, M>(
+/// though `until_closed` is set, the clock or the wait for sockets failed, or an allocation for
+/// the host itself was refused. An error of one connection, a refused allocation included, ends
+/// only that connection.
+pub fn host_handlers<R, H, M>(
     rt: &R,
     alloc: Global,
     settings: HostSettings,
@@ -52,8 +52,7 @@ pub fn host_handlers<R, V, H, M>(
 ) -> io::Result<()>
 where
     R: Net + Clock,
-    V: Drop,
-    H: Handler<Work = V>,
+    H: Handler,
     M: Makes<H> + Drop,
 {
     let journal = Journal::new(alloc);
@@ -76,8 +75,8 @@ fn windows_of(settings: &HostSettings) -> Windows
     )
 }
 
-/// As [`host_handlers`], and writes the lines of a journal.
-pub(crate) fn serve<R, V, H, M, W>(
+/// Serves as [`host_handlers`] does, and writes the lines of a journal to `out`.
+pub(crate) fn serve<R, H, M, W>(
     rt: &R,
     alloc: Global,
     settings: HostSettings,
@@ -87,8 +86,7 @@ pub(crate) fn serve<R, V, H, M, W>(
 ) -> io::Result<()>
 where
     R: Net + Clock,
-    V: Drop,
-    H: Handler<Work = V>,
+    H: Handler,
     M: Makes<H> + Drop,
     W: Write,
 {
@@ -104,6 +102,6 @@ where
         journal,
         out,
     };
-    let mut driver: Driver<Guest<'_, Seat<H, V>>> = Driver::open(rt, alloc, settings.place)?;
+    let mut driver: Driver<Guest<'_, Connection<H>>> = Driver::open(rt, alloc, settings.place)?;
     driver.run(rt, &mut guests)
 }

@@ -1,11 +1,11 @@
 //! The handler of a folder.
 
 ghost use Rattle.std.specs.Prelude.{◌≡◌, length};
-ghost use Rattle.h2_handlers.specs.Parts.{FitsPart};
+ghost use Rattle.h2_server.specs.Parts.{FitsPart};
 ghost use Rattle.h2_hosting.specs.Serving.{GivesSending};
 
 use h2_folder::{Answered, Folder, Sending};
-use h2_handlers::{Cause, FieldList, Handler, HandlerFault, Part, Reply};
+use h2_server::{Cause, FieldList, Handler, HandlerFault, Part, Reply};
 use std::alloc::Global;
 use std::fs::Files;
 use std::io::{Read, Seek};
@@ -20,7 +20,7 @@ pub struct Site<'a, R> {
 
 impl<'a, R: Files + Clock> Handler for Site<'a, R> {
     ghost use Rattle.std.specs.Prelude.{◌≡◌, Ok};
-    ghost use Rattle.h2_handlers.specs.declared.handler.Reply.TheVariants as replies;
+    ghost use Rattle.h2_server.specs.declared.handler.Reply.TheVariants as replies;
     ghost use Rattle.h2_hosting.specs.Serving.{AnswersSite, GivesSite};
 
     type Work = Option<Sending<R::File>>;
@@ -47,7 +47,8 @@ impl<'a, R: Files + Clock> Handler for Site<'a, R> {
         _end: bool,
     ) -> Result<(Option<Sending<R::File>>, Reply), HandlerFault> {
         match self.folder.answer(alloc, list)? {
-            Answered::Whole(message) => Ok((None, Reply::Whole(message))),
+            // The body of a request is not wanted.
+            Answered::Whole(message) => Ok((None, Reply::Refuse(message))),
             Answered::Parts(head, sending) => Ok((Some(sending), Reply::Parts(head))),
         }
     }
@@ -81,14 +82,6 @@ impl<'a, R: Files + Clock> Handler for Site<'a, R> {
             Some(sending) => part_of(sending, room),
             None => Err(HandlerFault::Failed),
         }
-    }
-
-    fn held(&self, _work: &Option<Sending<R::File>>) -> usize {
-        0
-    }
-
-    fn unused(&self, _work: &Option<Sending<R::File>>) -> u32 {
-        0
     }
 
     fn over(&mut self, _work: Option<Sending<R::File>>, _cause: Cause) {}

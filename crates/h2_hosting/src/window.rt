@@ -15,9 +15,9 @@ pub struct Windows {
 }
 
 impl Windows {
-    /// Creates one that widens each connection to `window` octets, as long as all connections
-    /// together are widened by at most `most`; a connection for which less is left than it lacks is
-    /// not widened for now.
+    /// Creates the windows of a host: that of each connection may be widened to `window` octets,
+    /// and those of all connections together by at most `most` octets. If fewer octets are left
+    /// than a connection lacks, it is not widened for now.
     pub fn new(window: u32, most: u64) -> Windows
         ensures { result.window ≡ window }
     {
@@ -54,7 +54,7 @@ fn share_of(window: u32, left: u64) -> u32
     }
 }
 
-/// The octets by which a connection is widened. Dropped with it, they are left for others.
+/// The octets by which a connection is widened. Once this is dropped, they are left for others.
 pub(crate) struct Widened<'a> {
     windows: &'a Windows,
     count: u32,

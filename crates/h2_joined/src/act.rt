@@ -151,11 +151,11 @@ pub enum Acted {
     Refused(EndRefusal),
     /// The end failed with this code while `Deliver` gave it octets, or had failed before.
     Failed(Code),
-    /// Memory was refused. If the act is `Request`, `Respond`, `Begin`, `BeginResponse`, `SendBody`
-    /// or `SendTrailers`, there was no memory to keep what it is given, and nothing has changed. If
-    /// it is `Deliver`, there was no memory for the event that the next call of `take` might
-    /// return, and it stopped before that call: the octets that were used are off the pipe, their
-    /// events are kept, and the same `Deliver`, performed again, continues from there. `Deliver`
-    /// would also stop after 2^64 - 1 calls of `take`, which is not expected.
+    /// Memory was refused. If the act is `Request`, `Respond`, `Begin`, `BeginResponse`,
+    /// `SendBody` or `SendTrailers`, there was no memory to keep what it is given, and nothing has
+    /// changed. If it is `Deliver`, there was no memory for the event that the next call of `take`
+    /// might return, and it stopped before that call: the octets that were used are off the pipe,
+    /// their events are kept, and another `Deliver` continues from there. `Deliver` would also
+    /// stop after 2^64 - 1 calls of `take`, which is not expected.
     Memory,
 }

@@ -64,8 +64,8 @@ impl Joined {
     /// Before each call of `take`, a delivery reserves memory for the largest event that the call
     /// can return. If that memory is refused, the delivery stops before the call, with
     /// [`Acted::Memory`] as its result. Then the octets that were used are off the pipe, their
-    /// events are kept, and the same act continues from there. All octets of a delivery during
-    /// which the end fails are off the pipe; to an end that has failed none are delivered.
+    /// events are kept, and another `Deliver` continues from there. All octets of a delivery
+    /// during which the end fails are off the pipe; to an end that has failed none are delivered.
     pub fn act(&mut self, act: &JointAct) -> Acted
         ensures { MakesAct self.old (made_of act.now result) self.new }
     {
@@ -135,8 +135,8 @@ impl Joined {
     }
 
     // contract: joined (own) Accepted messages, what was handed out, octets on a pipe are kept
-    /// Returns what an end has accepted: one message for each stream, in the order of their
-    /// first calls.
+    /// Returns what an end has accepted: one message for each stream, in the order in which the
+    /// messages were sent or begun.
     pub fn accepted(&self, side: Side) -> &[Accepted]
         ensures { result.now ≡ (kept_of side self.now).accepted.items }
     {

@@ -122,7 +122,7 @@ impl Kept {
 pub struct Accepted {
     /// The stream.
     pub id: u32,
-    /// The message; of one that was begun, what was accepted of it so far.
+    /// The message; if it was begun, what was accepted of it so far.
     pub message: Message,
     /// Whether more of it may follow.
     pub begun: bool,

@@ -17,10 +17,10 @@ ghost use Rattle.h2_joined.specs.Joints.{NoneWasEnded};
 ghost use Rattle.h2_joined.specs.Headline.{AreQuiet, WasResetIn, ReportsNoFault, HoldsTheRest};
 
 // contract: joined (own) What one end has handed out is a prefix of what the other accepted
-/// Two joined ends with their pipes are a pair, so all laws of pairs hold of their octets, header
-/// tables and windows. If no connection has failed for want of memory and no
-/// [`JointAct::Fail`](crate::JointAct::Fail) was made, the pair is undisturbed (`docs/PAIR.md`), so
-/// the laws of undisturbed pairs hold too.
+/// Two joined ends with their pipes are a pair (`docs/PAIR.md`), so all laws of pairs hold of
+/// their octets, header tables and windows. If no connection has failed for lack of memory and no
+/// [`JointAct::Fail`](crate::JointAct::Fail) was made, the pair is undisturbed, so the laws of
+/// undisturbed pairs hold too.
 pub fn joined_ends_are_a_pair()
     ensures { (client_values server_values : Values) (made : List Made)
         (client server : JointEnd) → IsJoint client_values server_values made client server
@@ -30,9 +30,9 @@ pub fn joined_ends_are_a_pair()
         → IsUndisturbed pair) }
 {}
 
-/// What an end has handed out on a stream is a prefix of what the other has accepted for it,
-/// part by part, where interim heads, the head and the trailers are distinguished. This holds
-/// after faults, refusals and resets too.
+/// What an end has handed out on a stream is a prefix of what the other has accepted for it, token
+/// by token: an interim head, the head, an octet of the body, the trailers and the end are
+/// different tokens. This holds after faults, refusals and resets too.
 pub fn handed_out_is_a_prefix()
     ensures at_server { (client_values server_values : Values) (made : List Made)
         (client server : JointEnd) (i : ℕ)
@@ -46,9 +46,9 @@ pub fn handed_out_is_a_prefix()
         (parts_said (said_for i server.happened.accepted)) }
 {}
 
-/// If no connection has failed for want of memory and no [`JointAct::Fail`](crate::JointAct::Fail)
-/// was made, neither end reports a fault: its connection has not failed, it has handed out no reset
-/// of its own, and each stream that it reports as reset by the peer was reset by a
+/// If no connection has failed for lack of memory and no [`JointAct::Fail`](crate::JointAct::Fail)
+/// was made, neither end reports a fault: no connection has failed, no end has handed out a reset
+/// of its own, and each stream that an end reports as reset by the peer was reset by a
 /// [`JointAct::Reset`](crate::JointAct::Reset) made at the peer.
 pub fn no_fault_is_reported()
     ensures at_client { (client_values server_values : Values) (made : List Made)
@@ -90,9 +90,9 @@ pub fn quiet_ends_hold_nothing()
 {}
 
 // contract: joined (own) The header tables of joined ends agree, no window is lost
-/// The header tables are in step, whatever settings change: after the field blocks under way the
-/// reader's table is the writer's, and each of those blocks decodes to the list that the writer was
-/// given (RFC 9113, section 4.3).
+/// The header tables are in step, whatever settings change: once the reader has decoded the field
+/// blocks under way, its table is the writer's, and each of those blocks decodes to the list that
+/// the writer was given (RFC 9113, section 4.3).
 pub fn header_tables_are_in_step()
     ensures to_server { (client_values server_values : Values) (made : List Made)
         (client server : JointEnd) (way : List Item)
@@ -108,9 +108,9 @@ pub fn header_tables_are_in_step()
 
 // contract: joined (own) The header tables of joined ends agree, no window is lost
 /// Nothing of the connection's window is lost, as long as the reader has not failed: what the
-/// writer may send, the DATA under way, the increments under way, and what the reader owes or has
-/// not returned add up to 65,535 octets and what the reader widened the window by (RFC 9113,
-/// section 6.9).
+/// writer may send, the DATA under way, the increments on their way back, and what the reader owes
+/// or has not returned add up to 65,535 octets plus what the reader widened the window by (RFC
+/// 9113, section 6.9).
 pub fn connection_windows_are_conserved()
     ensures to_server { (client_values server_values : Values) (made : List Made)
         (client server : JointEnd) (way back : List Item) (bound : ℕ)
@@ -131,10 +131,11 @@ pub fn connection_windows_are_conserved()
 {}
 
 // contract: joined (own) What slow readers hold of the window is all that others lack
-/// Slow readers hold all that is missing from the connection's window, as long as the reader has
-/// not failed: once nothing is under way and no credit is still to be returned to that window, what
-/// the writer may send on the connection and what the reader owes on its streams add up to 65,535
-/// octets and what the reader widened the window by (RFC 9113, section 6.9).
+/// What the reader has not released is all that is missing from the connection's window, as long
+/// as the reader has not failed. Once nothing is under way in either direction and the reader has
+/// no credit due ([`Conn::due`](h2_ends::Conn::due)), what the writer may send on the connection
+/// and what the reader owes on its streams add up to 65,535 octets plus what the reader widened
+/// the window by (RFC 9113, section 6.9).
 pub fn held_credit()
     ensures to_server { (client_values server_values : Values) (made : List Made)
         (client server : JointEnd) (bound : ℕ)
@@ -156,8 +157,9 @@ pub fn held_credit()
 
 /// Nothing of a stream's window is lost, whatever settings change, while the stream is active at
 /// the writer, and the reader has neither closed it nor read its end: what the writer may send on
-/// it, its DATA under way, the increments under way, and what the reader owes add up to the initial
-/// window that the writer has received last (RFC 9113, section 6.9.2).
+/// it, its DATA under way, the increments on their way back, and what the reader owes on it add up
+/// to the last SETTINGS_INITIAL_WINDOW_SIZE that the writer has received, 65,535 if none (RFC
+/// 9113, section 6.9.2).
 pub fn stream_windows_are_conserved()
     ensures to_server { (client_values server_values : Values) (made : List Made)
         (client server : JointEnd) (way back : List Item) (i : ℕ)

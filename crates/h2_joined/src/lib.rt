@@ -1,5 +1,5 @@
-//! A client and a server joined by two pipes in memory, for tests of a program over HTTP/2
-//! without sockets (RFC 9113).
+//! A client and a server joined by two pipes in memory, for tests, without sockets, of a program
+//! that uses HTTP/2 (RFC 9113).
 //!
 //! [`Joined::act`] performs an act: a call of either end, or moving octets from an end's output to
 //! the pipe that leads to the other end, or delivering octets from a pipe. [`run`] performs a whole

@@ -15,15 +15,16 @@ use std::alloc::{AllocError, Global};
 
 // contract: joined (own) What one end has handed out is a prefix of what the other accepted
 /// What each of two joined ends has handed out on a stream is a prefix of what the other has
-/// accepted for it, whatever acts were made: the main law of this library. If no connection has
-/// failed for want of memory and no [`JointAct::Fail`] was made, neither end reports a fault. No
-/// DATA of either end has passed its windows, as `h2_laws_end::no_data_passes_windows` says of one
-/// end. Once the pair is quiet ([`Joined::quiet`]), all that was accepted was handed out, on every
-/// stream that was neither reset nor reported as unprocessed.
+/// accepted for it, whatever acts were made. This is the main law of this library. If no
+/// connection has failed for lack of memory and no [`JointAct::Fail`] was made, neither end
+/// reports a fault. No DATA of either end exceeds the windows of its stream and of the connection,
+/// as `h2_laws_end::no_data_passes_windows` says of one end. Once the pair is quiet
+/// ([`Joined::quiet`]), all that was accepted was handed out, on every stream that was neither
+/// reset nor reported as unprocessed.
 ///
 /// For any other peer, the contracts of [`Conn::take`](h2_ends::Conn::take),
 /// [`Client::take`](h2_ends::Client::take) and [`Server::take`](h2_ends::Server::take) say what
-/// its octets give.
+/// `take` returns for its octets.
 pub fn headline()
     ensures { (client_values server_values : Values) (joined : types.Joined) (made : List Made)
         (client server : JointEnd)
@@ -33,10 +34,10 @@ pub fn headline()
 
 // contract: joined (own) What one end has handed out is a prefix of what the other accepted
 // rule: joined (own) What one end has handed out is a prefix of what the other accepted
-/// Makes the acts, in order, on a new client and a new server, of which [`headline`] then
-/// holds. An act that is refused for another reason than [`Refusal::Memory`] (C12) is no error,
-/// and the next one is made. Nor is it an error if a connection fails with INTERNAL_ERROR because
-/// memory was refused while it took octets: see [`Conn::failed`](h2_ends::Conn::failed).
+/// Performs the acts, in order, on a new client and a new server; [`headline`] holds for the
+/// result. An act that is refused for a reason other than [`Refusal::Memory`] (C12) is no error,
+/// and the next one is performed. Nor is it an error if a connection fails with INTERNAL_ERROR
+/// because memory was refused while it took octets: see [`Conn::failed`](h2_ends::Conn::failed).
 ///
 /// # Errors
 ///
@@ -57,13 +58,14 @@ pub fn run(
 
 impl Joined {
     // contract: joined (own) An act is the call of its name at its end
-    /// Makes the acts, in order. An act that is refused for another reason than
-    /// [`Refusal::Memory`] (C12) is no error, and the next one is made.
+    /// Performs the acts, in order. An act that is refused for a reason other than
+    /// [`Refusal::Memory`] (C12) is no error, and the next one is performed.
     ///
     /// # Errors
     ///
     /// [`AllocError`] where an act returned [`Acted::Memory`], or was refused with
-    /// [`Refusal::Memory`] (C12). The acts up to that one were made, and no other.
+    /// [`Refusal::Memory`] (C12). The acts up to and including that one were performed, and no
+    /// other.
     pub fn act_all(&mut self, acts: &[JointAct]) -> Result<(), AllocError>
         ensures ok { OnOk result (MakesAll self.old acts.now self.new) }
         ensures err { OnErr result (StopsAtAct self.old acts.now self.new) }

@@ -12,7 +12,8 @@ use thiserror::Error;
 /// Why a connection over a link ended before its work was done.
 #[derive(Clone, Copy, Debug, PartialEq, Eq, Hash, Error)]
 pub enum LinkError {
-    /// N1: a read or a write of the link failed.
+    /// N1: a read or a write of the link failed; or another I/O call did, such as one that makes a
+    /// TCP connection.
     #[error("N1 Device")]
     Device,
     /// N2: the connection failed with this code (RFC 9113, section 7); or, with
@@ -25,17 +26,18 @@ pub enum LinkError {
     /// N4: the input ended inside the preface or a frame, or while a stream was active.
     #[error("N4 CutOff")]
     CutOff,
-    /// N5: a write took nothing; or a call was refused for a reason other than memory; or 2^64 - 1
-    /// rounds or 2^32 - 1 responses were counted; or `Fetcher::into_fetched` was called before the
-    /// response was complete.
+    /// N5: a write took nothing; or the end refused a call for a reason that is neither N3 nor N7;
+    /// or 2^64 - 1 rounds or 2^32 - 1 responses were counted; or `Fetcher::into_fetched` was
+    /// called before the response was complete.
     #[error("N5 NoProgress")]
     NoProgress,
-    /// N6: the stream of the request was reset with this code (section 6.4); REFUSED_STREAM also
-    /// where the server has not processed it (section 6.8).
+    /// N6: the stream of the request was reset with this code (RFC 9113, section 6.4). The code is
+    /// REFUSED_STREAM also where a GOAWAY says that the server did not process the request
+    /// (section 6.8).
     #[error("N6 Reset {0}")]
     Reset(u32),
-    /// N7: the request breaks a rule (E1), or its head or its trailers are larger than 65,536
-    /// octets (C10).
+    /// N7: the request breaks a rule of messages (E1), or its head or its trailers are larger than
+    /// 65,536 octets, with 32 counted for each field (C10).
     #[error("N7 Refused")]
     Refused,
 }

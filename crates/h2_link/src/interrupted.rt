@@ -5,8 +5,8 @@ ghost use Rattle.std.specs.Io.KnownBytes.{Appends, Consumes, IsAtEnd, Keeps};
 
 use std::io::{self, ErrorKind, Read, Write};
 
-/// Reads once, repeating a read that a signal interrupted. Returns how many octets were read; 0 is
-/// the end.
+/// Reads once, repeating a read that a signal interrupted. Returns how many octets were read. 0 is
+/// the end of the input, if the buffer has room.
 ///
 /// # Errors
 ///

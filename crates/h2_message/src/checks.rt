@@ -86,14 +86,14 @@ fn broken_by_request(message: &Message) -> Option<Malformed>
 // contract: 8.1.1 A body of an own answer to HEAD, 204 or 304 breaks M11
 // contract: 8.1 M1, M2, M3 and M10 hold of trailers
 // contract: 8.6 Status 101 breaks M9, sent or read: HTTP/2 has no upgrade
-/// Checks that a response to be sent breaks no rule; `to_head` says that it answers HEAD. It
+/// Checks that a response to be sent breaks no rule; `to_head` says whether it answers HEAD. It
 /// takes no memory.
 ///
 /// # Errors
 ///
-/// The first of M1 to M6 and M9 to M11 ([`Malformed`]) that it breaks. M9 refuses interim
-/// statuses too, and M11 a body in a response that has none (to HEAD, 204 and 304; RFC 9110,
-/// section 6.4.1).
+/// The first of M1 to M6 and M9 to M11 ([`Malformed`]) that it breaks. M9 refuses interim statuses
+/// too, and M11 any body in a response to HEAD or with the status 204 or 304 (RFC 9110, section
+/// 6.4.1).
 pub fn check_response(message: &Message, to_head: bool) -> Result<(), Malformed>
     ensures ok { OnOk result (broken_by_response to_head (message_value message.now) ≡ None) }
     ensures err { IfErr result (λ rule. broken_by_response to_head (message_value message.now)

@@ -21,26 +21,28 @@ pub enum Malformed {
     /// M5: a pseudo-header field occurs twice (section 8.3).
     #[error("M5 PseudoTwice: a pseudo-header field occurs twice")]
     PseudoTwice,
-    /// M6: a request lacks `:method`, `:scheme` or `:path`, or a response `:status` (sections
-    /// 8.3.1 and 8.3.2).
+    /// M6: a request lacks `:method`, `:scheme` or `:path`, or a response lacks `:status`
+    /// (sections 8.3.1 and 8.3.2).
     #[error("M6 PseudoMissing: a required pseudo-header field is missing")]
     PseudoMissing,
-    /// M7: the method is not a token (RFC 9110, section 9.1), or is CONNECT.
+    /// M7: the method is not a token (RFC 9110, section 9.1), or is CONNECT, which is not
+    /// supported.
     #[error("M7 BadMethod: the method is not a token, or is CONNECT")]
     BadMethod,
     /// M8: the path neither begins with a slash, nor is `*` with OPTIONS (section 8.3.1).
     #[error("M8 BadPath: the path neither begins with '/' nor is '*' with OPTIONS")]
     BadPath,
-    /// M9: the status is not a number of three digits from 100 to 999, or is 101, or, in a
-    /// message to be sent, is that of an interim response (section 8.3.2).
+    /// M9: the status is not a number of three digits from 100 to 999 (section 8.3.2), or is 101
+    /// (section 8.6), or, in a message to be sent, is that of an interim response.
     #[error("M9 BadStatus: the status is not valid here")]
     BadStatus,
-    /// M10: a connection-specific field (section 8.2.2).
+    /// M10: a connection-specific field, or `te` with another value than `trailers` in any letter
+    /// case (section 8.2.2).
     #[error("M10 ConnectionField: a connection-specific field")]
     ConnectionField,
-    /// M11: a `content-length` is not a number of 1 to 19 digits, or two differ, or the body
-    /// has another length (section 8.1.1); or a response that is to be sent to HEAD, or with 204
-    /// or 304, has a body (RFC 9110, section 6.4.1).
+    /// M11: a `content-length` is not a number of 1 to 19 digits, or two differ, or the body has
+    /// another length (section 8.1.1); or a response to be sent has a body, but answers HEAD or
+    /// has the status 204 or 304 (RFC 9110, section 6.4.1).
     #[error("M11 BadLength: content-length is invalid, or not the length of the body")]
     BadLength,
     /// M12: a part of a message comes out of order (section 8.1). [`Reading`](crate::Reading)

@@ -32,10 +32,10 @@ impl Message {
         Message::request(alloc, b"GET", authority, path)
     }
 
-    /// Makes a request with the scheme `http`, its four pseudo-header fields (RFC 9113, section
-    /// 8.3.1), and no body or trailers. Whether it breaks a rule, for instance with a path that
-    /// does not begin with a slash, is for [`check_request`](crate::check_request), which a
-    /// client's `request` calls.
+    /// Makes a request with its four pseudo-header fields (RFC 9113, section 8.3.1), of which
+    /// `:scheme` is `http`, and no body or trailers. It checks no rule:
+    /// [`check_request`](crate::check_request), which a client's `request` calls, refuses for
+    /// instance a path that does not begin with a slash.
     ///
     /// # Errors
     ///
@@ -63,8 +63,8 @@ impl Message {
     }
 
     /// Makes a response with this status in decimal digits (section 8.3.2), and no body or
-    /// trailers. Whether it breaks a rule, for instance with a status of two digits, is for
-    /// [`check_response`](crate::check_response), which a server's `respond` calls.
+    /// trailers. It checks no rule: [`check_response`](crate::check_response), which a server's
+    /// `respond` calls, refuses for instance a status of two digits.
     ///
     /// # Errors
     ///

@@ -109,8 +109,8 @@ pub(crate) fn is_text<const N: usize>(octets: &[u8], text: &[u8; N]) -> bool
 // contract: 8.3.1 An :authority with an @ in it names a user, and a call says so
 /// Returns whether an authority (the value of `:authority`) names a user, as `user@example.com`
 /// does. Section 8.3.1 forbids that for `http` and `https`, but no check refuses it: a server that
-/// wants to refuse it has to call this function and answer with status 400, as `Handled` of
-/// `h2_handlers` does.
+/// wants to refuse it has to call this function and answer with status 400, as a `Connection`
+/// of `h2_server` does.
 #[tactic(auto, unfolding(crate::specs::Octets::names_user))]
 pub fn names_user(authority: &[u8]) -> bool
     ensures { result ≡ names_user authority.now }

@@ -14,8 +14,9 @@ use crate::malformed::Malformed;
 use crate::scan::{Scan, scan_fields};
 use hpack::Field;
 
-/// The length that the rest of a body sent in parts must have (RFC 9113, section 8.1.1): what is
-/// left of its head's `content-length`, 0 where a response has no content, and otherwise any.
+/// The length that the rest of a body sent in parts must have (RFC 9113, section 8.1.1): 0 in a
+/// response to HEAD or with the status 204 or 304; otherwise what is left of the `content-length`,
+/// or any length if the head has none.
 #[derive(Clone, Copy, Debug, PartialEq, Eq)]
 pub struct BodyLength {
     /// The number of octets; `None` for any number.
@@ -23,8 +24,8 @@ pub struct BodyLength {
 }
 
 // contract: 8.1.1 (own) A message to be sent is refused for the least of M1 to M11 it breaks
-/// Checks the head of a request that is sent before its body, and returns the length that the
-/// body must have. It takes no memory.
+/// Checks the head of a request whose body is sent later, and returns the length that the body
+/// must have. It takes no memory.
 ///
 /// # Errors
 ///
@@ -44,9 +45,9 @@ pub fn check_request_head(head: &[Field]) -> Result<BodyLength, Malformed>
 
 // contract: 8.1.1 (own) A message to be sent is refused for the least of M1 to M11 it breaks
 // contract: 8.1.1 A body of an own answer to HEAD, 204 or 304 breaks M11
-/// Checks the head of a response that is sent before its body, and returns the length that the
-/// body must have: 0 in a response to HEAD (`to_head`), and with the status 204 or 304. It
-/// takes no memory.
+/// Checks the head of a response whose body is sent later, and returns the length that the body
+/// must have: 0 in a response to HEAD (`to_head`), and with the status 204 or 304. It takes no
+/// memory.
 ///
 /// # Errors
 ///
@@ -89,8 +90,7 @@ impl BodyLength {
     ///
     /// # Errors
     ///
-    /// [`Malformed::BadLength`] (M11) where the body would be longer than it must be or, at its
-    /// end, shorter.
+    /// [`Malformed::BadLength`] (M11) where the body would be too long or, at its end, too short.
     pub fn check(self, count: usize, end: bool) -> Result<(), Malformed>
         ensures ok { OnOk result (breaks_length self.left count end ≡ false) }
         ensures err { IfErr result (λ rule. (rule ≡ Malformed.BadLength)
@@ -111,8 +111,8 @@ impl BodyLength {
     ///
     /// # Errors
     ///
-    /// The first of M1, M2, M3 and M10 that the trailers break, or else M11 where the body is
-    /// shorter than it must be ([`Malformed`]).
+    /// The first of M1, M2, M3 and M10 that the trailers break, or else M11 where the body is too
+    /// short ([`Malformed`]).
     pub fn check_trailers(self, trailers: &[Field]) -> Result<(), Malformed>
         ensures ok { OnOk result (broken_by_trailers self.left 0 trailers.now ≡ None) }
         ensures err { IfErr result (λ rule. broken_by_trailers self.left 0 trailers.now

@@ -28,8 +28,8 @@ use hpack::FieldList;
 pub enum Reads {
     /// A server reads requests.
     Requests,
-    /// A client reads responses. In a response to HEAD, or with status 204 or 304, `content-length`
-    /// is not compared with the body (RFC 9110, section 8.6), and DATA is accepted all the same.
+    /// A client reads responses. In a response to HEAD, or with status 204 or 304, any DATA is
+    /// accepted: `content-length` is not compared with it (RFC 9110, section 8.6).
     Responses {
         /// Whether the request was HEAD.
         to_head: bool,
@@ -76,7 +76,7 @@ impl Reading {
     // contract: 8.1 (own) A part is read where the parts so far begin a well-formed message
     // rule: 8.1 (own) A part is read where the parts so far begin a well-formed message
     // contract: HTTP 9.3.2 A request asks with HEAD where the method of its head is HEAD
-    /// Makes a reading of a message of which nothing was read.
+    /// Makes a reading of a message of which nothing has been read yet.
     pub fn new(reads: Reads) -> Reading
         ensures { Follows reads [] result }
     {
@@ -205,9 +205,9 @@ impl Reading {
 
     // contract: 8.1.1 (own) A part that is refused breaks a rule, the least of which is named
     // rule: 8.1.1 (own) A part that is refused breaks a rule, the least of which is named
-    /// Returns the first rule that this field block would break after the parts read so far; `None`
-    /// if [`Reading::fields`] would accept it. After END_STREAM the rule is M12, whatever the
-    /// fields are.
+    /// Returns the first rule that this field block, with END_STREAM where `end` is set, would
+    /// break after the parts read so far; `None` if [`Reading::fields`] would accept it. Once
+    /// END_STREAM was read, the rule is M12, whatever the fields are.
     pub fn broken_by_fields(&self, list: &FieldList, end: bool) -> Option<Malformed>
         ensures { (reads : Reads) (parts : List (Part × Bool)) → Follows reads parts self.now
             → result ≡ broken_after reads parts (FieldsPart list.now, end) }
@@ -260,8 +260,9 @@ impl Reading {
 
     // contract: 8.1.1 (own) A part that is refused breaks a rule, the least of which is named
     // rule: 8.1.1 (own) A part that is refused breaks a rule, the least of which is named
-    /// Returns the rule that `count` octets of a DATA frame would break after the parts read so
-    /// far: M11, or M12 outside a body; `None` if [`Reading::data`] would accept them.
+    /// Returns the rule that `count` octets of a DATA frame, with END_STREAM where `end` is set,
+    /// would break after the parts read so far: M11, or M12 outside a body; `None` if
+    /// [`Reading::data`] would accept them.
     pub fn broken_by_data(&self, count: usize, end: bool) -> Option<Malformed>
         ensures { (reads : Reads) (parts : List (Part × Bool)) (octets : List ℕ)
             → length octets ≡ count → Follows reads parts self.now

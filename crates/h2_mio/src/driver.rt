@@ -213,6 +213,8 @@ impl<P: Party> Driver<P> {
     /// Closes a connection and its socket. Unread input is discarded first, so that the peer can
     /// read what was sent last.
     fn close(&mut self, token: Token) {
+        // For one that is over already this does nothing.
+        let _ = own_step(&mut self.host, token, Own::Lost);
         let _ = self.host.step(Step::Closed { token }, &[]);
         let Some(mut stream) = self.sockets.take(token) else {
             return;

@@ -50,9 +50,9 @@ pub fn status_of(error: LinkError) -> Status
 
 // rule: engines (own) N1 to N7 end a command with their statuses
 // rule (tested): engines (own) A hint says why a connection over a socket has failed
-/// Prints on `err` how a connection ended, then the hint, then, for [`LinkError::Stream`] (N2),
-/// why the connection failed, unless the hint says that the peer speaks HTTP/1. Returns the exit
-/// status.
+/// Prints up to three lines on `err`: how a connection ended; the hint, if there is one; and, for
+/// [`LinkError::Stream`] (N2), why the connection failed, if that is known and the hint does not
+/// say that the peer speaks HTTP/1.1. Returns the exit status.
 pub fn report<E: Write>(ending: Ending, err: &mut E) -> Status
     ensures { result ≡ status_with ending.error }
 {
@@ -64,7 +64,7 @@ pub fn report<E: Write>(ending: Ending, err: &mut E) -> Status
 }
 
 // rule (tested): engines (own) A hint says why a connection over a socket has failed
-// Writes why a connection failed, if its error is N2 and the peer does not speak HTTP/1.
+// Writes why a connection failed, if its error is N2 and the peer does not speak HTTP/1.1.
 fn write_why<E: Write>(ending: Ending, err: &mut E) -> io::Result<()> {
     match (ending.error, ending.hint, ending.why) {
         (_, Some(Hint::Http1Server | Hint::Http1Client), _) => Ok(()),
@@ -77,8 +77,9 @@ fn write_why<E: Write>(ending: Ending, err: &mut E) -> io::Result<()> {
 // contract: engines (own) A hint after the line names the likely cause of N1 and N2
 /// Returns the hint for the error with which a client's connection ended. For N2
 /// ([`LinkError::Stream`]) it is that the server speaks HTTP/1.1, if the first octets that the
-/// client read say so, and otherwise the name of the code. For N1 ([`LinkError::Device`]) it
-/// follows from the last error of the link. Otherwise there is none.
+/// client read say so, and otherwise the name of the code, if it has one. For N1
+/// ([`LinkError::Device`]) it follows from the last error of the link. For other errors there is
+/// none.
 pub fn client_hint(error: LinkError, first: &[u8], last_error: Option<ErrorKind>) -> Option<Hint>
     ensures { IsClientHint error first.now last_error result }
 {
@@ -89,7 +90,7 @@ pub fn client_hint(error: LinkError, first: &[u8], last_error: Option<ErrorKind>
     }
 }
 
-// The hint of a server, likewise.
+// Returns the same for a server: for N2, that the client speaks HTTP/1.1, or the name of the code.
 pub(crate) fn server_hint(
     error: LinkError,
     first: &[u8],

@@ -1,4 +1,4 @@
-//! Fetches the response to a GET.
+//! Fetches a response, and prints it.
 
 ghost use Rattle.std.specs.Prelude.{◌≡◌, ◌<◌, ◌-◌, ◌^◌, IfOk, OnOk, option_map, nat_lt};
 ghost use Rattle.std.specs.Prelude.{◌&&◌, ◌⊎◌, None, [], if◌then◌else◌, Err, IfErr, List, Option};
@@ -60,8 +60,9 @@ where
 ///
 /// # Errors
 ///
-/// [`LinkError::Device`] (N1) also if no connection can be made; otherwise as [`fetch_link`].
-/// The hint names the likely cause of [`LinkError::Device`] (N1) and [`LinkError::Stream`] (N2).
+/// Those of [`fetch_link`]; [`LinkError::Device`] (N1) also if no connection can be made, or
+/// TCP_NODELAY cannot be set. For N1 and [`LinkError::Stream`] (N2) the hint names the likely
+/// cause, if it is known.
 pub fn fetch_location<N: Net>(
     net: &N,
     alloc: Global,
@@ -97,7 +98,7 @@ fn address_of(location: &Location) -> (&str, u16)
 }
 
 /// Makes a request over a link, as [`fetch_link`] does, and flushes the link. If the fetch
-/// fails, the hint names the likely cause.
+/// fails, the hint names the likely cause, if it is known.
 fn fetch_with_hint<S: Read + WriteParts + OpenStream>(
     alloc: Global,
     link: &mut StreamLink<S>,
@@ -132,7 +133,7 @@ fn fetch_with_hint<S: Read + WriteParts + OpenStream>(
 ///
 /// # Errors
 ///
-/// As [`fetch_link`].
+/// Those of [`fetch_link`].
 pub fn get_over<L: Link>(
     alloc: Global,
     link: &mut L,
@@ -233,7 +234,8 @@ fn write_response<W: Write>(fetched: &Fetched, out: &mut W) -> io::Result<()>
 }
 
 // rule: engines (own) A response is printed as its status, its phrase and its body
-/// Returns the reason phrase of a status (RFC 9110, section 15), if it has one.
+/// Returns the reason phrase of a status, if the crate `http` has one for it: those of RFC 9110,
+/// section 15, and of some other RFCs, such as 103 Early Hints.
 pub fn phrase(status: u16) -> Option<&'static str>
     ensures { option_map (λ text. text.now) result
         ≡ (if nat_lt 99 status && nat_lt status 1000 then reason_phrase status else None) }
@@ -272,8 +274,8 @@ fn phrase_of(value: &[u8]) -> Option<&'static str>
     }
 }
 
-/// Returns the value of `:status`, which each response has; an empty slice if the head has none
-/// (RFC 9113, section 8.3.2).
+/// Returns the value of `:status`, which the head of each response has (RFC 9113, section 8.3.2);
+/// an empty slice if this head has none.
 pub fn status_value(head: &[Field]) -> &[u8]
     ensures { result.now ≡ status_of head.now }
 {

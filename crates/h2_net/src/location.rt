@@ -27,10 +27,10 @@ pub struct Location {
 /// Why a URL cannot be fetched. Its text is for the user.
 #[derive(Clone, Copy, Debug, PartialEq, Eq, Hash, Error)]
 pub enum TargetFault {
-    /// It is not a valid URL.
+    /// It is not a valid URL, or it is longer than 65,534 octets.
     #[error("the URL is malformed")]
     Unread,
-    /// Its scheme is not `http`.
+    /// It has no scheme, or one that is not `http`.
     #[error("the URL does not begin with http://")]
     OtherScheme,
     /// It has no host.
@@ -39,7 +39,7 @@ pub enum TargetFault {
     /// It has no port, or one that is not from 1 to 65,535.
     #[error("the URL needs a port from 1 to 65535, such as :80")]
     NoPort,
-    /// It has a userinfo, which must not be sent (RFC 9113, section 8.3.1).
+    /// It has a userinfo subcomponent, which must not be sent (RFC 9113, section 8.3.1).
     #[error("a user name in the URL is not supported")]
     UserInfo,
     /// Out of memory.
@@ -62,7 +62,8 @@ impl From<AllocError> for TargetFault {
 ///
 /// # Errors
 ///
-/// The first reason for which the URL cannot be fetched, in the order of [`TargetFault`].
+/// [`TargetFault::Memory`] if an allocation was refused; otherwise the first reason for which the
+/// URL cannot be fetched, in the order of [`TargetFault`].
 pub fn target(alloc: Global, url: &[u8]) -> Result<Location, TargetFault>
     ensures ok { IfOk result (Names url.now) }
     ensures err { IfErr result (IsRefusedUrl url.now) }
@@ -112,7 +113,7 @@ fn without_brackets(host: &str) -> &str
 }
 
 // rule: engines (own) A URL is fetched that has scheme http, a host and a port
-/// The port of an authority, if it is one of 1 to 65,535 in digits alone.
+/// The port of an authority, if it is from 1 to 65,535 and has only digits.
 fn port_of(authority: &Authority) -> Option<u16>
     ensures { MatchOption result ((port : ℕ) → IsPortOfAuthority authority.now port → ⊥)
         (IsPortOfAuthority authority.now) }

@@ -48,15 +48,17 @@ struct Carried {
 // rule: engines (own) h2 loop posts octets, and its line says how many came
 /// Posts `count` octets, octet k being k mod 251, to `/` of a server in this process over one
 /// TCP connection on 127.0.0.1, and returns the response. The ends take turns: each writes at
-/// most 4,096 octets, which the other then reads. It ends with a round in which neither writes.
+/// most 4,096 octets, which the other then reads. A turn of each is a round; the exchange ends
+/// after the first round in which neither writes.
 ///
 /// # Errors
 ///
-/// [`LinkError::Device`] (N1) if the connection failed or cannot be made, [`LinkError::Memory`]
-/// (N3) if an allocation was refused, [`LinkError::CutOff`] (N4) if the response is incomplete
-/// at the end, [`LinkError::NoProgress`] (N5) after 2^64 - 1 rounds, [`LinkError::Reset`] (N6) with
-/// ENHANCE_YOUR_CALM if `count` is above 1,048,576. [`LinkError::Stream`] (N2), N6 with another
-/// code, [`LinkError::Refused`] (N7), and N5 for any other reason, would be faults of the ends.
+/// [`LinkError::Device`] (N1) if the TCP connection cannot be made, or a call of it failed;
+/// [`LinkError::Memory`] (N3) if an allocation was refused; [`LinkError::CutOff`] (N4) if the
+/// response is incomplete at the end; [`LinkError::NoProgress`] (N5) after 2^64 - 1 rounds;
+/// [`LinkError::Reset`] (N6) with ENHANCE_YOUR_CALM if `count` is above 1,048,576.
+/// [`LinkError::Stream`] (N2), N6 with another code, and N5 for any other reason would show a bug
+/// in the client or the server. [`LinkError::Refused`] (N7) is never returned.
 pub fn exchange<N: Net>(net: &N, alloc: Global, count: u32) -> Result<Fetched, LinkError>
 where
     N::Stream: WriteParts,
@@ -80,7 +82,7 @@ fn exchange_between<S: Read + WriteParts + OpenStream + Drop>(
 }
 
 // rule: engines (own) h2 loop posts octets, and its line says how many came
-/// Lets both ends write in turns, as [`carry_all`] does, in a new buffer.
+/// Lets both ends write in turns, as [`carry_all`] does, with new buffers.
 fn carry_with_room<S: Read + WriteParts + OpenStream>(
     alloc: Global,
     ends: &mut Ends<S>,
@@ -201,7 +203,8 @@ fn carry_all<S: Read + WriteParts + OpenStream>(
 }
 
 // rule: engines (own) h2 loop posts octets, and its line says how many came
-/// Prints the number of octets posted, the length of the response's body, and its status.
+/// Prints one line: the number of octets posted, and the length of the body and the status of the
+/// response.
 ///
 /// # Errors
 ///

@@ -15,7 +15,7 @@ pub trait WriteParts: Write {
     ///
     /// # Errors
     ///
-    /// Those of [`Write::write`]. Nothing was written.
+    /// Those of [`Write::write`]: nothing was written.
     fn write_parts(&mut self, parts: &[IoSlice<'_>]) -> io::Result<usize>
         ensures bound { WritesAtMost result (io_slices_bytes parts.now) }
         ensures bytes { WriteAppends (Self.contents self.old) (Self.contents self.new) result

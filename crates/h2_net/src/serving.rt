@@ -24,9 +24,9 @@ use std::net::{Ipv4Addr, Net, OpenListener, OpenStream, SocketAddr, TcpListener}
 /// [`h2_engines::serve_link`] does with the default [`Config`]. Returns the status of the first
 /// connection that ended early, or [`Status::Good`].
 ///
-/// If a connection ends early, a line is printed on `err`, with a hint if the cause is known, and
-/// the next one is served. If the port is not available, no connection is served, and the status is
-/// that of [`LinkError::Device`] (N1).
+/// If a connection ends early, that is printed on `err`, as by [`report`], and the next one is
+/// served. If the port is not available, no connection is served; [`LinkError::Device`] (N1) is
+/// printed likewise, and the status is that of N1.
 pub fn serve_port<N: Net, E: Write>(
     net: &N,
     alloc: Global,
@@ -98,7 +98,7 @@ where
 }
 
 /// Serves one connection, as [`serve_stream`] does. If it ends early, the hint names the likely
-/// cause.
+/// cause, if it is known.
 fn serve_with_hint<S: Read + WriteParts + OpenStream>(
     alloc: Global,
     link: &mut StreamLink<S>,

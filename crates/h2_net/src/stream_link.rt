@@ -36,11 +36,11 @@ const MOST_DROPPED: usize = 16_777_216;
 ///
 /// If sending fails, the call fails, and the octets held that were not sent stay held: the next
 /// call that sends continues with them, so octets are sent in order and none twice. A write of
-/// several parts does not fail at once: if the held octets and the parts cannot be sent together,
-/// only its first part is written, as by `write`. If this succeeds (perhaps the part is only held),
-/// the call succeeds, and [`StreamLink::last_error`] does not tell of the failed attempt. After a
-/// failed write of 8,192 octets or more it is unknown how many of these were sent: write nothing
-/// more.
+/// several parts does not fail at once: if the one call for the held octets and the parts sends no
+/// octet of the parts, only the first part that has octets is written, as by `write`. If this
+/// succeeds (perhaps the part is only held), the write succeeds, and [`StreamLink::last_error`]
+/// does not report the failed attempt. After a failed write it is unknown how many of its octets
+/// were sent or are held: write nothing more.
 ///
 /// Octets still held when the link is dropped are not sent.
 #[derive(Drop)]
@@ -113,8 +113,8 @@ impl<S: Read + WriteParts + OpenStream> StreamLink<S> {
         &self.first
     }
 
-    /// Returns the kind of the last I/O error, if any. A write that accepted no octets is not an
-    /// error.
+    /// Returns the kind of the error with which the last failed call failed. `None` if no call has
+    /// failed, or if that one failed because the stream accepted no octets.
     pub fn last_error(&self) -> Option<ErrorKind>
         ensures { result ≡ self.now.last_error }
     {
@@ -187,8 +187,9 @@ impl<S: Read + WriteParts + OpenStream> StreamLink<S> {
     }
 
     // rule: engines (own) A link over TCP sends octets in order and once
-    /// Sends what is held and then these octets, in one write, if they are many. Returns how
-    /// many of these were sent: 0 if the write failed or took no more than was held.
+    /// Sends what is held and then these octets, in one write, if they are [`DIRECT`] or more.
+    /// Returns how many of these were sent: 0 if they are fewer, or if the write failed or took no
+    /// more than was held.
     fn send_parts(&mut self, parts: &[IoSlice<'_>]) -> usize
         ensures holds { TakesFirst (octets_passed S.contents self.old)
             (octets_passed S.contents self.new) (io_slices_bytes parts.now) result }
@@ -219,9 +220,9 @@ impl<S: Read + WriteParts + OpenStream> StreamLink<S> {
     }
 
     // rule: engines (own) After N2 and N3 input is dropped up to 16 MiB
-    /// Shuts down writing, and discards input until the peer ends, at most 16 MiB. Closing a
-    /// socket with unread input resets the connection, and the peer may then lose what was sent
-    /// last. What is held is not sent.
+    /// Shuts down writing, and discards input until it ends, at most 16 MiB. Closing a socket with
+    /// unread input resets the connection, and the peer may then lose what was sent last. What is
+    /// held is not sent.
     pub fn drain(&mut self)
         ensures { self.new ≡ record self.old { stream = self.new.stream; drained = true } }
     {
@@ -241,8 +242,9 @@ impl<S: Read + WriteParts + OpenStream> StreamLink<S> {
     }
 }
 
-/// A stream does not state what it holds after a read, or what is left to read after a write; so
-/// the contracts of this link are those of each call, not of all octets so far.
+/// A read of a stream promises nothing about what was written to it, and a write nothing about
+/// what is left to read; so the contracts of this link are about each call, not about all octets
+/// so far.
 impl<S: Read + WriteParts + OpenStream> Link for StreamLink<S> {
     ghost given = { λ link. None };
 
@@ -285,8 +287,8 @@ impl<S: Read + WriteParts + OpenStream> Link for StreamLink<S> {
     }
 
     /// Holds a prefix of these octets, as many as there is room for, and sends everything once
-    /// 65,536 are held. 8,192 octets or more are sent at once if nothing is held. There is no
-    /// room only after a send that failed.
+    /// 65,536 are held. 8,192 octets or more are sent at once if nothing is held. Only a failed
+    /// send leaves no room.
     fn write(&mut self, octets: &[u8]) -> Result<usize, LinkFault>
         requires { self.old.failures < 2 ^ 64 - 1 }
         ensures takes { Takes None None result octets.now }
@@ -323,7 +325,7 @@ impl<S: Read + WriteParts + OpenStream> Link for StreamLink<S> {
     }
 
     /// Sends 8,192 octets or more at once, after what is held. If that sends none of them, or
-    /// they are fewer, only the first part is written.
+    /// they are fewer, only the first part that has octets is written.
     fn write_parts(&mut self, parts: &[IoSlice<'_>]) -> Result<usize, LinkFault>
         requires { self.old.failures < 2 ^ 64 - 1 }
         ensures takes { Takes None None result (io_slices_bytes parts.now) }

@@ -14,7 +14,7 @@ use Rattle.h2_receive.specs.Heard.{FetchesBy, ReceivesBy}
 use Rattle.h2_fetch.specs.Parts.{handed_of, handed_on}
 use Rattle.h2_fetch.specs.declared.fetch.PartFetch.{PartFetch}
 use Rattle.h2_fetch.specs.declared.part.ResponsePart.{ResponsePart}
-use Rattle.h2_handlers.specs.declared.handler.HandlerFault.{HandlerFault}
+use Rattle.h2_server.specs.declared.handler.HandlerFault.{HandlerFault}
 use Rattle.h2_link.specs.declared.error.LinkError.TheVariants as errors
 use Rattle.h2_receive.specs.declared.errors.FetchError.{FetchError}
 use Rattle.h2_receive.specs.declared.errors.FetchError.TheVariants as faults

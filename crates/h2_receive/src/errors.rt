@@ -3,8 +3,8 @@
 ghost use Rattle.std.specs.Prelude.{◌≡◌};
 ghost use Rattle.h2_receive.specs.declared.errors.FetchError.TheVariants.{Handler, Link};
 
-use h2_handlers::HandlerFault;
 use h2_link::LinkError;
+use h2_server::HandlerFault;
 use thiserror::Error;
 
 /// Why a response was not received completely.

@@ -17,23 +17,29 @@ use std::alloc::Global;
 // contract: engines (own) A handler hears a response part by part, as it comes
 // rule: engines (own) A handler hears a response part by part, as it comes
 /// Makes a request over a link, and calls the handler with each part of the response as it
-/// arrives, until it is complete. Then, or if it ends early, [`ResponseHandler::over`] is
-/// called. Before each read, credit is returned as [`PartFetch`] says, and queued output is
-/// written.
+/// arrives, until the response is complete. Then, or if the fetch ends early,
+/// [`ResponseHandler::over`] is called. Before each read, credit is returned as [`PartFetch`]
+/// says, and queued output is written.
 ///
-/// A link over a stream may still hold output: flush it, and then close the stream, which cannot
-/// carry another connection.
+/// A link over a byte stream (`StreamLink` of `h2_net`) may still hold output: flush it, and then
+/// close the byte stream, which cannot carry another connection.
 ///
 /// # Errors
 ///
 /// [`FetchError::Handler`] if the handler returned a fault; otherwise [`FetchError::Link`] with
-/// [`LinkError::Device`] (N1) if the link failed, [`LinkError::Stream`] (N2) if the connection
-/// failed, once its GOAWAY was written, [`LinkError::Memory`] (N3) if an allocation was refused,
-/// [`LinkError::CutOff`] (N4) if the input ended, [`LinkError::NoProgress`] (N5) if a write
-/// accepted nothing, and after 2^64 - 1 rounds, [`LinkError::Reset`] (N6) if the stream was
-/// reset by either end or was not processed, [`LinkError::Refused`] (N7) if the request breaks a
-/// rule, or its head or its trailers are larger than 65,536 octets. The handler was called with
-/// all parts received before; after N3 one part may be lost.
+/// one of:
+///
+/// - [`LinkError::Device`] (N1): a read or a write of the link failed.
+/// - [`LinkError::Stream`] (N2): the connection failed, and its GOAWAY was written.
+/// - [`LinkError::Memory`] (N3): an allocation was refused.
+/// - [`LinkError::CutOff`] (N4): the input ended.
+/// - [`LinkError::NoProgress`] (N5): a write accepted no octet, or 2^64 - 1 rounds were made.
+/// - [`LinkError::Reset`] (N6): the stream was reset by either end, or the server did not process
+///   the request.
+/// - [`LinkError::Refused`] (N7): the request breaks a rule, or its head or its trailers are
+///   larger than 65,536 octets.
+///
+/// The handler was called with all parts received before; after N3 one part may be lost.
 pub fn fetch_handler<H: ResponseHandler, L: Link>(
     alloc: Global,
     link: &mut L,
@@ -61,9 +67,9 @@ pub fn fetch_handler<H: ResponseHandler, L: Link>(
 
 // contract: engines (own) A handler hears a response part by part, as it comes
 // rule: engines (own) A handler hears a response part by part, as it comes
-/// Calls the handler with each part of the response to a fetch, as [`fetch_handler`] does, which
-/// makes the fetch itself. Call it before [`PartFetch::next`], for example once
-/// [`PartFetch::widen`] has let the server send more at once.
+/// Calls the handler with each part of the response to `fetch`; [`fetch_handler`] makes the fetch
+/// itself, and then does the same. Pass a fetch on which [`PartFetch::next`] was not called, for
+/// example one that [`PartFetch::widen`] has widened.
 ///
 /// # Errors
 ///
@@ -88,7 +94,7 @@ pub fn receive<H: ResponseHandler, L: Link>(
 }
 
 // rule: engines (own) A handler hears a response part by part, as it comes
-/// Passes the parts of a response to the handler until it is complete.
+/// Passes the parts of a response to the handler until the response is complete.
 fn hear_all<H: ResponseHandler, L: Link>(
     alloc: Global,
     link: &mut L,

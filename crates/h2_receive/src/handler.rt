@@ -2,12 +2,12 @@
 
 ghost use Rattle.std.specs.Prelude.{⊤, Result};
 ghost use Rattle.h2_fetch.specs.declared.part.ResponsePart.{ResponsePart};
-ghost use Rattle.h2_handlers.specs.declared.handler.HandlerFault.{HandlerFault};
+ghost use Rattle.h2_server.specs.declared.handler.HandlerFault.{HandlerFault};
 ghost use Rattle.h2_receive.specs.declared.errors.FetchError.{FetchError};
 
 use crate::errors::FetchError;
 use h2_fetch::ResponsePart;
-use h2_handlers::HandlerFault;
+use h2_server::HandlerFault;
 use std::alloc::Global;
 
 /// Receives the response to one request part by part, as it arrives. Credit for octets of the
@@ -30,7 +30,7 @@ pub trait ResponseHandler {
     /// # Errors
     ///
     /// On an error the fetch ends with this fault: nothing more is received or sent, not even
-    /// RST_STREAM: the server learns of it only when the caller closes the connection.
+    /// RST_STREAM. The server learns of it only when the caller closes the connection.
     fn part(&mut self, alloc: Global, part: ResponsePart) -> Result<(), HandlerFault>
         ensures { hears self.old part result self.new };
 

@@ -13,6 +13,6 @@ pub use errors::FetchError;
 pub use fetch::{fetch_handler, receive};
 pub use h2_ends::{Config, Field, Message};
 pub use h2_fetch::{PartFetch, ResponsePart};
-pub use h2_handlers::HandlerFault;
 pub use h2_link::{Link, LinkError};
+pub use h2_server::HandlerFault;
 pub use handler::ResponseHandler;

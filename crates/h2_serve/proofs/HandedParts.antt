@@ -15,8 +15,8 @@ use Rattle.h2_ends.proofs.EndParts.{handed_elsewhere, readable_here, tokens_with
 use Rattle.h2_engines.proofs.TakeMessages.{HandsAsRead, handed_after, hands_event, hands_part}
 use Rattle.h2_engines.proofs.TakeMessages.{role_by_call, taken_role, taken_says, HandsSo, SaysOf}
 use Rattle.h2_engines.proofs.TurnsPassed.{turns_of_answer, turns_of_call}
-use Rattle.h2_handlers.specs.Exchanges.{Handling, Relations}
-use Rattle.h2_handlers.specs.Steps.{Steps}
+use Rattle.h2_server.specs.Exchanges.{Handling, Relations}
+use Rattle.h2_server.specs.Steps.{Steps}
 use Rattle.h2_serve.proofs.StepsKeep.{steps_keep}
 
 -- Of each stream of which a part was handed out a token was.

@@ -12,9 +12,9 @@ use Rattle.h2_engines.proofs.MachineViews.{not_cut}
 use Rattle.h2_engines.proofs.ResponderFinishes.{finishes_active, finishes_at_rest, finishes_held}
 use Rattle.h2_link.specs.declared.error.LinkError.TheVariants as errors
 use Rattle.h2_frame.specs.declared.code.Code.TheVariants.{InternalError}
-use Rattle.h2_handlers.specs.declared.handled.Handled.{Handled}
-use Rattle.h2_handlers.specs.Exchanges.{IsEmptied, Relations, handling_of}
-use Rattle.h2_handlers.specs.Steps.{none}
+use Rattle.h2_serve.specs.declared.handled.Handled.{Handled}
+use Rattle.h2_server.specs.Exchanges.{IsEmptied, Relations, handling_of}
+use Rattle.h2_server.specs.Steps.{none}
 use Rattle.h2_serve.specs.Endings.{IsOfDriving}
 use Rattle.h2_serve.specs.Serving.{Beginning, HasServed, HasWritten, IsServing, has_stopped}
 use Rattle.h2_serve.specs.Serving.{handling_first, is_cut_off, is_served}

@@ -11,14 +11,14 @@ use Rattle.std.specs.Prelude.{is_some, not}
 use Rattle.h2_link.specs.declared.error.LinkError.TheVariants as errors
 use Rattle.h2_frame.specs.declared.code.Code.TheVariants.{InternalError}
 use Rattle.h2_engines.proofs.ResponderStalls.{put_out_ends, stalls_no_more}
-use Rattle.h2_handlers.specs.declared.handled.Handled.{Handled}
-use Rattle.h2_handlers.specs.declared.handler.Cause.TheVariants.{Closed}
-use Rattle.h2_handlers.specs.declared.stop.Stop.{Stop}
-use Rattle.h2_handlers.specs.Exchanges.{Handling, Relations, handling_of}
-use Rattle.h2_handlers.specs.Steps.{Handles, HandlesPiece, Steps}
-use Rattle.h2_handlers.specs.Steps as steps
-use Rattle.h2_handlers.specs.Telling.{EndsEach, ends_one, goes_on, no_more}
-use Rattle.h2_handlers.proofs.StepsMade.{steps_losing, steps_may_lose, steps_then}
+use Rattle.h2_serve.specs.declared.handled.Handled.{Handled}
+use Rattle.h2_server.specs.declared.handler.Cause.TheVariants.{Closed}
+use Rattle.h2_server.specs.declared.stop.Stop.{Stop}
+use Rattle.h2_server.specs.Exchanges.{Handling, Relations, handling_of}
+use Rattle.h2_server.specs.Steps.{Handles, HandlesPiece, Steps}
+use Rattle.h2_server.specs.Steps as steps
+use Rattle.h2_server.specs.Telling.{EndsEach, ends_one, goes_on, no_more}
+use Rattle.h2_server.proofs.StepsMade.{steps_losing, steps_may_lose, steps_then}
 use Rattle.h2_serve.specs.Serving.{Beginning, HasHandled, HasStoppedServing, HasWritten, IsServing}
 use Rattle.h2_serve.specs.Serving.{StopsServingFor}
 use Rattle.h2_serve.proofs.HandedParts.{steps_turns}

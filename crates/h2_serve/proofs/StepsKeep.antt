@@ -5,6 +5,8 @@ use Names.{true, false}
 use Names.{◌≡◌, ℕ, Bool, List, [], Option, Some, None, Ok, Err, Result, inl, inr, Act, Answer}
 use Names.{SendData, SendFields, ResetStream, PutOut, Count, Done, Refused, Log, EndLog, Handed}
 use Names.{EndAnswer, EndMayTake, EndRefusal, MayReply, Malformed, Said, with_call, take}
+use Rattle.std.specs.Global.{Global}
+use Rattle.std.specs.Prelude.{Vec}
 use Rattle.hpack.specs.declared.types.field.Field.{Field}
 use Rattle.h2_ends.specs.EndCalls.{IsUnchanged, MaySendBody, MaySendTrailers}
 use Rattle.h2_ends.specs.Passes.{Halt, Shares, PassesOver, Passes, MayPumpSome, shares_octets}
@@ -15,16 +17,16 @@ use Rattle.h2_ends.specs.declared.refusal.EndRefusal.TheVariants as refusals
 use Rattle.h2_spec_log.specs.declared.refusal.Refusal.TheVariants as reasons
 use Rattle.h2_frame.specs.Codes.{code_number}
 use Rattle.h2_engines.proofs.LinkInvariants.{CallsKeep, released_keeps}
-use Rattle.h2_handlers.specs.declared.exchange.Stage.{Stage}
-use Rattle.h2_handlers.specs.declared.exchange.Stage.TheVariants as stages
-use Rattle.h2_handlers.specs.declared.handler.HandlerFault.{HandlerFault}
-use Rattle.h2_handlers.specs.declared.handler.Part.{Part}
-use Rattle.h2_handlers.specs.declared.handler.Part.TheVariants as parts
-use Rattle.h2_handlers.specs.declared.stop.Stop.{Stop}
-use Rattle.h2_handlers.specs.Exchanges.{Handling, Relations}
-use Rattle.h2_handlers.specs.Giving.{GivesStageSo}
-use Rattle.h2_handlers.specs.Steps.{HandledStep, SendsPart, Steps}
-use Rattle.h2_handlers.specs.Steps as steps
+use Rattle.h2_server.specs.declared.exchange.Stage.{Stage}
+use Rattle.h2_server.specs.declared.exchange.Stage.TheVariants as stages
+use Rattle.h2_server.specs.declared.handler.HandlerFault.{HandlerFault}
+use Rattle.h2_server.specs.declared.handler.Part.{Part}
+use Rattle.h2_server.specs.declared.handler.Part.TheVariants as parts
+use Rattle.h2_server.specs.declared.stop.Stop.{Stop}
+use Rattle.h2_server.specs.Exchanges.{Handling, Relations}
+use Rattle.h2_server.specs.Giving.{GivesHead, GivesStageSo}
+use Rattle.h2_server.specs.Steps.{HandledStep, SendsPart, Steps}
+use Rattle.h2_server.specs.Steps as steps
 
 -- Each call keeps this of a log and of what was handed out,
 abbrev pub CallsKeepLog : (Log → List Handed → Type 0) → Type 0
@@ -138,22 +140,33 @@ module _ (P : Log → List Handed → Type 0) (call : CallsKeepLog P) (take_one 
     trailers_keep before id list (Err (refusals.Conn refusal)) after may holds =
         rw may.5 (call before.log before.handed (SendFields id list true) (Refused refusal) holds)
 
-    -- So the next of an answer is given,
-    stage_keeps : (before : EndLog) (id : ℕ) (stage : Stage) (result : Result Stage Stop)
-        (after : EndLog) → GivesStageSo before id stage result after → At before → At after
-    stage_keeps before id (stages.Answers message) result after gives holds =
+    -- So the head of a response in parts is given,
+    head_keeps : (before : EndLog) (id : ℕ) (to_head : Bool) (head : Vec Field Global)
+        (result : Result Stage Stop) (after : EndLog)
+        → GivesHead to_head before id head result after → At before → At after
+    head_keeps before id true head result after gives holds =
         reply_keeps _ before id _ gives.answer after gives.responds holds
-    stage_keeps before id (stages.Fails status) result after (inl none) holds = rw none.1 holds
-    stage_keeps before id (stages.Fails status) result after (inr gives) holds =
-        reply_keeps _ before id _ gives.answer after gives.responds holds
-    stage_keeps before id (stages.Begins head) result after gives holds =
+    head_keeps before id false head result after gives holds =
         reply_keeps _ before id _ gives.0 after gives.1 holds
-    stage_keeps before id (stages.Trails list) result after gives holds =
+
+    -- the next of an answer,
+    stage_keeps : (before : EndLog) (id : ℕ) (to_head refused : Bool) (stage : Stage)
+        (result : Result Stage Stop) (after : EndLog)
+        → GivesStageSo before id to_head refused stage result after → At before → At after
+    stage_keeps before id to_head refused (stages.Answers message) result after gives holds =
+        reply_keeps _ before id _ gives.answer after gives.responds holds
+    stage_keeps before id to_head refused (stages.Fails status) result after (inl none) holds =
+        rw none.1 holds
+    stage_keeps before id to_head refused (stages.Fails status) result after (inr gives) holds =
+        reply_keeps _ before id _ gives.answer after gives.responds holds
+    stage_keeps before id to_head refused (stages.Begins head) result after gives holds =
+        head_keeps before id to_head head result after gives holds
+    stage_keeps before id to_head refused (stages.Trails list) result after gives holds =
         trailers_keep before id list.items gives.0 after gives.1 holds
-    stage_keeps before id (stages.Resets code) result after gives holds =
+    stage_keeps before id to_head refused (stages.Resets code) result after gives holds =
         rw gives.3
         (call before.log before.handed (ResetStream id (code_number code)) gives.0 holds)
-    stage_keeps before id stage result after gives holds = rw gives.1 holds
+    stage_keeps before id to_head refused stage result after gives holds = rw gives.1 holds
 
     -- and a part is sent.
     part_keeps : (before : EndLog) (id : ℕ) (part : Result Part HandlerFault) (room : List ℕ)
@@ -184,10 +197,12 @@ module _ (P : Log → List Handed → Type 0) (call : CallsKeepLog P) (take_one 
           (steps.lacks_memory piece used count handed may uses so) holds =
           take_one before piece _ last may holds
       step_keeps {end = before} {after = last} (steps.gives id one) holds =
-          stage_keeps before id one.kept.stage one.result last one.gives holds
+          stage_keeps before id one.kept.to_head one.kept.refused one.kept.stage one.result last
+          one.gives holds
       step_keeps {end = before} {after = last} (steps.asks id one) holds =
           part_keeps before id one.part one.room one.stage last one.sends holds
       step_keeps (steps.ends id cause over is now) holds = rw now holds
+      step_keeps (steps.stops_reading id kept was may now handler is) holds = rw is holds
       step_keeps (steps.wakes id kept was now handler is) holds = rw is holds
       step_keeps {end = before} {after = last} (steps.releases answer may so) holds =
           released_keeps At calls_keep before answer last may holds

@@ -11,11 +11,11 @@ use Rattle.h2_engines.proofs.ResponderOutput.{given_more}
 use Rattle.h2_engines.proofs.ResponderWrites.{LendsAll, most}
 use Rattle.h2_engines.proofs.TurnsPassed.{turns_of_call}
 use Rattle.h2_engines.proofs.WithoutLinkOutput.{consumes_all, no_credit_due}
-use Rattle.h2_handlers.specs.declared.handled.Handled.{Handled}
-use Rattle.h2_handlers.specs.Exchanges.{IsSameHandling, Relations, handling_of}
-use Rattle.h2_handlers.specs.Steps.{given_between, puts_out}
-use Rattle.h2_handlers.proofs.StepsMade.{one_step}
-use Rattle.h2_handlers.proofs.StepsMade.{same as same_handling}
+use Rattle.h2_serve.specs.declared.handled.Handled.{Handled}
+use Rattle.h2_server.specs.Exchanges.{IsSameHandling, Relations, handling_of}
+use Rattle.h2_server.specs.Steps.{given_between, puts_out}
+use Rattle.h2_server.proofs.StepsMade.{one_step}
+use Rattle.h2_server.proofs.StepsMade.{same as same_handling}
 use Rattle.h2_serve.specs.Serving.{Beginning, HasHandled, HasStoppedServing, HasWritten, IsServing}
 use Rattle.h2_serve.specs.Serving.{StopsServingFor}
 use Rattle.h2_serve.proofs.Serving.{ServesOn, has_lost, has_more, refused_so, stops_so}

@@ -15,9 +15,9 @@ use Rattle.h2_engines.specs.Failures.{IsOutOfMemory}
 use Rattle.h2_engines.specs.Linked.{Traffic, HasStalled}
 use Rattle.h2_engines.specs.ServerSteps.{error_with}
 use Rattle.h2_engines.specs.Serves.{IsAtRest, IsCutOff, HasReturnedAll}
-use Rattle.h2_handlers.specs.declared.handled.Handled.{Handled}
-use Rattle.h2_handlers.specs.Exchanges.{Handling, IsEmptied, Relations, handling_of}
-use Rattle.h2_handlers.specs.Steps.{Steps}
+use Rattle.h2_serve.specs.declared.handled.Handled.{Handled}
+use Rattle.h2_server.specs.Exchanges.{Handling, IsEmptied, Relations, handling_of}
+use Rattle.h2_server.specs.Steps.{Steps}
 use Rattle.h2_serve.specs.Answered.{AnswersEach}
 
 -- a connection at its beginning: its values, its handler, and what had gone over the link before

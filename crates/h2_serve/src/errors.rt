@@ -7,8 +7,8 @@ ghost use Rattle.h2_engines.specs.ServerSteps.{error_with};
 ghost use Rattle.h2_serve.specs.Endings.{IsOfDriving};
 
 use h2_ends::Refusal;
-use h2_handlers::Code;
 use h2_link::LinkError;
+use h2_server::Code;
 
 // rule: engines (own) N2 has the code with which the connection failed; memory is N3
 /// The error for a connection that failed with this code.

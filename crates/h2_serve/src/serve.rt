@@ -5,15 +5,15 @@ ghost use Rattle.h2_flow.specs.ConfigValues.{values_of};
 ghost use Rattle.h2_engines.specs.Failures.{CutsOffAtEnd, EndsServing, failures_at_end};
 ghost use Rattle.h2_engines.specs.Failures.{failures_by};
 ghost use Rattle.h2_engines.specs.Linked.{traffic};
-ghost use Rattle.h2_handlers.specs.Exchanges.{relations};
 ghost use Rattle.h2_serve.specs.Endings.{IsOfDriving};
 ghost use Rattle.h2_serve.specs.Serving.{DrivesServing, EndsServingFor, ServesBy, TakesServing};
 ghost use Rattle.h2_serve.specs.Serving.{WritesServing};
 
 use crate::errors::error_of_code;
+use crate::handled::Handled;
 use crate::writing::write_out;
-use h2_handlers::{Code, Config, Handled, Handler, Stop};
 use h2_link::{Link, LinkError};
+use h2_server::{Code, Config, Handler, Stop};
 use std::alloc::Global;
 
 /// The maximum number of octets per read.
@@ -27,36 +27,37 @@ const PART: usize = 16_384;
 // rule: engines (own) A handler answers over any link
 // rule: engines (own) Where serving ends well each request was answered whole or reset
 /// Serves a connection until its input ends, and returns the number of requests received.
-/// [`Handler`] says what each of its calls is given, and [`Handled`] in which order responses are
-/// sent. When this returns, [`Handler::over`] has been called for each exchange that
-/// [`Handler::head`] began.
+/// [`Handler`] says what each of its calls is given, and `Exchanges::send_some` of `h2_server` in
+/// which order responses are sent. When this returns, [`Handler::over`] has been called for each
+/// `work` that [`Handler::head`] returned.
 ///
 /// Before each read, all that can be sent is written; so a client's reset or next request is read
-/// only once nothing is left to send or a window keeps the rest back. A handler that returned
-/// [`h2_handlers::Part::Later`] is asked again after each read, and at no other time; to wait
-/// for anything else it must block in `part`.
+/// only once nothing more can be sent: nothing is left, a window keeps the rest back, or the
+/// handler has no part now. A handler that returned [`h2_server::Part::Later`] is asked again
+/// after each read, and at no other time; to wait for anything else it must block in `part`.
 ///
-/// The link may still hold output: flush a link over a stream once this returns, and drain it
-/// after an error, so that the client gets the GOAWAY.
+/// The link may still hold output. Once this returns, flush a link over a byte stream
+/// (`StreamLink` of `h2_net`); after an error, call `StreamLink::drain` next, so that the client
+/// gets the GOAWAY.
 ///
 /// # Errors
 ///
 /// - [`LinkError::Device`] (N1): a read or a write of the link failed.
 /// - [`LinkError::Stream`] (N2): the connection failed, and its GOAWAY was written. The code is
 ///   ENHANCE_YOUR_CALM if a stream had to be reset after 1,000 others had been.
-/// - [`LinkError::Memory`] (N3): an allocation was refused to the server. (If one is refused to
-///   the handler, serving goes on, and its request gets what `HandlerFault` says.)
+/// - [`LinkError::Memory`] (N3): an allocation of the server was refused. (If one of the handler
+///   is refused, serving goes on, and its request gets what `HandlerFault` says.)
 /// - [`LinkError::CutOff`] (N4): the input ended inside the preface or a frame, or while a stream
 ///   was active.
 /// - [`LinkError::NoProgress`] (N5): a write accepted no octet, or 2^64 - 1 rounds were made.
-pub fn serve_handler<W: Drop, H: Handler<Work = W>, L: Link>(
+pub fn serve_handler<H: Handler, L: Link>(
     alloc: Global,
     link: &mut L,
     config: Config,
     handler: H,
 ) -> Result<u64, LinkError>
     requires { L.faults link.old < 2 ^ 64 - 1 }
-    ensures serves { ServesBy (relations H.heads H.bodies H.trails H.gives H.ends)
+    ensures serves { ServesBy H.Handler
         (values_of config) handler
         (traffic (L.given link.old) (L.taken link.old) (L.stalled link.old))
         (traffic (L.given link.new) (L.taken link.new) (L.stalled link.new)) result }
@@ -80,20 +81,20 @@ pub fn serve_handler<W: Drop, H: Handler<Work = W>, L: Link>(
     if conn.held() > 0 || conn.next_live(0).is_some() {
         return Err(LinkError::CutOff);
     }
-    Ok(handled.requests())
+    Ok(handled.exchanges.requests())
 }
 
 // rule: engines (own) A handler answers over any link
 /// Serves until the input ends.
-fn drive<W: Drop, H: Handler<Work = W>, L: Link>(
-    handled: &mut Handled<H, W>,
+fn drive<H: Handler, L: Link>(
+    handled: &mut Handled<H>,
     input: &mut [u8],
     room: &mut [u8],
     link: &mut L,
 ) -> Result<(), LinkError>
     requires fails { L.faults link.old < 2 ^ 64 - 1 }
     requires some { 0 < length input.old }
-    ensures drives { DrivesServing (relations H.heads H.bodies H.trails H.gives H.ends)
+    ensures drives { DrivesServing H.Handler
         (traffic (L.given link.old) (L.taken link.old) (L.stalled link.old))
         (traffic (L.given link.new) (L.taken link.new) (L.stalled link.new))
         handled.old handled.new result }
@@ -118,14 +119,14 @@ fn drive<W: Drop, H: Handler<Work = W>, L: Link>(
 // rule: engines (own) A handler answers over any link
 /// Passes everything in a piece of input to the handler. While the output is full, it is written
 /// first.
-fn take_all<W: Drop, H: Handler<Work = W>, L: Link>(
-    handled: &mut Handled<H, W>,
+fn take_all<H: Handler, L: Link>(
+    handled: &mut Handled<H>,
     piece: &[u8],
     room: &mut [u8],
     link: &mut L,
 ) -> Result<(), LinkError>
     requires { L.faults link.old < 2 ^ 64 - 1 }
-    ensures takes { TakesServing (relations H.heads H.bodies H.trails H.gives H.ends)
+    ensures takes { TakesServing H.Handler
         (traffic (L.given link.old) (L.taken link.old) (L.stalled link.old))
         (traffic (L.given link.new) (L.taken link.new) (L.stalled link.new))
         handled.old handled.new piece.now result }
@@ -135,7 +136,7 @@ fn take_all<W: Drop, H: Handler<Work = W>, L: Link>(
 {
     let mut used = 0usize;
     for _ in 0..u64::MAX {
-        match handled.take_some(&piece[used..], usize::MAX) {
+        match handled.take_some(&piece[used..]) {
             Ok(count) => used += count,
             Err(stop) => return Err(end_for(handled, link, stop)),
         }
@@ -150,14 +151,14 @@ fn take_all<W: Drop, H: Handler<Work = W>, L: Link>(
 // rule: engines (own) A handler answers over any link
 /// Returns credit (all of it if the next read may wait), sends everything that can be sent, and
 /// writes it.
-fn send_all<W: Drop, H: Handler<Work = W>, L: Link>(
-    handled: &mut Handled<H, W>,
+fn send_all<H: Handler, L: Link>(
+    handled: &mut Handled<H>,
     room: &mut [u8],
     waits: bool,
     link: &mut L,
 ) -> Result<(), LinkError>
     requires { L.faults link.old < 2 ^ 64 - 1 }
-    ensures sends { WritesServing (relations H.heads H.bodies H.trails H.gives H.ends)
+    ensures sends { WritesServing H.Handler
         (traffic (L.given link.old) (L.taken link.old) (L.stalled link.old))
         (traffic (L.given link.new) (L.taken link.new) (L.stalled link.new))
         handled.old handled.new result }
@@ -181,13 +182,9 @@ fn send_all<W: Drop, H: Handler<Work = W>, L: Link>(
 // rule: engines (own) N2 has the code with which the connection failed; memory is N3
 /// The error for a connection that cannot go on: N3 if it has not failed. After too many resets
 /// the connection fails with ENHANCE_YOUR_CALM. Once it has failed, its output is written.
-fn end_for<W: Drop, H: Handler<Work = W>, L: Link>(
-    handled: &mut Handled<H, W>,
-    link: &mut L,
-    stop: Stop,
-) -> LinkError
+fn end_for<H: Handler, L: Link>(handled: &mut Handled<H>, link: &mut L, stop: Stop) -> LinkError
     requires { L.faults link.old < 2 ^ 64 - 1 }
-    ensures ends { EndsServingFor (relations H.heads H.bodies H.trails H.gives H.ends)
+    ensures ends { EndsServingFor H.Handler
         (traffic (L.given link.old) (L.taken link.old) (L.stalled link.old))
         (traffic (L.given link.new) (L.taken link.new) (L.stalled link.new))
         handled.old handled.new result }

@@ -1,5 +1,5 @@
-//! Drives two joined ends until they are quiet, for tests of a program over HTTP/2 without
-//! sockets (RFC 9113).
+//! Drives two joined ends until they are quiet, for tests, without sockets, of a program that uses
+//! HTTP/2 (RFC 9113).
 //!
 //! [`settle`] makes rounds: each end returns credit, pumps, gives out its output, and takes
 //! what has come. A test makes its requests and responses ([`Joined::act`]), calls `settle(&mut

@@ -30,7 +30,7 @@ impl Complete {
     // contract: 6.1 With PADDED, DATA has a pad length, data and padding
     // rule: 6.1 With PADDED, DATA has a pad length, data and padding
     /// Returns the number of octets that [`Cutter::body`](crate::Cutter::body) lends of this
-    /// frame, if it lends any: for DATA the length of its data. It takes no memory.
+    /// frame, if it returns `Some`: for DATA the length of its data. It allocates nothing.
     pub fn body_len(&self) -> usize
         ensures { (cutter : CutterState) (piece octets : List ℕ)
             → body_at cutter piece self.now ≡ Some octets → result ≡ length octets }

@@ -60,13 +60,14 @@ impl Cutter {
     // contract: 4.1 (own) A frame that is cut in two is kept until the next call
     /// Uses octets of the piece, up to the end of one frame, and says where that frame lies; if
     /// they complete no frame, it uses all of them. The octets after a frame are for the next
-    /// call. [`Cutter::frame`] lends the frame, until the next call.
+    /// call. [`Cutter::frame`] lends the frame, until `advance` or [`Cutter::cut`] is called
+    /// again.
     ///
     /// # Errors
     ///
     /// - [`WireFault::BadPreface`] at the first octet that differs from the preface;
-    /// - [`WireFault::HeadFault`] at the ninth octet of a head;
-    /// - [`WireFault::PayloadFault`] at the last octet of a payload;
+    /// - [`WireFault::HeadFault`] at the ninth octet of a head that is at fault;
+    /// - [`WireFault::PayloadFault`] at the last octet of a payload that is at fault;
     /// - [`WireFault::Memory`] where an allocation was refused: nothing was used, and the call
     ///   may be repeated.
     ///
@@ -126,8 +127,8 @@ impl Cutter {
     // rule: 6.1 With PADDED, DATA has a pad length, data and padding
     /// Lends the payload of the frame that the last call of [`Cutter::advance`] returned,
     /// without pad length and padding (RFC 9113, sections 6.1 and 6.2): for DATA its data.
-    /// `piece` is the one given to that call; `None` if another one is too short to hold these
-    /// octets. It allocates nothing.
+    /// `piece` is the one given to that call. Only where `piece` or `frame` is another one can the
+    /// result be `None`. It allocates nothing.
     pub fn body<'a>(&'a self, piece: &'a [u8], frame: Complete) -> Option<&'a [u8]>
         ensures { MatchOption result (body_at self.now piece.now frame ≡ None)
             (λ body. body_at self.now piece.now frame ≡ Some body.now) }
@@ -205,8 +206,8 @@ impl Cutter {
     // contract: 4.2 (own) A cutter's limit is changed for heads that are still to come
     // rule: 4.2 (own) A cutter's limit is changed for heads that are still to come
     /// Sets the limit of payloads (RFC 9113, sections 4.2 and 6.5.2) for heads whose ninth
-    /// octet is not used yet. Frames whose head was used before are not affected. It takes no
-    /// memory.
+    /// octet is not used yet. Frames whose head was used before are not affected. It allocates
+    /// nothing.
     pub fn set_limit(&mut self, limit: u32)
         // The cutter represents the same stream and frames, with this limit for the octets that
         // follow.
@@ -220,8 +221,8 @@ impl Cutter {
     // rule: 4.1 Unparsed octets hold no complete frame and no fault
     // contract: 10.5 (own) What an end holds of a stream is bounded
     // rule: 10.5 (own) What an end holds of a stream is bounded
-    /// Returns the number of unparsed octets: those of a preface or a frame that has begun and
-    /// is not complete. It allocates nothing.
+    /// Returns the number of unparsed octets: those of a preface or a frame that has begun and is
+    /// not complete; 0 once the stream is at fault. It allocates nothing.
     pub fn held(&self) -> usize
         ensures value { result ≡ length self.now.unparsed }
         ensures preface { self.now.in_preface ≡ true → result ≤ 24 }
@@ -233,7 +234,8 @@ impl Cutter {
     // contract: 5.4.1 The place of a fault counts the octets up to it, with the preface
     // rule: 5.4.1 The place of a fault counts the octets up to it, with the preface
     /// Returns the place in the stream, counted from 1, of the octet used last, or of the octet
-    /// that made the fault; up to 2<sup>64</sup> - 1. It allocates nothing.
+    /// that made the fault; 0 if none was used, and at most 2<sup>64</sup> - 1. It allocates
+    /// nothing.
     pub fn place(&self) -> u64
         ensures { result ≡ self.now.place }
     {

@@ -7,7 +7,8 @@ use h2_frame::{Code, HeadFault};
 use std::alloc::AllocError;
 use thiserror::Error;
 
-/// Why a stream cannot be cut any further.
+/// Why [`Cutter::advance`](crate::Cutter::advance) or [`Cutter::cut`](crate::Cutter::cut) failed:
+/// a fault of the stream, or a refused allocation.
 #[derive(Clone, Copy, Debug, PartialEq, Eq, Hash, Error)]
 pub enum WireFault {
     /// V1: the input differs from the client's preface (RFC 9113, section 3.4).
@@ -19,7 +20,7 @@ pub enum WireFault {
     /// V3: a payload is at fault, known at its last octet.
     #[error("V3 PayloadFault: {0}")]
     PayloadFault(Code),
-    /// V4: an allocation was refused.
+    /// V4: an allocation was refused; the call may be repeated.
     #[error("V4 Memory: out of memory")]
     Memory,
 }

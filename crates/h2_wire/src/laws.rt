@@ -9,7 +9,8 @@ ghost use Rattle.h2_wire.specs.declared.fault.WireFault.{WireFault as Fault};
 ghost use Rattle.h2_wire.specs.Streams.{Limits, IsFrame, IsPartial, Frames, WireFaultAt};
 
 // contract: 4.1 The frames of a stream do not depend on the pieces of its octets
-/// A stream has one reading: its frames and its unparsed octets are the same, however it was cut.
+/// A stream has at most one reading: its frames and its unparsed octets are the same, however it
+/// was cut.
 pub fn one_reading()
     ensures { (expects : Bool) (limits : Limits) (stream : List ℕ) (frames others : List Frame)
         (unparsed other : List ℕ)
@@ -28,7 +29,8 @@ pub fn frames_are_read_with_wider_limits()
 {}
 
 // contract: 5.4.1 A stream of octets has one fault at most, at one place
-/// A stream has at most one fault, at one place after the same frames, whatever octets follow.
+/// A stream has at most one fault: the fault, its place and the frames before it are the same,
+/// whatever octets follow.
 pub fn one_fault()
     ensures { (expects : Bool) (limits : Limits) (stream more : List ℕ) (frames others : List Frame)
         (place other : ℕ) (fault another : Fault)

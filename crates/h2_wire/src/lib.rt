@@ -2,9 +2,9 @@
 //!
 //! [`Cutter::cut`] takes the stream in pieces of any length, and lends each frame once it is
 //! complete: from the piece, or from the cutter if the frame was cut in two.
-//! [`Cutter::advance`] and [`Cutter::frame`] are its two halves, for a caller that changes
-//! something in between. The frames, and the place of a fault, are the same however the stream
-//! is cut into pieces.
+//! [`Cutter::advance`] and [`Cutter::frame`] are the two halves of [`Cutter::cut`], for a caller
+//! that needs the cutter between them, for [`Cutter::set_limit`] say. The frames, and the place of
+//! a fault, are the same however the stream is cut into pieces.
 #![tactic(auto)]
 
 mod buffer;

@@ -52,7 +52,7 @@ impl Party for Counter<'_> {
     fn step(&mut self, own: Own, octets: &[u8], _room: &mut [u8]) -> Answer {
         match own {
             Own::Came if self.came.extend_from_slice(octets).is_ok() => {}
-            Own::Came | Own::Refused { .. } => return Answer::Over,
+            Own::Came | Own::Lost | Own::Refused { .. } => return Answer::Over,
             Own::Ended => self.ended = true,
             Own::Turn => self.acted = self.acted.saturating_add(1),
             Own::Went { count } => self.went = self.went.saturating_add(count),

@@ -50,7 +50,7 @@ impl Party for Till {
             Own::Turn => self.acted = self.acted.saturating_add(1),
             Own::Went { count } => self.kept = self.kept.saturating_sub(count),
             Own::Passed { now } => self.seen = now,
-            Own::Refused { .. } => {
+            Own::Lost | Own::Refused { .. } => {
                 self.kept = 0;
                 self.over = true;
                 return Answer::Over;

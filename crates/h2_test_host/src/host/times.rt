@@ -1,9 +1,11 @@
 //! What is late, and what a flood is.
 
-use h2_times::{Budget, Counts, Flood, FloodLimits, Late, Progress, TimeLimits, Times};
+use h2_server::{
+    Activity, Deadlines, Flood, FloodBudget, FloodCounts, FloodLimits, TimeLimits, Timeout,
+};
 
 /// A connection on which nothing goes on but that it is open.
-const QUIET: Progress = Progress {
+const QUIET: Activity = Activity {
     opened: true,
     in_frame: false,
     frames: 0,
@@ -23,9 +25,9 @@ fn a_frame_that_does_not_end_is_late(rt: HostRuntime) {
     let limits = TimeLimits::default();
     let mut progress = QUIET;
     progress.in_frame = true;
-    let times = Times::new().after(progress, &limits, 1_000);
+    let times = Deadlines::new().after(progress, &limits, 1_000);
     assert!(rt; times.overdue(&limits, 30_999).is_none());
-    assert!(rt; times.overdue(&limits, 31_000) == Some(Late::Frame));
+    assert!(rt; times.overdue(&limits, 31_000) == Some(Timeout::Frame));
     // Another frame has begun since.
     progress.frames = 20;
     let times = times.after(progress, &limits, 20_000);
@@ -38,13 +40,13 @@ fn a_frame_that_does_not_end_is_late(rt: HostRuntime) {
 #[test]
 fn what_is_above_its_budget_is_a_flood(rt: HostRuntime) {
     let limits = FloodLimits::default();
-    let mut counts = Counts {
+    let mut counts = FloodCounts {
         resets: 500,
         empty: 0,
         refused: 0,
         replies: 0,
     };
-    let budget = Budget::new(0);
+    let budget = FloodBudget::new(0);
     assert!(rt; budget.above(counts, &limits).is_none() && budget.is_near(counts, &limits));
     counts.resets = 501;
     assert!(rt; budget.above(counts, &limits) == Some(Flood::Resets));

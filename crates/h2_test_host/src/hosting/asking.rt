@@ -1,6 +1,6 @@
 //! A request to a handler, and all that it answers.
 
-use h2_handlers::{Cause, Field, FieldList, Handler, Part, Reply};
+use h2_server::{Cause, Field, FieldList, Handler, Part, Reply};
 use hpack::{Decoder, Encoder, list_size};
 use std::alloc::Global;
 
@@ -43,7 +43,7 @@ pub fn ask<W: Drop, H: Handler<Work = W>>(
 ) -> Option<Answer> {
     let (mut work, reply) = handler.head(alloc, list, true).ok()?;
     let answer = match reply {
-        Reply::Whole(message) => Answer {
+        Reply::Whole(message) | Reply::Refuse(message) => Answer {
             status: status_of(alloc, &message.head)?,
             tag: tag_of(alloc, &message.head)?,
             body: message.body,

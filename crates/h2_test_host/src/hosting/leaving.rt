@@ -46,9 +46,9 @@ impl Party for Counted<'_> {
     ghost output_of = { λ _. [] };
 
     fn step(&mut self, own: Own, _octets: &[u8], _room: &mut [u8]) -> Answer {
-        // It goes on until it was asked to leave, or is refused.
+        // It goes on until it was asked to leave, or is refused or lost.
         match own {
-            Own::Refused { .. } => Answer::Over,
+            Own::Lost | Own::Refused { .. } => Answer::Over,
             _ if self.left == 0 => Answer::Goes,
             _ => Answer::Over,
         }

@@ -1,14 +1,13 @@
 //! Connections of a host whose windows are widened, by what they send.
 
-use h2_handlers::{Config, Echo, Gather, Gathered};
 use h2_host::{Own, Party};
-use h2_hosting::{Guest, SeatLimits, Windows};
-use h2_seat::Seat;
+use h2_hosting::{ConnectionLimits, Guest, Windows};
+use h2_server::{Buffered, Config, Connection, Echo};
 use std::alloc::Global;
 use std::cell::Cell;
 
 /// A connection of a host whose handler echoes.
-type Served<'a> = Guest<'a, Seat<Gather<Echo>, Option<Gathered>>>;
+type Served<'a> = Guest<'a, Connection<Buffered<Echo>>>;
 
 /// What a client begins with: its preface, SETTINGS, and the head of a POST, whose body follows.
 const BEGINS: &[u8] = b"PRI * HTTP/2.0\r\n\r\nSM\r\n\r\n\
@@ -23,10 +22,10 @@ const WIDER: &[u8] = b"\x00\x00\x04\x08\x00\x00\x00\x00\x00\x00\x00\x00\x64";
 
 /// A connection that is widened by what these windows have for it; none when out of memory.
 fn served<'a>(alloc: Global, leaving: &'a Cell<bool>, windows: &'a Windows) -> Option<Served<'a>> {
-    let handler = Gather::new(Echo, 1_000);
-    let limits = SeatLimits::default();
-    let seat = Seat::new(alloc, Config::default(), limits, 0, handler).ok()?;
-    Guest::new(alloc, seat, leaving, windows).ok()
+    let handler = Buffered::new(Echo, 1_000);
+    let limits = ConnectionLimits::default();
+    let party = Connection::new(alloc, Config::default(), limits, 0, handler).ok()?;
+    Guest::new(alloc, party, leaving, windows).ok()
 }
 
 /// How often octets have [`WIDER`] in them.

@@ -5,8 +5,8 @@ ghost use Rattle.std.specs.Prelude.{◌≡◌};
 use crate::serve::asked::{asked, link_of};
 use h2_ends::{Config, Message};
 use h2_engines::{Link, LinkError, MemoryLink, serve_link};
-use h2_handlers::{Echo, Gather};
 use h2_serve::serve_handler;
+use h2_server::{Buffered, Echo};
 use std::alloc::Global;
 
 /// The most octets of a body: as many as `serve_link` takes.
@@ -36,7 +36,7 @@ fn request(alloc: Global, method: &[u8], body: &[u8]) -> Option<Message> {
 pub(crate) fn echoes(alloc: Global, link: &mut MemoryLink) -> Result<u64, LinkError>
     requires { link.old.failures ≡ 0 }
 {
-    serve_handler(alloc, link, Config::default(), Gather::new(Echo, MOST))
+    serve_handler(alloc, link, Config::default(), Buffered::new(Echo, MOST))
 }
 
 /// Whether it gives the octets and the answer of `serve_link`, where it gives this.

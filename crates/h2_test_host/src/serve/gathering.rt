@@ -1,19 +1,19 @@
-//! A handler of whole requests: what an answerer is asked with.
+//! A handler of whole requests: what an service is asked with.
 
 ghost use Rattle.std.specs.Prelude.{◌≡◌};
 
 use crate::serve::asked::{asked, link_of, place_of};
 use h2_ends::{Config, Message};
 use h2_engines::MemoryLink;
-use h2_serve::{Answerer, Field, Gather, HandlerFault, LinkError, Request, serve_handler};
+use h2_serve::{Buffered, Field, HandlerFault, LinkError, Request, Service, serve_handler};
 use std::alloc::Global;
 
 /// Answers with how many octets the body has, a space and the value of the first trailer.
 #[derive(Drop)]
 struct Measure;
 
-impl Answerer for Measure {
-    fn answer(&mut self, alloc: Global, request: &Request) -> Result<Message, HandlerFault> {
+impl Service for Measure {
+    fn respond(&mut self, alloc: Global, request: &Request) -> Result<Message, HandlerFault> {
         let mut text = request.body.len().to_string(alloc)?;
         text.push_str(" ")?;
         if let Some(list) = &request.trailers
@@ -50,7 +50,7 @@ fn octets_of(alloc: Global, length: usize) -> Option<Vec<u8>> {
 fn measures(alloc: Global, link: &mut MemoryLink, most: usize) -> Result<u64, LinkError>
     requires { link.old.failures ≡ 0 }
 {
-    serve_handler(alloc, link, Config::default(), Gather::new(Measure, most))
+    serve_handler(alloc, link, Config::default(), Buffered::new(Measure, most))
 }
 
 /// Whether a request with 40,000 octets, of which `most` are taken, is served, with these octets
@@ -75,11 +75,22 @@ fn all_of_a_request(rt: HostRuntime) {
     assert!(rt; is_answered(rt.alloc(), 40_000, b"40000 seven"));
 }
 
-/// RST_STREAM of stream 1 with ENHANCE_YOUR_CALM.
-const CALM: &[u8] = b"\0\0\x04\x03\0\0\0\0\x01\0\0\0\x0b";
+/// HEADERS of stream 1 with status 413 and END_STREAM.
+const TOO_LARGE: &[u8] = b"\0\0\x05\x01\x05\0\0\0\x01\x48\x83\x68\x2c\xff";
 
-// rule: handlers (own) A whole request is answered by what has come of it, all and in order
+/// RST_STREAM of stream 1 with NO_ERROR.
+const STOP: &[u8] = b"\0\0\x04\x03\0\0\0\0\x01\0\0\0\0";
+
+/// Whether a body that is too long is refused, and the client asked to stop if more is to come:
+/// of the first, all has come before anything is sent; of the second, less than half.
+fn is_refused(alloc: Global) -> bool {
+    let is_whole = is_answered(alloc, 39_999, TOO_LARGE) && !is_answered(alloc, 39_999, STOP);
+    is_whole && is_answered(alloc, 10_000, TOO_LARGE) && is_answered(alloc, 10_000, STOP)
+}
+
+// rule: HTTP 15.5.14 (own) A body above what is gathered is refused with status 413
+// rule: 8.1 (own) The stream of a refused request is reset with NO_ERROR after the answer
 #[test]
 fn body_with_too_many_octets(rt: HostRuntime) {
-    assert!(rt; is_answered(rt.alloc(), 39_999, CALM));
+    assert!(rt; is_refused(rt.alloc()));
 }

@@ -5,8 +5,8 @@ ghost use Rattle.std.specs.Prelude.{◌≡◌};
 use crate::serve::asked::{link_of, output_of, place_of};
 use h2_ends::{Client, Config, Message};
 use h2_engines::{Link, MemoryLink};
-use h2_handlers::{Echo, Gather};
 use h2_serve::serve_handler;
+use h2_server::{Buffered, Echo};
 use std::alloc::Global;
 
 /// DATA with the whole answer to the second request, which ends stream 3.
@@ -38,7 +38,7 @@ fn begin_and_reset(alloc: Global, client: &mut Client) -> Option<()> {
 fn answers_second(alloc: Global, link: &mut MemoryLink) -> bool
     requires { link.old.failures ≡ 0 }
 {
-    let served = serve_handler(alloc, link, Config::default(), Gather::new(Echo, 16));
+    let served = serve_handler(alloc, link, Config::default(), Buffered::new(Echo, 16));
     let output = link.output();
     served == Ok(2) && place_of(output, ANSWER).is_some() && place_of(output, b"/a").is_none()
 }

@@ -69,7 +69,7 @@ fn encode(encoder: &mut Encoder, fields: &[Field], out: &mut Vec<u8>) -> Result<
     }
 }
 
-// A field, lent.
+// A field borrowed from a list.
 fn lent(field: &Field) -> FieldRef<'_> {
     FieldRef {
         name: field.name.as_slice(),

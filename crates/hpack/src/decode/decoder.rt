@@ -37,7 +37,8 @@ impl Model for Decoder {
 }
 
 impl Decoder {
-    /// Makes a decoder with an empty table, whose maximum size and limit are `maximum` octets.
+    /// Makes a decoder with an empty table. The table's maximum size and the limit for size
+    /// updates ([`Decoder::set_limit`]) are `maximum` octets.
     ///
     /// # Errors
     ///
@@ -127,7 +128,7 @@ impl Decoder {
     ///
     /// # Errors
     ///
-    /// Those of [`Decoder::decode`], and the list is empty.
+    /// Those of [`Decoder::decode`]; the list is then empty.
     pub fn decode_into(
         &mut self,
         octets: &[u8],

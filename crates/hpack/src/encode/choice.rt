@@ -81,8 +81,8 @@ fn name_index(pending: &PendingTable, table: &Table, name_hash: u64, field: &Fie
 
 // contract: HPACK 6.1 (own) A field with an exact entry is its least index
 // rule: HPACK 6.1 (own) A field with an exact entry is its least index
-/// The least index of an entry with the field's name and value, the static table first, or 0
-/// and the hash of both.
+/// The least index of an entry with the field's name and value, the static table first, or 0; and,
+/// if the static table has no such entry, the hash of both.
 fn exact_index(pending: &PendingTable, table: &Table, name_hash: u64, field: &Field) -> (u64, u64)
     requires pending { IsPendingTable pending.now table.now }
     requires hash { name_hash ≡ hash_of_octets 0 field.now.name }

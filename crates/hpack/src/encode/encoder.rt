@@ -52,7 +52,8 @@ impl Model for Encoder {
 }
 
 impl Encoder {
-    /// Makes an encoder with an empty table, whose maximum size and limit are `maximum` octets.
+    /// Makes an encoder with an empty table. The table's maximum size and the limit of the peer's
+    /// table ([`Encoder::set_limit`]) are `maximum` octets.
     ///
     /// # Errors
     ///

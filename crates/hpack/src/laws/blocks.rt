@@ -9,8 +9,8 @@ ghost use Rattle.hpack.specs.Blocks.{Block, Update};
 ghost use Rattle.hpack.specs.Lists.{NoBlock};
 
 // contract: HPACK 3.1 A block is decoded exactly where its octets are one
-/// For a given table and limit, octets are at most one block: they determine its list of fields and
-/// the table after it.
+/// For a given table and limit, octets can be read as a block in at most one way: they determine
+/// its list of fields and the table after it.
 pub fn one_block()
     ensures { (table after other : Entries) (limit : ℕ) (octets : List ℕ)
         (fields others : List Field)

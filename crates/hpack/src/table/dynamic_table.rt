@@ -18,9 +18,9 @@ use std::marker::Model;
 /// The least size of an entry.
 const LEAST_SIZE: u32 = 32;
 
-/// A dynamic table: entries, the newest first, and a maximum for their size. An entry's size is the
-/// octets of its name and its value, plus 32; the table's size is the sum of these, at most the
-/// maximum.
+/// A dynamic table: entries, the newest first, and a maximum for their size. An entry's size is
+/// the number of octets of its name and its value, plus 32; the table's size is the sum of its
+/// entries' sizes, at most the maximum.
 #[derive(Drop)]
 pub struct Table {
     /// The entries, the newest at the front. It has room for all that the maximum allows.

@@ -59,7 +59,7 @@ impl fmt::Debug for Field {
     }
 }
 
-/// A field of a list, lent. `{:?}` shows `[sensitive]` in place of a sensitive field's value.
+/// A field borrowed from a list. `{:?}` shows `[sensitive]` in place of a sensitive field's value.
 #[derive(Clone, Copy)]
 pub struct FieldRef<'a> {
     /// The name.
@@ -90,9 +90,10 @@ impl fmt::Debug for FieldRef<'_> {
 /// they are too large.
 #[derive(Debug, Drop)]
 pub enum List {
-    /// All of them, in order.
+    /// All fields of the block, in order.
     Whole(Vec<Field>),
-    /// Nothing: their size is above the limit. The complete block has changed the table.
+    /// Nothing: the size of the fields is above the limit. The complete block has changed the
+    /// table.
     TooLarge,
 }
 

@@ -1,4 +1,4 @@
-//! A list of fields whose room is used again.
+//! A list of fields whose capacity is used again.
 
 ghost use Rattle.std.specs.Prelude.{◌≡◌, ◌==◌, ◌≤◌, [], length, slice_get, Some, None};
 ghost use Rattle.std.specs.Prelude.{IfOk, MatchOption};
@@ -11,12 +11,12 @@ use std::fmt;
 use std::marker::Model;
 
 /// The fields of a block, for [`Decoder::decode_into`](crate::Decoder::decode_into): one vector of
-/// all names and values, and one of their places. It keeps its room from block to block. `{:?}`
-/// shows `[sensitive]` in place of a sensitive field's value.
+/// all names and values, and one of their places. It keeps its capacity from block to block.
+/// `{:?}` shows `[sensitive]` in place of a sensitive field's value.
 #[derive(Drop)]
 pub struct FieldList {
-    /// The names and values, one after another; those of a field that repeats the one before it
-    /// once for both.
+    /// The names and values, one after another. A field that repeats the one before it may share
+    /// its octets.
     octets: Vec<u8>,
     /// Where each field is.
     places: Vec<FieldPlace>,
@@ -90,7 +90,7 @@ impl FieldList {
     // contract: HPACK 3.2 (own) A kept list says its fields and their number
     // rule: HPACK 3.2 (own) A kept list says its fields and their number
     /// Returns the value of the first field with this name, compared octet for octet; `None` if
-    /// there is none. It goes over the fields, and takes no memory.
+    /// there is none. It searches the fields in order, and takes no memory.
     pub fn value(&self, name: &[u8]) -> Option<&[u8]>
         ensures { MatchOption result (value_of name.now self.now ≡ None)
             (λ value. value_of name.now self.now ≡ Some value.now) }

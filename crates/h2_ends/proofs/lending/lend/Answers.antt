@@ -11,12 +11,12 @@ use Rattle.h2_ends.proofs.lending.lend.Goals as goal
 
 -- An event is lent with the fields that are kept, and the octets of its body, if it is one.
 lent_as : (end : End) (piece : List ℕ) (fields : Bor (List Field)) (octets : Bor (List ℕ))
-    (one : LocatedPart) → fields.now ≡ end.conn.inner.end.list
+    (one : LocatedPart) → fields.now ≡ end.conn.end.list
     → ((id : ℕ) (frame : Complete) (last : Bool) → one ≡ events.Body id frame last
-    → body_at end.conn.inner.cutter piece frame ≡ Some octets.now)
+    → body_at end.conn.cutter piece frame ≡ Some octets.now)
     → IsBodyIn end piece octets.now (Some one)
     × (event_handed (end_event_with_parts fields octets one)
-    ≡ handed_value end.conn.inner.end.list octets.now one)
+    ≡ handed_value end.conn.end.list octets.now one)
 unfolding IsBodyIn
 lent_as end piece fields octets (events.Interim id list) same lies = (tt, rw same refl)
 lent_as end piece fields octets (events.Head id list last) same lies = (tt, rw same refl)

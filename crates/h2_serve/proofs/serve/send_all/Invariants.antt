@@ -1,7 +1,6 @@
 -- No call of the link has failed, the room is as long as it was, and it is served, in so many
 -- rounds.
 use Rattle.h2_engines.proofs.Names.{◌≡◌, length, traffic}
-use Rattle.h2_handlers.specs.Exchanges.{relations}
 use Rattle.h2_serve.proofs.Serving.{ServesFrom}
 use Rattle.h2_serve.proofs.serve.send_all.Given as goal
 
@@ -11,8 +10,7 @@ invariant-loop g l =
       failures : g.L.Link.faults l.link ≡ g.L.Link.faults l.initial.link;
       room : length l.room ≡ length l.initial.room;
       sends : ServesFrom
-          (relations g.H.Handler.heads g.H.Handler.bodies g.H.Handler.trails g.H.Handler.gives
-          g.H.Handler.ends)
+          g.H.Handler
           (traffic (g.L.Link.given l.initial.link) (g.L.Link.taken l.initial.link)
           (g.L.Link.stalled l.initial.link))
           (traffic (g.L.Link.given l.link) (g.L.Link.taken l.link) (g.L.Link.stalled l.link))

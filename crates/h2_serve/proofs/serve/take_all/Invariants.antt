@@ -1,7 +1,6 @@
 -- So many octets of the piece were used, no call of the link has failed, the room is as long as it
 -- was, and it is served.
 use Rattle.h2_engines.proofs.Names.{◌≡◌, ◌≤◌, length, drop, traffic}
-use Rattle.h2_handlers.specs.Exchanges.{relations}
 use Rattle.h2_serve.proofs.Serving.{TakesFrom}
 use Rattle.h2_serve.proofs.serve.take_all.Given as goal
 
@@ -12,8 +11,7 @@ invariant-loop g l =
       failures : g.L.Link.faults l.link ≡ g.L.Link.faults l.initial.link;
       room : length l.room ≡ length l.initial.room;
       takes : TakesFrom
-          (relations g.H.Handler.heads g.H.Handler.bodies g.H.Handler.trails g.H.Handler.gives
-          g.H.Handler.ends)
+          g.H.Handler
           (traffic (g.L.Link.given l.initial.link) (g.L.Link.taken l.initial.link)
           (g.L.Link.stalled l.initial.link))
           (traffic (g.L.Link.given l.link) (g.L.Link.taken l.link) (g.L.Link.stalled l.link))

@@ -1,6 +1,5 @@
 -- No call of the link has failed, and it took all that was given out, in so many rounds.
 use Rattle.h2_engines.proofs.Names.{◌≡◌, traffic}
-use Rattle.h2_handlers.specs.Exchanges.{relations}
 use Rattle.h2_serve.proofs.Serving.{ServesFrom}
 use Rattle.h2_serve.proofs.writing.write_out.Given as goal
 
@@ -9,8 +8,7 @@ invariant-loop g l =
     record {
       failures : g.L.Link.faults l.link ≡ g.L.Link.faults l.initial.link;
       writes : ServesFrom
-          (relations g.H.Handler.heads g.H.Handler.bodies g.H.Handler.trails g.H.Handler.gives
-          g.H.Handler.ends)
+          g.H.Handler
           (traffic (g.L.Link.given l.initial.link) (g.L.Link.taken l.initial.link)
           (g.L.Link.stalled l.initial.link))
           (traffic (g.L.Link.given l.link) (g.L.Link.taken l.link) (g.L.Link.stalled l.link))

@@ -13,14 +13,27 @@ returns-in-Some-clause-takes c = λ octets body values log p.
 
 pub invariant_of-self : goal.invariant_of-self
 invariant_of-self c =
-    let up : c.args.self.now.inner.end.failed ≡ None = sym c.failed.ensures ∙ c.in_default.is in
+    let up : c.args.self.now.end.failed ≡ None = sym c.failed.ensures ∙ c.in_default.is in
     record {
       sound = λ going.
           closed_sound c.close_unprocessed.result _ _ c.in-Some-unprocessed.id
-          (c.args.self.now.inner.sound up) up c.in-Some-unprocessed.ensures.number
+          (c.args.self.now.sound up) up c.in-Some-unprocessed.ensures.number
           c.in-Some-unprocessed.ensures.some c.close_unprocessed.ensures.ok
           c.close_unprocessed.ensures.err going;
-      cuts = λ going. c.args.self.now.inner.cuts up;
+      cuts = λ going. c.args.self.now.cuts up;
+    }
+
+pub invariant_of-self-in_default-close_unprocessed :
+    goal.invariant_of-self-in_default-close_unprocessed
+invariant_of-self-in_default-close_unprocessed c =
+    let up : c.args.self.now.end.failed ≡ None = sym c.failed.ensures ∙ c.in_default.is in
+    record {
+      sound = λ going.
+          closed_sound c.close_unprocessed.result _ _ c.in-Some-unprocessed.id
+          (c.args.self.now.sound up) up c.in-Some-unprocessed.ensures.number
+          c.in-Some-unprocessed.ensures.some c.close_unprocessed.ensures.ok
+          c.close_unprocessed.ensures.err going;
+      cuts = λ going. c.args.self.now.cuts up;
     }
 
 pub returns-in-Some-unprocessed-clause-takes : goal.returns-in-Some-unprocessed-clause-takes

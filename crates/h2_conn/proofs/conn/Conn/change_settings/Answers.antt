@@ -12,7 +12,7 @@ invariant_of-self c =
     assumption (call_kept c.change_settings.result _ _
     (ChangeSettings (values_of c.args.config)) _ refl
     c.args.config.in_range
-    c.args.self.now.inner.sound c.args.self.now.inner.cuts
+    c.args.self.now.sound c.args.self.now.cuts
     c.change_settings.ensures.ok c.change_settings.ensures.err)
 
 pub returns-in_err-change_settings : goal.returns-in_err-change_settings
@@ -27,18 +27,18 @@ returns-in_err-change_settings c =
 pub returns : goal.returns
 unfolding IsTypedAct
 returns c =
-    let e = end_of c.args.self.now.inner.end in
+    let e = end_of c.args.self.now.end in
     let new = end_of c.change_settings.new.self in
     let act = ChangeSettings (values_of c.args.config) in
     let accepted = c.in_ok-change_settings.ensures.ok in
     let sound = sound_by c.change_settings.result e new act c.args.config.in_range
-    (c.args.self.now.inner.sound (up_if_free e act refl accepted.free))
+    (c.args.self.now.sound (up_if_free e act refl accepted.free))
     c.change_settings.ensures.ok c.change_settings.ensures.err in
     rw (
       c.limit_payloads.ensures.end,
       c.limit_payloads.ensures.counts,
       c.limit_payloads.ensures.why,
     ) (represented {act = act} refl c.args.config.in_range (change_answers
-    c.args.self.now.inner.cutter c.limit_payloads.new.self.cutter e new (values_of c.args.config)
+    c.args.self.now.cutter c.limit_payloads.new.self.cutter e new (values_of c.args.config)
     c.args.config.in_range accepted c.limit_payloads.ensures.cutter
     (limit_in_range new sound.ranges)))

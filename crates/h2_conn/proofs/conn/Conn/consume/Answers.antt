@@ -12,13 +12,13 @@ pub invariant_of-self : goal.invariant_of-self
 unfolding IsTypedAct
 invariant_of-self c =
     assumption (put_out_kept c.consume.result _ _ c.args.count _ c.ranges.count.fits
-    c.args.self.now.inner.sound c.args.self.now.inner.cuts
+    c.args.self.now.sound c.args.self.now.cuts
     c.consume.ensures.ok c.consume.ensures.err)
 
 pub returns-clause-answers : goal.returns-clause-answers
 unfolding IsTypedAct may_lack_memory
 returns-clause-answers c =
-    let e = end_of c.args.self.now.inner.end in
+    let e = end_of c.args.self.now.end in
     represented (plain (PutOut c.args.count) Count c.consume.result (λ given. refl))
     c.ranges.count.fits
     (put_out_answers c.consume.result _ _ _ _ c.ranges.count.fits
@@ -29,4 +29,4 @@ returns-clause-answers c =
 pub returns-clause-room : goal.returns-clause-room
 returns-clause-room c = λ values log parts none.
     c.consume.ensures.nothing
-    (returns_alike values (end_of c.args.self.now.inner.end) log parts.machine ∙ none)
+    (returns_alike values (end_of c.args.self.now.end) log parts.machine ∙ none)

@@ -15,7 +15,7 @@ invariant_of-self c =
     assumption (call_kept c.send_data.result _ _
     (SendData c.args.id c.args.octets.now c.args.end) _ refl
     (c.ranges.id.fits, all_octets c.args.octets.now c.type_inv.octets)
-    c.args.self.now.inner.sound c.args.self.now.inner.cuts
+    c.args.self.now.sound c.args.self.now.cuts
     (beside_value _ _ c.send_data.result c.send_data.ensures.ok) c.send_data.ensures.err)
 
 pub returns-clause-answers : goal.returns-clause-answers
@@ -35,6 +35,6 @@ returns-clause-octets c = all_octets c.args.octets.now c.type_inv.octets
 
 pub returns-clause-nothing : goal.returns-clause-nothing
 returns-clause-nothing c = λ values log parts none.
-    nothing_taken values (end_of c.args.self.now.inner.end) log c.args.id c.args.octets.now
+    nothing_taken values (end_of c.args.self.now.end) log c.args.id c.args.octets.now
     c.args.end c.send_data.result parts.machine c.send_data.ensures.closed
     c.send_data.ensures.nothing none

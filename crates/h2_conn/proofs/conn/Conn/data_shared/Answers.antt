@@ -15,7 +15,7 @@ invariant_of-self c =
     assumption (call_kept c.send_shared_data.result _ _
     (SendData c.args.id c.args.octets c.args.end) _ refl
     (c.ranges.id.fits, rw c.as_slice.ensures at c.are_octets.ensures)
-    c.args.self.now.inner.sound c.args.self.now.inner.cuts
+    c.args.self.now.sound c.args.self.now.cuts
     (beside_value _ _ c.send_shared_data.result c.send_shared_data.ensures.ok)
     c.send_shared_data.ensures.err)
 
@@ -36,6 +36,6 @@ returns-clause-octets c = rw c.as_slice.ensures at c.are_octets.ensures
 
 pub returns-clause-nothing : goal.returns-clause-nothing
 returns-clause-nothing c = λ values log parts none.
-    nothing_taken values (end_of c.args.self.now.inner.end) log c.args.id c.args.octets
+    nothing_taken values (end_of c.args.self.now.end) log c.args.id c.args.octets
     c.args.end c.send_shared_data.result parts.machine c.send_shared_data.ensures.closed
     c.send_shared_data.ensures.nothing none

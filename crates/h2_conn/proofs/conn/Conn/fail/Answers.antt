@@ -11,7 +11,15 @@ unfolding IsTypedAct
 invariant_of-self c =
     assumption (call_kept c.fail_on_request.result _ _ (Fail c.args.code) _ refl
     tt
-    c.args.self.now.inner.sound c.args.self.now.inner.cuts
+    c.args.self.now.sound c.args.self.now.cuts
+    c.fail_on_request.ensures.ok c.fail_on_request.ensures.err)
+
+pub invariant_of-self-2 : goal.invariant_of-self-2
+unfolding IsTypedAct
+invariant_of-self-2 c =
+    assumption (call_kept c.fail_on_request.result _ _ (Fail c.args.code) _ refl
+    tt
+    c.args.self.now.sound c.args.self.now.cuts
     c.fail_on_request.ensures.ok c.fail_on_request.ensures.err)
 
 pub returns-in_err-fail_on_request : goal.returns-in_err-fail_on_request

@@ -12,7 +12,7 @@ invariant_of-self c =
     assumption (call_kept c.send_fields.result _ _
     (SendFields c.args.id c.args.fields.now c.args.end) _ refl
     (c.ranges.id.fits, c.send_fields.ensures.octets)
-    c.args.self.now.inner.sound c.args.self.now.inner.cuts
+    c.args.self.now.sound c.args.self.now.cuts
     c.send_fields.ensures.ok c.send_fields.ensures.err)
 
 pub returns-clause-answers : goal.returns-clause-answers

@@ -11,7 +11,7 @@ unfolding IsTypedAct
 invariant_of-self c =
     assumption (call_kept c.go_away.result _ _ (SendGoAway) _ refl
     tt
-    c.args.self.now.inner.sound c.args.self.now.inner.cuts
+    c.args.self.now.sound c.args.self.now.cuts
     c.go_away.ensures.ok c.go_away.ensures.err)
 
 pub returns : goal.returns

@@ -6,9 +6,9 @@ use Rattle.h2_conn.proofs.conn.Conn.held.Goals as goal
 
 pub returns-clause-bound : goal.returns-clause-bound
 returns-clause-bound c values log parts =
-    let e = end_of c.args.self.now.inner.end in
+    let e = end_of c.args.self.now.end in
     let up : e.failed ≡ None =
     sym c.failed.ensures ∙ none_of c.failed.result (sym c.if-is_some.ensures) in
-    held_at_most values c.args.self.now.inner.cutter e log c.held.result
-    (fit_of values c.args.self.now.inner.cutter _ _ e log parts)
+    held_at_most values c.args.self.now.cutter e log c.held.result
+    (fit_of values c.args.self.now.cutter _ _ e log parts)
     (sym parts.machine.failed ∙ up) c.held.ensures.preface c.held.ensures.frame

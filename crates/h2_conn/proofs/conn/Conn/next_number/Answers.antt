@@ -6,7 +6,7 @@ use Rattle.h2_conn.proofs.conn.Conn.next_number.Goals as goal
 
 pub returns : goal.returns
 returns c values log parts =
-    let e = end_of c.args.self.now.inner.end in
+    let e = end_of c.args.self.now.end in
     let up : is_some e.failed ≡ false =
     ap is_some (sym c.failed.ensures) ∙ sym c.is_some.ensures ∙ c.if-is_some.false in
     let client : is_server e.role ≡ false =

@@ -11,7 +11,7 @@ unfolding IsTypedAct
 invariant_of-self c =
     assumption (call_kept c.open.result _ _ (Open c.args.fields.now c.args.end) _ refl
     c.open.ensures.octets
-    c.args.self.now.inner.sound c.args.self.now.inner.cuts
+    c.args.self.now.sound c.args.self.now.cuts
     (beside_value _ _ c.open.result c.open.ensures.ok) c.open.ensures.err)
 
 pub returns-clause-answers : goal.returns-clause-answers

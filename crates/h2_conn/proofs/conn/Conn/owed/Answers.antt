@@ -6,4 +6,4 @@ use Rattle.h2_conn.proofs.conn.Conn.owed.Goals as goal
 pub returns : goal.returns
 returns c values log parts =
     c.owed.ensures
-    ∙ owed_alike values (end_of c.args.self.now.inner.end) log c.args.id parts.machine
+    ∙ owed_alike values (end_of c.args.self.now.end) log c.args.id parts.machine

@@ -5,4 +5,4 @@ use Rattle.h2_conn.proofs.conn.Conn.payload_limit.Goals as goal
 pub returns : goal.returns
 returns c values log parts up =
     c.payload_limit.ensures
-    ∙ limit_agrees values (end_of c.args.self.now.inner.end) log parts.machine up
+    ∙ limit_agrees values (end_of c.args.self.now.end) log parts.machine up

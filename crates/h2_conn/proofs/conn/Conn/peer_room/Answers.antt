@@ -6,4 +6,4 @@ use Rattle.h2_conn.proofs.conn.Conn.peer_room.Goals as goal
 pub returns : goal.returns
 returns c values log parts =
     c.peer_room.ensures
-    ∙ peer_room_alike values (end_of c.args.self.now.inner.end) log c.args.id parts.machine
+    ∙ peer_room_alike values (end_of c.args.self.now.end) log c.args.id parts.machine

@@ -11,7 +11,7 @@ unfolding IsTypedAct
 invariant_of-self c =
     assumption (call_kept c.ping.result _ _ (SendPing c.args.octets) _ refl
     (search rules, all_octets c.args.octets (λ i. search rules))
-    c.args.self.now.inner.sound c.args.self.now.inner.cuts c.ping.ensures.ok c.ping.ensures.err)
+    c.args.self.now.sound c.args.self.now.cuts c.ping.ensures.ok c.ping.ensures.err)
 
 pub returns : goal.returns
 unfolding IsTypedAct may_lack_memory

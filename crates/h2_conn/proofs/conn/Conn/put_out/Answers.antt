@@ -13,14 +13,14 @@ pub invariant_of-self : goal.invariant_of-self
 unfolding IsTypedAct
 invariant_of-self c =
     assumption (put_out_kept c.put_out.result _ _ c.args.count _ c.ranges.count.fits
-    c.args.self.now.inner.sound c.args.self.now.inner.cuts
+    c.args.self.now.sound c.args.self.now.cuts
     (consumed_by c.put_out.result _ _ _ _ _ c.put_out.ensures.ok)
     (same_by c.put_out.result _ _ _ c.put_out.ensures.err))
 
 pub returns-clause-answers : goal.returns-clause-answers
 unfolding IsTypedAct may_lack_memory
 returns-clause-answers c =
-    let e = end_of c.args.self.now.inner.end in
+    let e = end_of c.args.self.now.end in
     represented (plain (PutOut c.args.count) Count c.put_out.result (λ given. refl))
     c.ranges.count.fits
     (put_out_answers c.put_out.result _ _ _ _ c.ranges.count.fits
@@ -36,6 +36,6 @@ returns-clause-ok c =
 
 pub returns-clause-room : goal.returns-clause-room
 returns-clause-room c = λ values log parts none enough.
-    let e = end_of c.args.self.now.inner.end in
+    let e = end_of c.args.self.now.end in
     c.put_out.ensures.room (returns_alike values e log parts.machine ∙ none)
     (rw (waiting_alike values e log parts.machine) enough)

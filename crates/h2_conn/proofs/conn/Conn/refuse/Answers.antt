@@ -9,7 +9,14 @@ unfolding IsTypedAct
 invariant_of-self c =
     assumption (refusing_kept c.refuse.result _ _ c.args.id c.args.code _
     (c.ranges.id.fits, c.ranges.code.fits)
-    c.args.self.now.inner.sound c.args.self.now.inner.cuts c.refuse.ensures)
+    c.args.self.now.sound c.args.self.now.cuts c.refuse.ensures)
+
+pub invariant_of-self-in_default : goal.invariant_of-self-in_default
+unfolding IsTypedAct
+invariant_of-self-in_default c =
+    assumption (refusing_kept c.refuse.result _ _ c.args.id c.args.code _
+    (c.ranges.id.fits, c.ranges.code.fits)
+    c.args.self.now.sound c.args.self.now.cuts c.refuse.ensures)
 
 pub returns-in_err-refuse : goal.returns-in_err-refuse
 unfolding IsTypedAct

@@ -11,7 +11,7 @@ unfolding IsTypedAct
 invariant_of-self c =
     assumption (call_kept c.release.result _ _ (Release c.args.id c.args.count) _ refl
     (c.ranges.id.fits, c.ranges.count.fits)
-    c.args.self.now.inner.sound c.args.self.now.inner.cuts
+    c.args.self.now.sound c.args.self.now.cuts
     c.release.ensures.ok c.release.ensures.err)
 
 pub returns : goal.returns

@@ -11,7 +11,7 @@ unfolding IsTypedAct
 invariant_of-self c =
     assumption (call_kept c.reset.result _ _ (ResetStream c.args.id c.args.code) _ refl
     (c.ranges.id.fits, c.ranges.code.fits)
-    c.args.self.now.inner.sound c.args.self.now.inner.cuts c.reset.ensures.ok c.reset.ensures.err)
+    c.args.self.now.sound c.args.self.now.cuts c.reset.ensures.ok c.reset.ensures.err)
 
 pub returns : goal.returns
 unfolding IsTypedAct may_lack_memory

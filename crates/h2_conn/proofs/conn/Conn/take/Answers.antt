@@ -16,7 +16,7 @@ returns-in_err-progress c =
 
 pub returns-in_default : goal.returns-in_default
 returns-in_default c =
-    let value = option_map (happened_value c.advance.new.self.inner.end.list
+    let value = option_map (happened_value c.advance.new.self.end.list
     []) in (
       (
         refl,
@@ -45,14 +45,14 @@ body_of cutter piece (Some one) lies = some_of (body_at cutter piece one) lies
 
 pub returns : goal.returns
 returns c =
-    let body = body_of c.advance.new.self.inner.cutter c.args.piece.now
+    let body = body_of c.advance.new.self.cutter c.args.piece.now
     (frame_in (Some c.in-Some.event)) (rw c.in-Some.is at c.in_ok-progress.ensures.lies) in (
       (
         refl,
         λ _. tt,
         λ values log p. said_so values log c.args.piece.now c.in_ok-progress.progress.used _ _ _ _
             (ap (λ (o : Event). Some o) (c.lent.ensures body.0 body.1)
-            ∙ sym (ap (option_map (happened_value c.advance.new.self.inner.end.list body.0))
+            ∙ sym (ap (option_map (happened_value c.advance.new.self.end.list body.0))
             c.in-Some.is))
             (c.in_ok-progress.ensures.takes body.0 (rw c.in-Some.is body.1) values log p),
       ),

@@ -6,11 +6,11 @@ use Rattle.h2_conn.proofs.conn.Conn.waiting.Goals as goal
 pub returns-clause-count : goal.returns-clause-count
 returns-clause-count c values log parts =
     c.waiting.ensures
-    ∙ waiting_alike values (end_of c.args.self.now.inner.end) log parts.machine
+    ∙ waiting_alike values (end_of c.args.self.now.end) log parts.machine
 
 pub returns-clause-bound : goal.returns-clause-bound
 returns-clause-bound c values log parts =
-    let e = end_of c.args.self.now.inner.end in
+    let e = end_of c.args.self.now.end in
     omega (
       arith,
       c.waiting.ensures,

@@ -6,4 +6,4 @@ pub returns-clause-why : goal.returns-clause-why
 returns-clause-why c values log parts = parts.reason
 
 pub returns-clause-code : goal.returns-clause-code
-returns-clause-code c values log parts = why_code values log c.args.self.now.inner.why parts.reason
+returns-clause-code c values log parts = why_code values log c.args.self.now.why parts.reason

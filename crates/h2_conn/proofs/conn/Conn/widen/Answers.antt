@@ -11,7 +11,7 @@ unfolding IsTypedAct
 invariant_of-self c =
     assumption (call_kept c.widen.result _ _ (Widen c.args.count) _ refl
     c.ranges.count.fits
-    c.args.self.now.inner.sound c.args.self.now.inner.cuts
+    c.args.self.now.sound c.args.self.now.cuts
     c.widen.ensures.ok c.widen.ensures.err)
 
 pub returns : goal.returns

@@ -28,7 +28,7 @@ returns-in-Ok-read_data-clause-hands c = λ octets body.
           data_handed values c.args.self.now c.read_data.new.self end c.args.piece.now count
           c.in-Data.id octets c.in-Data.flow c.in-Data.end log said
           (c.in-Ok-read_data.ensures.reads values (end_with_log end log) octets
-          (sym (c.body_len.ensures c.args.self.now.conn.inner.cutter _ octets lies))
+          (sym (c.body_len.ensures c.args.self.now.conn.cutter _ octets lies))
           (data_on values c.args.self.now end c.args.piece.now count c.in-Data.id octets
           c.in-Data.flow c.in-Data.end log c.with-self.result c.with-self.ensures.here
           c.with-self.ensures.more said)),
@@ -58,7 +58,7 @@ returns-in-Err-read_data-clause-hands c = λ octets none.
           c.in-Data.flow c.in-Data.end
           c.in-Err-read_data.unread log _ octets c.refuse-in-Err-read_data.result said
           (c.in-Err-read_data.ensures.reads values (end_with_log end log) lent
-          (sym (c.body_len.ensures c.args.self.now.conn.inner.cutter _ lent there.1))
+          (sym (c.body_len.ensures c.args.self.now.conn.cutter _ lent there.1))
           (data_on values c.args.self.now end c.args.piece.now count c.in-Data.id lent
           c.in-Data.flow c.in-Data.end log c.with-self.result c.with-self.ensures.here
           c.with-self.ensures.more said))
@@ -82,7 +82,7 @@ returns-in-Ok-clause-hands c = λ octets none. (
       (c.in-Ok.ensures.reads values (end_with_log end log)
       (fields_on values c.args.self.now end c.args.piece.now count c.in-Fields.id _
       c.in-Fields.end log said)) _ octets
-      (ap (λ (conn : Conn). conn.inner.end.list) c.read_fields.ensures.conn)),
+      (ap (λ (conn : Conn). conn.end.list) c.read_fields.ensures.conn)),
 )
 
 pub returns-in-Err-clause-lies : goal.returns-in-Err-clause-lies

@@ -23,13 +23,13 @@ returns-in_default-fields-clause-reads c = λ values happened is.
 taken : (c : After-fields) (place : Place) → c.fields.result ≡ Some place → (values : Values)
     (happened : EndLog)
     → IsReadOn values c.args.self.now happened c.args.id
-    (FieldsPart c.args.self.now.conn.inner.end.list, c.args.end)
+    (FieldsPart c.args.self.now.conn.end.list, c.args.end)
     → IsReadBut values happened c.args.id
-    (FieldsPart c.args.self.now.conn.inner.end.list, c.args.end) (record c.args.self.now {
+    (FieldsPart c.args.self.now.conn.end.list, c.args.end) (record c.args.self.now {
       streams = c.get_mut.follows.lender (with_reading c.in-Some.stream.now c.fields.new.self);
     })
     × (place ≡ place_after (reads_on happened c.args.id) (parts_on c.args.id happened.handed)
-    c.args.self.now.conn.inner.end.list)
+    c.args.self.now.conn.end.list)
 taken c place read values happened is =
     let stream = c.in-Some.stream.now in
     let found = sym c.in-Some.ensures.value in

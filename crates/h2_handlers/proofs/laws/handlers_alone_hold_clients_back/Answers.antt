@@ -1,6 +1,0 @@
--- By the laws on what is owed and both windows.
-use Rattle.h2_handlers.proofs.CreditReturned.{connection_held, stream_held}
-use Rattle.h2_handlers.proofs.laws.handlers_alone_hold_clients_back.Goals as goal
-
-pub returns : goal.returns
-returns c = record { stream = stream_held; connection = connection_held }

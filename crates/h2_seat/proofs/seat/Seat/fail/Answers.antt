@@ -1,5 +1,0 @@
-use Rattle.h2_seat.proofs.SeatSteps.{seat_used}
-use Rattle.h2_seat.proofs.seat.Seat.fail.Goals as goal
-
-pub returns-clause-handles : goal.returns-clause-handles
-returns-clause-handles g c = seat_used c.fail.ensures.handles

@@ -1,0 +1,22 @@
+use Rattle.std.proofs.Common.{[], refl}
+use Rattle.h2_server.proofs.ConnectionSteps.{stopped_over}
+use Rattle.h2_server.proofs.connection.Connection.advance.Goals as goal
+
+pub returns-clause-calls : goal.returns-clause-calls
+returns-clause-calls g c = record {
+  mid = c.turn.new.self;
+  gone = [];
+  makes = c.turn.ensures.makes;
+  gives = refl;
+  over = λ is. stopped_over _ _ _ is c.turn.ensures.phase;
+  made = λ is. c.turn.ensures.phase;
+  refused = λ is. tt;
+  readiness = c.turn.ensures.readiness;
+  watch = c.turn.ensures.watch;
+  notes = c.note.ensures.makes;
+  noted = c.note.ensures.phase;
+  told = λ was down. c.note.ensures.told (c.turn.ensures.told was) down;
+  same = c.note.ensures.readiness;
+  watched = c.note.ensures.watch;
+  counted = c.note.ensures.counted;
+}

@@ -1,0 +1,22 @@
+use Rattle.std.proofs.Common.{[], refl}
+use Rattle.h2_server.proofs.ConnectionSteps.{own_makes}
+use Rattle.h2_server.proofs.connection.Connection.close.Goals as goal
+
+pub returns-clause-calls : goal.returns-clause-calls
+returns-clause-calls g c = record {
+  mid = c.refuse_up.new.self;
+  gone = [];
+  makes = own_makes _ _ c.refuse_up.ensures.makes;
+  gives = refl;
+  over = c.refuse_up.ensures.over;
+  made = c.refuse_up.ensures.phase;
+  refused = c.refuse_up.ensures.calm;
+  readiness = c.refuse_up.ensures.readiness;
+  watch = c.refuse_up.ensures.watch;
+  notes = c.note.ensures.makes;
+  noted = c.note.ensures.phase;
+  told = λ was down. c.note.ensures.told (c.refuse_up.ensures.told was) down;
+  same = c.note.ensures.readiness;
+  watched = c.note.ensures.watch;
+  counted = c.note.ensures.counted;
+}

@@ -1,0 +1,7 @@
+use Rattle.h2_server.proofs.ConnectionSteps.{own_counted}
+use Rattle.h2_server.proofs.connection.Connection.note.Goals as goal
+
+pub returns-clause-makes : goal.returns-clause-makes
+returns-clause-makes g c =
+    own_counted c.args.self.now c.note_phase.new.self c.count.new.self c.count.ensures.rest
+    c.note_phase.ensures.makes

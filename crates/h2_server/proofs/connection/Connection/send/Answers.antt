@@ -1,0 +1,28 @@
+use Rattle.std.proofs.Common.{◌∙◌, inl, refl, sym}
+use Rattle.h2_server.specs.Exchanges.{handling_of}
+use Rattle.h2_server.proofs.FailingPhase.{up_failing}
+use Rattle.h2_server.proofs.ConnectionSteps.{handles_then, own_handles, own_same}
+use Rattle.h2_server.proofs.GoneOutput.{ready_gives}
+use Rattle.h2_server.proofs.StepsMade.{then_handles}
+use Rattle.h2_server.proofs.connection.Connection.send.Goals as goal
+
+pub returns-then-is_down-clause-makes : goal.returns-then-is_down-clause-makes
+returns-then-is_down-clause-makes g c = own_same _ _ refl refl refl (λ is. is)
+
+pub returns-in-Err-clause-makes : goal.returns-in-Err-clause-makes
+returns-in-Err-clause-makes g c =
+    handles_then _ _ _ c.send_some.ensures.handles refl
+    (up_failing _ _ (sym c.is_down.ensures ∙ c.if-is_down.false)) c.stop.ensures.makes
+
+pub returns-then-is_err-clause-makes : goal.returns-then-is_err-clause-makes
+returns-then-is_err-clause-makes g c =
+    handles_then _ _ _ (then_handles c.send_some.ensures.handles
+    (ready_gives _ _ (handling_of c.send_some.new.self) c.ready.result c.ready.ensures.answers))
+    refl (up_failing _ _ (sym c.is_down.ensures ∙ c.if-is_down.false))
+    c.refuse.ensures.makes
+
+pub returns-else-is_err-clause-makes : goal.returns-else-is_err-clause-makes
+returns-else-is_err-clause-makes g c =
+    own_handles _ _ (then_handles c.send_some.ensures.handles
+    (ready_gives _ _ (handling_of c.send_some.new.self) c.ready.result c.ready.ensures.answers))
+    (inl refl) (up_failing _ _ (sym c.is_down.ensures ∙ c.if-is_down.false))

@@ -1,0 +1,21 @@
+use Rattle.std.proofs.Common.{◌∙◌, [], append-nil, inl, refl}
+use Rattle.h2_server.specs.Connections.{input_kept}
+use Rattle.h2_server.proofs.FailingPhase.{same_failing}
+use Rattle.h2_server.proofs.ConnectionSteps.{stops_then, uses_then}
+use Rattle.h2_server.proofs.connection.Connection.turn.Goals as goal
+
+pub returns-in-Ok-clause-makes : goal.returns-in-Ok-clause-makes
+returns-in-Ok-clause-makes g c =
+    let kept = input_kept c.args.self.now in
+    let (used, handles, split) = c.in-Ok.ensures.takes in
+    uses_then c.args.self.now c.take_waiting.new.self _ [] used
+    (input_kept c.take_waiting.new.self) handles (append-nil kept ∙ split) (inl refl)
+    (same_failing _ _ c.take_waiting.ensures.same c.take_waiting.ensures.phase)
+    c.send.ensures.makes
+
+pub returns-in-Err-clause-makes : goal.returns-in-Err-clause-makes
+returns-in-Err-clause-makes g c =
+    let kept = input_kept c.args.self.now in
+    stops_then c.args.self.now c.take_waiting.new.self _ [] kept c.in-Err.stop _
+    (append-nil kept) c.in-Err.ensures.takes
+    (same_failing _ _ c.take_waiting.ensures.same c.take_waiting.ensures.phase) c.stop.ensures.makes c.stop.ensures.phase

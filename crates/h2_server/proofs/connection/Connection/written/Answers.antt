@@ -1,0 +1,21 @@
+use Rattle.h2_server.proofs.ConnectionSteps.{own_makes, refused_over}
+use Rattle.h2_server.proofs.connection.Connection.written.Goals as goal
+
+pub returns : goal.returns
+returns g c = let (gone, makes, gives, watch) = c.take_away.ensures.makes in record {
+  mid = c.take_away.new.self;
+  gone = gone;
+  makes = own_makes _ _ makes;
+  gives = gives;
+  over = λ is. refused_over _ _ is c.take_away.ensures.phase;
+  made = λ is. c.take_away.ensures.phase;
+  refused = λ is. tt;
+  readiness = c.take_away.ensures.readiness;
+  watch = watch;
+  notes = c.note.ensures.makes;
+  noted = c.note.ensures.phase;
+  told = λ was down. c.note.ensures.told (c.take_away.ensures.told was) down;
+  same = c.note.ensures.readiness;
+  watched = c.note.ensures.watch;
+  counted = c.note.ensures.counted;
+}

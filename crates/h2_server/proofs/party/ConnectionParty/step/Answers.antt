@@ -1,0 +1,1 @@
+-- Each step is a call, and one that is closed says so.

@@ -1,0 +1,14 @@
+pub mod Activity
+pub mod Buffering
+pub mod Connections
+pub mod Credit
+pub mod Deadlines
+pub mod Exchanges
+pub mod Floods
+pub mod Giving
+pub mod Parts
+pub mod Phases
+pub mod Stages
+pub mod Steps
+pub mod Telling
+pub mod Watching

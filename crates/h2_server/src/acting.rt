@@ -1,0 +1,146 @@
+//! The calls of a connection.
+
+ghost use Rattle.std.specs.Prelude.{◌≡◌, [], length, true};
+ghost use Rattle.h2_host.specs.declared.party.Own.TheVariants as owns;
+ghost use Rattle.h2_server.specs.Connections.{Calls, ConnectionLeaves, ConnectionWidens};
+ghost use Rattle.h2_server.specs.Connections.{IsCounted};
+ghost use Rattle.h2_server.specs.Phases.{is_phase_over};
+
+use crate::connection::Connection;
+use crate::handler::Handler;
+use crate::reason::CloseReason;
+use h2_host::Bound;
+
+impl<H: Handler> Connection<H> {
+    /// Says that the transport can be read (`reads`) or written (`writes`); an argument that is
+    /// false changes nothing. From the next turn on, the handler is asked again for the parts for
+    /// which it returned [`Part::Later`](crate::Part::Later).
+    pub fn set_ready(&mut self, reads: bool, writes: bool)
+        ensures { Calls H.Handler (owns.Ready reads writes) [] self.old self.new }
+    {
+        self.wake(reads, writes);
+        self.note();
+    }
+
+    // contract: hosts (own) A connection uses the octets that came to it, in order
+    // contract: hosts (own) A connection ends for what is above its budget
+    // contract: hosts (own) A connection that ends goes on as long as bodies move
+    /// Takes octets that were received. If there are fewer than
+    /// [`MOST_TAKEN`](h2_host::MOST_TAKEN) (16,384), the transport is taken to have no more for
+    /// now. A call takes at most 16 parts of requests (passed to the handler or dropped): one if
+    /// more than a tenth of a flood budget is spent, none while 65,536 octets of output or more
+    /// wait or earlier input is still kept. Octets beyond these are kept for the next turns. A
+    /// connection that is down drops all octets.
+    pub fn receive(&mut self, octets: &[u8])
+        ensures { Calls H.Handler owns.Came octets.now self.old self.new }
+    {
+        self.take_input(octets);
+        self.note();
+    }
+
+    /// Says that nothing was received: the transport cannot be read now.
+    pub fn receive_none(&mut self)
+        ensures { Calls H.Handler owns.NoneCame [] self.old self.new }
+    {
+        self.readiness.reads = false;
+        self.note();
+    }
+
+    /// Says that the client has ended its side. An open connection is closed once everything that
+    /// can be sent has been sent.
+    pub fn receive_end(&mut self)
+        ensures { Calls H.Handler owns.Ended [] self.old self.new }
+    {
+        self.readiness.ended = true;
+        self.readiness.reads = false;
+        self.note();
+    }
+
+    /// The connection's turn: takes input that was kept, and queues what can be sent. `room` is
+    /// scratch space for a part of a response, of which at most the first 65,536 octets are used.
+    /// If it is empty, the handler is asked for no part, and the connection stays ready while
+    /// there is a part to ask for.
+    pub fn advance(&mut self, room: &mut [u8])
+        ensures calls { Calls H.Handler owns.Turn [] self.old self.new }
+        ensures room { length room.new ≡ length room.old }
+    {
+        self.turn(room);
+        self.note();
+    }
+
+    // contract: hosts (own) A connection gives out what has gone of its output, and nothing else
+    /// Removes `count` octets of the output, which were written; at most as many as are queued. A
+    /// closed connection keeps its output.
+    pub fn written(&mut self, count: usize)
+        ensures { Calls H.Handler (owns.Went count) [] self.old self.new }
+    {
+        self.take_away(count);
+        self.note();
+    }
+
+    /// Says that nothing was written: the transport cannot be written now.
+    pub fn written_none(&mut self)
+        ensures { Calls H.Handler owns.NoneWent [] self.old self.new }
+    {
+        self.readiness.writes = false;
+        self.note();
+    }
+
+    // contract: handlers (own) Of each exchange a handler learns once that it is over, and why
+    /// Says that the transport has failed: the connection is closed, and its exchanges are over. A
+    /// closed connection stays as it is.
+    pub fn lose(&mut self)
+        ensures calls { Calls H.Handler owns.Lost [] self.old self.new }
+        ensures over { is_phase_over self.new.phase ≡ true }
+    {
+        self.finish_up(CloseReason::Lost);
+        self.note();
+    }
+
+    // contract: hosts (own) A connection ends for what has taken too long
+    /// Says which time it is, in milliseconds. A time that is earlier than the last one counts as
+    /// the last one. What has taken too long ends the connection ([`CloseReason::Late`]). From the
+    /// next turn on, the handler is asked again for the parts for which it returned
+    /// [`Part::Later`](crate::Part::Later).
+    pub fn tick(&mut self, now: u64)
+        ensures { Calls H.Handler (owns.Passed now) [] self.old self.new }
+    {
+        self.pass(now);
+        self.note();
+    }
+
+    // contract: hosts (own) A connection that is refused is over and holds none
+    /// Closes the connection at once, since it or all connections together hold too much, or an
+    /// allocation was refused. GOAWAY with ENHANCE_YOUR_CALM is queued, unless the connection had
+    /// failed before. A closed connection stays as it is.
+    pub fn close(&mut self, bound: Bound)
+        ensures calls { Calls H.Handler (owns.Refused bound) [] self.old self.new }
+        ensures over { is_phase_over self.new.phase ≡ true }
+    {
+        self.refuse_up(bound);
+        self.note();
+    }
+
+    // contract: hosts (own) A connection that is asked to end sends GOAWAY
+    /// Begins a graceful shutdown: queues GOAWAY with NO_ERROR; pending requests are still
+    /// answered. If 65,536 octets of output or more wait, or an allocation is refused, the
+    /// connection fails at once with NO_ERROR. A connection that is not open stays as it is.
+    pub fn leave(&mut self)
+        ensures { ConnectionLeaves H.Handler self.old self.new }
+    {
+        self.go_away(CloseReason::Asked);
+        self.count();
+    }
+
+    // contract: 6.9.2 (own) The window of the connection is widened by a call, for good
+    /// Lets the client send `count` octets more on the connection, for good; see
+    /// [`Server::widen`](h2_ends::Server::widen). Returns false if the call was refused.
+    pub fn widen(&mut self, count: u32) -> bool
+        ensures widens { ConnectionWidens self.old count result self.new }
+        ensures counted { IsCounted self.new }
+    {
+        let widened = self.server.widen(count);
+        self.count();
+        widened.is_ok()
+    }
+}

@@ -1,2 +1,0 @@
-pub mod Budgets
-pub mod Times
