@@ -74,9 +74,9 @@ impl Conn {
     ///
     /// [`ConnFault`] where the connection fails, and at every call from then on. INTERNAL_ERROR
     /// (2) is not the peer's fault: the caller gave that code to [`Conn::fail`] or
-    /// [`Conn::refuse`], or an allocation was refused. One may be needed to keep a frame that
-    /// comes in more than one piece, to process a frame, to return credit, or to reset a stream by
-    /// [`Conn::refuse`].
+    /// [`Conn::refuse`], or an allocation was refused. An allocation may be needed to keep
+    /// a frame that comes in more than one piece, to process a frame, to return credit, or to reset
+    /// a stream by [`Conn::refuse`].
     pub fn advance(&mut self, piece: &[u8]) -> Result<Progress, ConnFault>
         ensures used { IfOk result (λ progress. progress.used ≤ length piece.now) }
         ensures lies { LiesThere self.new.cutter piece.now (code_result result) }
@@ -150,9 +150,9 @@ impl Conn {
     ///
     /// [`ConnFault`] where the connection fails, and at every call from then on. INTERNAL_ERROR
     /// (2) is not the peer's fault: the caller gave that code to [`Conn::fail`] or
-    /// [`Conn::refuse`], or an allocation was refused. One may be needed to keep a frame that
-    /// comes in more than one piece, to process a frame, to return credit, or to reset a stream by
-    /// [`Conn::refuse`].
+    /// [`Conn::refuse`], or an allocation was refused. An allocation may be needed to keep
+    /// a frame that comes in more than one piece, to process a frame, to return credit, or to reset
+    /// a stream by [`Conn::refuse`].
     pub fn take<'a>(&'a mut self, piece: &'a [u8]) -> Result<Taken<'a>, ConnFault>
         ensures used { IfOk result (λ taken. taken.used ≤ length piece.now) }
 

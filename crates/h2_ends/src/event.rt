@@ -6,8 +6,8 @@ ghost use Rattle.h2_ends.specs.EndEvents.{end_event_with_parts};
 use hpack::FieldList;
 
 /// An event of an end: a part of a message (RFC 9113, section 8.1), or an event of its connection.
-/// `F` holds the fields of a part and `B` the octets of a body: as a loan, a copy or a place, or
-/// as `()` where the end keeps them.
+/// `F` holds the fields of a part and `B` the octets of a body: borrowed, copied, or as the place
+/// where they lie in what was kept, or as `()` where the end keeps them.
 #[derive(Clone, Copy, Debug, PartialEq, Eq)]
 pub enum EndEvent<F, B> {
     /// The head of an interim response has come (1xx; RFC 9113, section 8.1).

@@ -132,7 +132,7 @@ impl Responder {
     /// # Errors
     ///
     /// - [`LinkError::Stream`] (N2) where the connection failed, and its GOAWAY is queued; or,
-    ///   with ENHANCE_YOUR_CALM, where 1,000 streams were reset and no more can be.
+    ///   with ENHANCE_YOUR_CALM, where one more stream had to be reset after 1,000 others.
     /// - [`LinkError::Memory`] (N3) where an allocation was refused.
     /// - [`LinkError::NoProgress`] (N5) where so much output waits that a request can't be
     ///   answered or a stream can't be reset. Three more causes are not expected: 2^64 - 1 rounds

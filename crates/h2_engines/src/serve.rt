@@ -32,7 +32,7 @@ use std::alloc::Global;
 ///
 /// - [`LinkError::Device`] (N1) where the link failed.
 /// - [`LinkError::Stream`] (N2) where the connection failed, once its GOAWAY was written; or,
-///   with ENHANCE_YOUR_CALM, where 1,000 streams were reset and no more can be.
+///   with ENHANCE_YOUR_CALM, where one more stream had to be reset after 1,000 others.
 /// - [`LinkError::Memory`] (N3) where an allocation was refused.
 /// - [`LinkError::CutOff`] (N4) where the input ended inside the preface or a frame, or while a
 ///   stream was active.

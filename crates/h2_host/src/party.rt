@@ -49,7 +49,7 @@ pub enum Own {
     },
 }
 
-/// Why a connection is refused.
+/// Why a connection is closed at once.
 #[derive(Clone, Copy, Debug, PartialEq, Eq)]
 pub enum Bound {
     /// It holds more octets than one connection may.

@@ -120,8 +120,9 @@ impl<'a, 'j, R> Makes<Logged<'a, R, &'j Journal, Site<'a, R>>> for Sites<'a, 'j,
 
 // contract: hosts (own) A host ends with one of three statuses
 // rule: hosts (own) A host ends with one of three statuses
-/// Serves many connections at once at a port, until an error ends the host, or, if `until_closed`
-/// is set, until standard input is closed. Returns the exit status.
+/// Serves many connections at once at a port, until an error ends the host; or, if `until_closed`
+/// is set, until standard input was closed and all connections have then ended (or after 2^64 - 1
+/// rounds of a loop). Returns the exit status.
 ///
 /// Requests are answered with files of `root`, or echoed if that is `None`. Log lines are printed
 /// on `out`. If the port or the folder is not available, or the loop fails, the reason is printed

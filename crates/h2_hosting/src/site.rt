@@ -14,7 +14,7 @@ use std::time::Clock;
 /// Answers requests with the files of a folder.
 #[derive(Drop)]
 pub struct Site<'a, R> {
-    /// The folder.
+    /// The folder that is served, of the crate `h2_folder`.
     pub folder: Folder<'a, R>,
 }
 

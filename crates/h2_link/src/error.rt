@@ -17,7 +17,7 @@ pub enum LinkError {
     #[error("N1 Device")]
     Device,
     /// N2: the connection failed with this code (RFC 9113, section 7); or, with
-    /// ENHANCE_YOUR_CALM, 1,000 streams were reset, so that no more can be.
+    /// ENHANCE_YOUR_CALM, one more stream had to be reset after 1,000 others.
     #[error("N2 Stream {0}")]
     Stream(u32),
     /// N3: out of memory.

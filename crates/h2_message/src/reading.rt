@@ -28,8 +28,8 @@ use hpack::FieldList;
 pub enum Reads {
     /// A server reads requests.
     Requests,
-    /// A client reads responses. In a response to HEAD, or with status 204 or 304, any DATA is
-    /// accepted: `content-length` is not compared with it (RFC 9110, section 8.6).
+    /// A client reads responses. In a response to HEAD, or with status 204 or 304,
+    /// `content-length` is not compared (RFC 9113, section 8.1.1), and any DATA is accepted (own).
     Responses {
         /// Whether the request was HEAD.
         to_head: bool,

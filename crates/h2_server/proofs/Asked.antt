@@ -2,11 +2,14 @@
 use Rattle.std.proofs.Common.{◌≡◌, ◌≢◌, ◌<◌, ◌≤◌, ◌==◌, ◌⊎◌, ℕ, List, true, false, Some, None}
 use Rattle.std.proofs.Common.{Option, ap, sym, refl, ◌∙◌, inl, inr, arith}
 use Rattle.std.proofs.lemmas.Bool.{cases_Bool, eqb-true, eqb-false, cases_lt}
-use Rattle.std.specs.Prelude.{is_some, option_map}
+use Rattle.std.specs.Prelude.{if◌then◌else◌, is_some, option_map}
 use Rattle.h2_numbers.specs.Entries.{IsNextAbove, value_at}
 use Rattle.h2_server.specs.declared.exchange.Exchange.{Exchange}
 use Rattle.h2_server.specs.Activity.{IsAnswering, IsBusy, has_answer_at}
 use Rattle.h2_server.specs.Exchanges.{Handling, IsEmptied, Kept, awake, exchange_at, exchange_kept}
+use Rattle.h2_server.specs.Exchanges.{is_part_due_at}
+use Rattle.h2_server.specs.Sending.{NoneCanAsk, asked_on, windows_allow}
+use Rattle.h2_spec_log.specs.Log.{Log}
 
 module _ {W : Type 0} where
   -- What has a value is kept.
@@ -138,3 +141,39 @@ woken_none {W} start now above so_far is none i = elim (cases_Bool (i == 0)) [
       woken_all start.entries now.entries above so_far is i (eqb-false i 0 some)
       ∙ ap (λ (k : Option (Kept W)). option_map awake k) (none i)
 ]
+
+module _ {W : Type 0} where
+  -- Where no exchange is kept none can be asked.
+  no_entry_asks : (log : Log) (entries : List (ℕ × Exchange W)) (i : ℕ)
+      → value_at i entries ≡ None → asked_on log i entries ≡ 0
+  no_entry_asks log entries i none =
+      ap (λ (v : Option (Exchange W)). if is_part_due_at (option_map exchange_kept v)
+      then windows_allow log i else 0) none
+
+  -- None of those up to this stream can be asked,
+  abbrev pub NoneCanAskTo : Log → (from above : ℕ) → List (ℕ × Exchange W) → Type 0
+  NoneCanAskTo log from above entries =
+      (i : ℕ) → from < i → i ≤ above → asked_on log i entries ≡ 0
+
+  pub none_can_ask_on : (log : Log) (entries : List (ℕ × Exchange W)) (from above id : ℕ)
+      → NoneCanAskTo log from above entries → IsNextAbove entries above (Some id)
+      → asked_on log id entries ≡ 0 → NoneCanAskTo log from id entries
+  none_can_ask_on log entries from above id so_far is this i after within =
+      elim (cases_Bool (i == id)) [
+        | inl here ↦
+            ap (λ (n : ℕ). asked_on log n entries) (eqb-true i id here) ∙ this
+        | inr there ↦ elim (cases_lt above i) [
+          | inl later ↦ no_entry_asks log entries i (is.2 i later
+              (omega (arith, within, eqb-false i id there)))
+          | inr before ↦ so_far i after (omega (arith, before))
+        ]
+      ]
+
+  -- and no other.
+  pub none_can_ask : (log : Log) (entries : List (ℕ × Exchange W)) (from above : ℕ)
+      → NoneCanAskTo log from above entries → IsNextAbove entries above None
+      → NoneCanAsk log from entries
+  none_can_ask log entries from above so_far is id after = elim (cases_lt above id) [
+    | inl later ↦ no_entry_asks log entries id (is id later)
+    | inr before ↦ so_far id after (omega (arith, before))
+  ]

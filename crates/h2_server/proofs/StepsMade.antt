@@ -2,7 +2,7 @@
 use Rattle.std.proofs.Common.{◌≡◌, ◌∙◌, List, Ok, Err, None, refl, sym, subst, inl, inr}
 use Rattle.std.proofs.Common.{[], ◌+◌, ◌++◌, ap, append-nil, append_assoc, take, take-add, drop}
 use Rattle.std.proofs.lemmas.List.{take-append-drop}
-use Rattle.std.specs.Prelude.{ℕ, Bool, true, false, Result, Some}
+use Rattle.std.specs.Prelude.{ℕ, Bool, true, false, Result, Some, length}
 use Rattle.h2_conn.specs.declared.taken.ConnFault.{ConnFault}
 use Rattle.h2_ends.specs.declared.event.EndTaken.{EndTaken}
 use Rattle.h2_ends.specs.EndTakes.{EndMayTake}
@@ -18,7 +18,9 @@ use Rattle.h2_ends.specs.EndTakes.{end_with_log}
 use Rattle.h2_ends.specs.Represents.{EndAnswers, EndPumpsSome, EndReleases}
 use Rattle.h2_ends.specs.Represents.{EndRepresents}
 use Rattle.h2_server.specs.Exchanges.{Relations, Handling, IsSameHandling, Kept, exchange_at}
-use Rattle.h2_server.specs.Exchanges.{awake}
+use Rattle.h2_server.specs.Exchanges.{awake, is_part_due_at}
+use Rattle.h2_server.specs.Sending.{IsAskedFor}
+use Rattle.h2_server.specs.Stages.{is_part_due}
 use Rattle.h2_server.specs.Exchanges.{SetsKept}
 use Rattle.h2_server.specs.Giving.{GivesStage}
 use Rattle.h2_server.proofs.KeptMaps.{set_twice}
@@ -33,7 +35,7 @@ use Rattle.h2_server.specs.Telling.{AskedPart, ChangesAny, Tells}
 use Rattle.h2_server.specs.Steps as steps
 use Rattle.h2_frame.specs.declared.code.Code.TheVariants.{NoError}
 use Rattle.h2_server.specs.declared.exchange.Stage.{Stage}
-use Rattle.h2_server.specs.declared.exchange.Stage.TheVariants.{Resets}
+use Rattle.h2_server.specs.declared.exchange.Stage.TheVariants.{Parts, Resets}
 use Rattle.h2_server.specs.declared.handler.HandlerFault.{HandlerFault}
 use Rattle.h2_server.specs.declared.handler.HandlerFault.TheVariants.{Failed}
 use Rattle.h2_server.specs.declared.handler.Part.{Part}
@@ -53,6 +55,12 @@ EndHands old piece count handed new =
 -- What is as it was, is the same.
 pub same : {H W : Type 0} (h : Handling H W) → IsSameHandling h h
 same h = record { handler = refl; kept = λ i. refl }
+
+-- Where a part is due, it is given in parts, and its handler may be asked.
+pub part_due : (stage : Stage) → is_part_due stage ≡ true → stage ≡ Parts false
+part_due (Parts false) due = refl
+part_due (Parts true) due = absurd (cc)
+part_due stage due = absurd (cc)
 
 -- A handler was not asked, since there is no such exchange.
 pub unasked_same : {H W : Type 0} (rel : Relations H W) {a : Handling H W} (mid : Handling H W)
@@ -365,15 +373,16 @@ module _ {H W : Type 0} {rel : Relations H W} where
   -- A handler was asked for a part, and that was sent.
   pub asked_handles : {one two : End} {a : Handling H W} (mid : Handling H W) {b : Handling H W}
       (id : ℕ) (room : List ℕ) (part : Result Part HandlerFault) (stage : Stage)
-      (found : Kept W) → ChangesAny (AskedPart rel room part) id a mid
+      (found : Kept W) → IsAskedFor one.conn id (length room) a.entries
+      → ChangesAny (AskedPart rel room part) id a mid
       → EndSendsPart one id part room stage two → exchange_at id mid.entries ≡ Some found
       → b.handler ≡ mid.handler
       → SetsKept id (Some (record found { stage = stage })) mid.entries b.entries
       → Handles rel [] one a two b
-  asked_handles mid id room part stage found (inr never) made at handler now values end is =
+  asked_handles mid id room part stage found may (inr never) made at handler now values end is =
       absurd (let no = sym at ∙ (never.1.kept id ∙ never.0) in cc)
-  asked_handles {a} mid {b} id room part stage found (inl one_part) made at handler now values end
-      is =
+  asked_handles {a} mid {b} id room part stage found may (inl one_part) made at handler now values
+      end is =
       let (after, sends, there) = made values end is in
       let same_one : Some found ≡ Some one_part.next = sym at ∙ one_part.now.at in
       let it : found ≡ one_part.next = cc in (
@@ -385,6 +394,10 @@ module _ {H W : Type 0} {rel : Relations H W} where
           room = room;
           part = part;
           was = one_part.was;
+          due = part_due one_part.kept.stage
+              (sym (ap is_part_due_at one_part.was) ∙ may.due);
+          some = may.some;
+          fits = may.fits values end.log is.streams.conn;
           asked = rw handler one_part.told_so;
           sends = sends;
           now = rw (← it) (set_twice id _ _ a.entries mid.entries b.entries one_part.now now);

@@ -1,7 +1,8 @@
 -- What a call makes of a served connection.
-use Rattle.std.specs.Prelude.{◌≡◌, ◌⊎◌, ◌+◌, ◌*◌, ◌-◌, ◌^◌, ◌↔◌, ℕ, Bool, true, false, Option, Some}
+use Rattle.std.specs.Prelude.{◌≡◌, ◌≢◌, ◌⊎◌, ◌+◌, ◌*◌, ◌-◌, ◌^◌, ◌↔◌, ℕ, Bool, true, false, Option, Some}
 use Rattle.std.specs.Prelude.{None, if◌then◌else◌, min, max, nat_le, nat_lt, ◌==◌, ◌&&◌, ◌||◌, not}
 use Rattle.std.specs.Prelude.{List, [], ◌++◌, take, drop, length, Result, Ok, Err, is_ok, is_some}
+use Rattle.std.specs.Prelude.{option_map}
 use Rattle.h2_frame.specs.declared.code.Code.TheVariants.{EnhanceYourCalm, NoError}
 use Rattle.h2_spec_log.specs.declared.refusal.Refusal.{Refusal}
 use Rattle.h2_spec_log.specs.Acts.{Done, Fail, SendGoAway, Values, Widen}
@@ -37,9 +38,10 @@ use Rattle.h2_server.specs.declared.stop.Stop.TheVariants as stops
 use Rattle.h2_server.specs.declared.watch.Watch.{Watch}
 use Rattle.h2_server.specs.Activity.{IsActivity}
 use Rattle.h2_server.specs.Deadlines.{overdue_of}
-use Rattle.h2_server.specs.Exchanges.{IsEmptied, Relations, handling_of}
+use Rattle.h2_server.specs.Exchanges.{IsEmptied, Relations, awake, exchange_at, handling_of}
 use Rattle.h2_server.specs.Floods.{flood_of}
 use Rattle.h2_server.specs.Phases.{is_phase_down, is_phase_failing, is_phase_open, is_phase_over}
+use Rattle.h2_server.specs.Sending.{HasNothing}
 use Rattle.h2_server.specs.Steps.{Handles, HandlesPiece, Steps}
 use Rattle.h2_server.specs.Watching.{readiness_after, watch_noted, watch_passed}
 
@@ -128,18 +130,36 @@ pub record FailsAway (old new : End) : Type 0 where
   pub answer : log.Answer
   pub failed : EndAnswers mid (Fail NoError) answer new
 
--- It has queued a GOAWAY, has not failed, and its exchanges are as they were.
-abbrev pub QueuesAway : {H W : Type 0} → (old new : Connection H W) → Type 0
-QueuesAway old new =
-    EndAnswers old.server.end SendGoAway Done new.server.end
-    × (new.exchanges ≡ old.exchanges) × (is_phase_down new.phase ≡ false)
-
--- One that was open has queued a GOAWAY; where that was refused, it has failed.
+-- One that was open has queued a GOAWAY, and has not failed; where that was refused, it has.
 -- rule: hosts (own) A connection that is asked to end sends GOAWAY
 abbrev pub GoesAway : {H W : Type 0} → (old new : Connection H W) → Type 0
 GoesAway old new = is_phase_open old.phase ≡ true
-    → QueuesAway old new
+    → (EndAnswers old.server.end SendGoAway Done new.server.end × (is_phase_down new.phase ≡ false))
     ⊎ ((is_phase_down new.phase ≡ true) × FailsAway old.server.end new.server.end)
+
+-- Its exchanges are as they were, unless it is down.
+abbrev pub KeepsExchanges : {H W : Type 0} → (old new : Connection H W) → Type 0
+KeepsExchanges old new = (is_phase_down new.phase ≡ true) ⊎ (new.exchanges ≡ old.exchanges)
+
+-- One that has been idle for too long, and was open, goes away.
+-- rule: hosts (own) A connection ends for what has taken too long
+abbrev pub IdleGoesAway : {H W : Type 0} → Own → (old new : Connection H W) → Type 0
+IdleGoesAway (owns.Passed now) old new =
+    overdue_of old.watch.deadlines old.watch.limits.times (max old.watch.time now)
+    ≡ Some timeouts.Idle → GoesAway old new
+IdleGoesAway own old new = Unit {0}
+
+-- Of each exchange its handler, if it had no part, may be asked again.
+abbrev pub WakesEach : {H W : Type 0} → (old new : Connection H W) → Type 0
+WakesEach old new = (id : ℕ) → id ≢ 0 → exchange_at id new.exchanges.kept.entries
+    ≡ option_map awake (exchange_at id old.exchanges.kept.entries)
+
+-- It may, once the transport is ready, and once time has passed, unless the connection is down
+-- then.
+abbrev pub AsksAgain : {H W : Type 0} → Own → (old new : Connection H W) → Type 0
+AsksAgain (owns.Ready reads writes) old new = WakesEach old new
+AsksAgain (owns.Passed now) old new = (is_phase_down new.phase ≡ true) ⊎ WakesEach old new
+AsksAgain own old new = Unit {0}
 
 -- The server was ended with ENHANCE_YOUR_CALM: a GOAWAY is queued, unless it had failed before.
 abbrev pub EndsCalm : {H W : Type 0} → (old new : Connection H W) → Type 0
@@ -239,10 +259,13 @@ watch_moved connection =
 abbrev pub since_moved : {H W : Type 0} → Connection H W → (since : ℕ) → ℕ
 since_moved connection since = if has_moved connection then connection.watch.time else since
 
--- All of its output was written, and all octets that came were used.
+-- All of its output was written, all octets that came were used, and nothing more is noted to be
+-- sent.
 pub record IsAllSent {H W : Type 0} (connection : Connection H W) : Type 0 where
   pub written : octets_queued connection.server.end.conn ≡ []
   pub used : input_kept connection ≡ []
+  pub nothing : (values : Values) (log : Log)
+      → ConnRepresents values connection.server.end.conn log → HasNothing log connection.exchanges
 
 -- Where one that is open is after a call: it ends for what is a flood; and it is closed only where
 -- its client has ended its side, and nothing waits.
@@ -354,6 +377,11 @@ TakesNow connection answer =
     (values : Values) (log : Log) → ConnRepresents values connection.server.end.conn log
     → answer ≡ takes_now connection log
 
+-- Where nothing can be sent, nothing is noted to be.
+abbrev pub SendsSo : {H W : Type 0} → Connection H W → (sends : Bool) → Type 0
+SendsSo connection sends = sends ≡ false → (values : Values) (log : Log)
+    → ConnRepresents values connection.server.end.conn log → HasNothing log connection.exchanges
+
 -- Whether it has something to do in a turn: it is not down, less than 65,536 octets of its output
 -- wait, and octets were kept or something can be sent.
 abbrev pub wants_turn : {H W : Type 0} → Connection H W → Log → (sends : Bool) → Bool
@@ -363,7 +391,7 @@ wants_turn connection log sends =
 
 abbrev pub WantsTurn : {H W : Type 0} → Connection H W → Bool → Type 0
 WantsTurn connection answer =
-    (sends : Bool)
+    (sends : Bool) × SendsSo connection sends
     × ((values : Values) (log : Log) → ConnRepresents values connection.server.end.conn log
     → answer ≡ wants_turn connection log sends)
 
@@ -377,7 +405,7 @@ has_to_do connection log sends =
 
 abbrev pub HasToDo : {H W : Type 0} → Connection H W → Bool → Type 0
 HasToDo connection answer =
-    (sends : Bool)
+    (sends : Bool) × SendsSo connection sends
     × ((values : Values) (log : Log) → ConnRepresents values connection.server.end.conn log
     → answer ≡ has_to_do connection log sends)
 
@@ -409,6 +437,8 @@ pub record Calls {H W : Type 0} (rel : Relations H W) (own : Own) (octets : List
   pub over : is_phase_over old.phase ≡ true → mid.phase ≡ old.phase
   pub made : is_phase_over old.phase ≡ false → MakesPhase own old mid.phase
   pub refused : is_phase_over old.phase ≡ false → RefusesSo own old mid
+  pub idle : IdleGoesAway own old mid
+  pub asks : AsksAgain own old mid
   pub readiness : mid.readiness ≡ readiness_after own octets (keeps_none old) old.readiness
   pub watch : WatchesBy own gone old mid.watch
   pub notes : MakesOwn rel [] mid new
@@ -425,6 +455,9 @@ pub record ConnectionLeaves {H W : Type 0} (rel : Relations H W) (old new : Conn
     : Type 0 where
   pub makes : MakesOwn rel [] old new
   pub goes_away : GoesAway old new
+  pub kept : KeepsExchanges old new
+  pub rest : is_phase_open old.phase ≡ false
+      → new ≡ record old { holds = new.holds; ready = new.ready }
   pub told : KeepsTold old new
   pub phase : phase_left old.phase reasons.Asked old.watch.time new.phase
   pub readiness : new.readiness ≡ old.readiness

@@ -1,5 +1,5 @@
 -- When a server with a handler returns credit.
-use Rattle.std.specs.Prelude.{◌≡◌, ◌⊎◌, ℕ, ◌-◌, ◌≤◌, Bool, false, List, [], ℤ, pos, negsuc}
+use Rattle.std.specs.Prelude.{◌≡◌, ◌⊎◌, ℕ, ◌-◌, ◌≤◌, Bool, false, List, [], ℤ, pos}
 use Rattle.std.specs.Prelude.{Option, Some, None, Result, Ok, Err, OnOk}
 use Rattle.h2_spec_log.specs.Acts.{Values}
 use Rattle.h2_spec_log.specs.CallRules.{reader_due, reader_granted, reader_owed}
@@ -19,12 +19,8 @@ use Rattle.h2_ends.specs.Represents.{EndRepresents}
 use Rattle.h2_server.specs.declared.exchange.Exchange.{Exchange}
 use Rattle.h2_server.specs.declared.stop.Stop.{Stop}
 use Rattle.h2_server.specs.Exchanges.{Relations, Handling}
+use Rattle.h2_server.specs.Sending.{nat_part}
 use Rattle.h2_server.specs.Steps.{Steps}
-
--- a window, or nothing where it is below 0
-abbrev pub nat_part : ℤ → ℕ
-nat_part (pos number) = number
-nat_part (negsuc number) = 0
 
 -- how many octets are owed on all streams, but for these that the handler has not used: what was
 -- granted and is neither unreturned nor left to the peer

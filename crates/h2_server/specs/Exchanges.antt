@@ -1,12 +1,12 @@
 -- What is kept of exchanges, and what a handler may do.
-use Rattle.std.specs.Prelude.{◌≡◌, ◌≢◌, ℕ, Bool, List, Option, None}
+use Rattle.std.specs.Prelude.{◌≡◌, ◌≢◌, ℕ, Bool, false, List, Option, Some, None}
 use Rattle.std.specs.Prelude.{option_map}
 use Rattle.h2_numbers.specs.Entries.{value_at}
 use Rattle.h2_server.specs.declared.exchange.Exchange.{Exchange}
 use Rattle.h2_server.specs.declared.exchange.Stage.{Stage}
 use Rattle.h2_server.specs.declared.exchanges.Exchanges.{Exchanges}
 use Rattle.h2_server.specs.declared.handler.Handler.{Ghosts}
-use Rattle.h2_server.specs.Stages.{stage_awake}
+use Rattle.h2_server.specs.Stages.{is_part_due, stage_awake}
 
 -- what a handler may do: the relations that it declares of itself
 abbrev pub Relations : (H W : Type 0) → Type 1
@@ -38,6 +38,11 @@ awake kept = record kept { stage = stage_awake kept.stage }
 -- what is kept of the exchange on a stream
 abbrev pub exchange_at : {W : Type 0} → ℕ → List (ℕ × Exchange W) → Option (Kept W)
 exchange_at id entries = option_map exchange_kept (value_at id entries)
+
+-- Whether a part of the answer on a stream is due.
+abbrev pub is_part_due_at : {W : Type 0} → Option (Kept W) → Bool
+is_part_due_at (Some kept) = is_part_due kept.stage
+is_part_due_at None = false
 
 -- Of one stream this is kept now, or nothing; of each other what was kept before.
 pub record SetsKept {W : Type 0} (id : ℕ) (kept : Option (Kept W)) (old new : List (ℕ × Exchange W))

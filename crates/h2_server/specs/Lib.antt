@@ -8,6 +8,7 @@ pub mod Floods
 pub mod Giving
 pub mod Parts
 pub mod Phases
+pub mod Sending
 pub mod Stages
 pub mod Steps
 pub mod Telling

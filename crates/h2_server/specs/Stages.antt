@@ -1,5 +1,5 @@
 -- How far the answer of an exchange is, and what an answer of its handler makes of that.
-use Rattle.std.specs.Prelude.{ℕ, Bool, true, false, Result, Ok, Err}
+use Rattle.std.specs.Prelude.{ℕ, Bool, true, false, Result, Ok, Err, not}
 use Rattle.h2_frame.specs.declared.code.Code.{Code}
 use Rattle.h2_frame.specs.declared.code.Code.TheVariants.{InternalError}
 use Rattle.h2_server.specs.declared.exchange.Stage.{Stage}
@@ -64,3 +64,8 @@ refused_after refused stage reply = refused
 abbrev pub stage_awake : Stage → Stage
 stage_awake (stages.Parts later) = stages.Parts false
 stage_awake stage = stage
+
+-- Whether a part of it is due: its handler gives it in parts, and may be asked for one.
+abbrev pub is_part_due : Stage → Bool
+is_part_due (stages.Parts later) = not later
+is_part_due stage = false

@@ -1,5 +1,5 @@
 -- What may happen at a server with its handler, step by step.
-use Rattle.std.specs.Prelude.{◌≡◌, ◌⊎◌, ℕ, Bool, true, false, List, [], ◌++◌, Some, None}
+use Rattle.std.specs.Prelude.{◌≡◌, ◌⊎◌, ◌<◌, ◌≤◌, ℕ, Bool, true, false, List, [], ◌++◌, Some, None}
 use Rattle.std.specs.Prelude.{Result, Ok, Err, take, drop, if◌then◌else◌, ◌==◌, length, not}
 use Rattle.h2_frame.specs.declared.code.Code.TheVariants.{InternalError, NoError}
 use Rattle.h2_spec_log.specs.Acts.{Values, Act, Answer, Fail, PutOut, Release, SendGoAway}
@@ -26,6 +26,7 @@ use Rattle.h2_server.specs.declared.stop.Stop.TheVariants as stops
 use Rattle.h2_server.specs.Exchanges.{Relations, Kept, exchange_at, SetsKept, Handling}
 use Rattle.h2_server.specs.Exchanges.{IsSameHandling, awake}
 use Rattle.h2_server.specs.Giving.{GivesStageSo, IsRefusedSo, instead_of_rest}
+use Rattle.h2_server.specs.Sending.{windows_allow}
 use Rattle.h2_server.specs.Telling.{AskedPart, EndsOne, Tells}
 
 -- The answer hands nothing out.
@@ -83,7 +84,8 @@ EndSendsPart old id part room stage new =
     (values : Values) (end : EndLog) → EndRepresents values old end
     → (after : EndLog) × SendsPart end id part room stage after × EndRepresents values new after
 
--- The handler was asked for a part of the answer on a stream, and that was sent.
+-- The handler was asked for a part of the answer on a stream, of which a part is due, with room for
+-- some octets, which the windows allow; and that was sent.
 pub record AsksOne {H W : Type 0} (rel : Relations H W) (id : ℕ) (end after : EndLog)
     (old new : Handling H W) : Type 0 where
   pub kept : Kept W
@@ -92,6 +94,9 @@ pub record AsksOne {H W : Type 0} (rel : Relations H W) (id : ℕ) (end after : 
   pub room : List ℕ
   pub part : Result Part HandlerFault
   pub was : exchange_at id old.entries ≡ Some kept
+  pub due : kept.stage ≡ stages.Parts false
+  pub some : 0 < length room
+  pub fits : length room ≤ windows_allow end.log id
   pub asked : AskedPart rel room part old.handler new.handler kept next
   pub sends : SendsPart end id part room stage after
   pub now : SetsKept id (Some (record next { stage = stage })) old.entries new.entries

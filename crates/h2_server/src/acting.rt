@@ -29,8 +29,8 @@ impl<H: Handler> Connection<H> {
     /// [`MOST_TAKEN`](h2_host::MOST_TAKEN) (16,384), the transport is taken to have no more for
     /// now. A call takes at most 16 parts of requests (passed to the handler or dropped): one if
     /// more than a tenth of a flood budget is spent, none while 65,536 octets of output or more
-    /// wait or earlier input is still kept. Octets beyond these are kept for the next turns. A
-    /// connection that is down drops all octets.
+    /// wait or earlier input is still kept. Octets that it does not take are kept for the next turns.
+    /// A connection that is down drops all octets.
     pub fn receive(&mut self, octets: &[u8])
         ensures { Calls H.Handler owns.Came octets.now self.old self.new }
     {
@@ -99,9 +99,10 @@ impl<H: Handler> Connection<H> {
 
     // contract: hosts (own) A connection ends for what has taken too long
     /// Says which time it is, in milliseconds. A time that is earlier than the last one counts as
-    /// the last one. What has taken too long ends the connection ([`CloseReason::Late`]). From the
-    /// next turn on, the handler is asked again for the parts for which it returned
-    /// [`Part::Later`](crate::Part::Later).
+    /// the last one. What has taken too long ends an open connection ([`CloseReason::Late`]); a
+    /// closing one is closed once [`closing`](crate::ConnectionLimits::closing) has passed, and
+    /// keeps its reason. From the next turn on, the handler is asked again for the parts for which
+    /// it returned [`Part::Later`](crate::Part::Later).
     pub fn tick(&mut self, now: u64)
         ensures { Calls H.Handler (owns.Passed now) [] self.old self.new }
     {

@@ -3,9 +3,9 @@
 ghost use Rattle.std.specs.Prelude.{◌≡◌, [], false, true};
 ghost use Rattle.h2_spec_log.specs.Acts.{Answer, Fail};
 ghost use Rattle.h2_ends.specs.Represents.{EndAnswers};
-ghost use Rattle.h2_server.specs.Connections.{EndsCalm, GoesAway, KeepsTold, MakesOwn, phase_left};
-ghost use Rattle.h2_server.specs.Connections.{phase_stopped};
-ghost use Rattle.h2_server.specs.Phases.{is_phase_over};
+ghost use Rattle.h2_server.specs.Connections.{EndsCalm, GoesAway, KeepsExchanges, KeepsTold};
+ghost use Rattle.h2_server.specs.Connections.{MakesOwn, phase_left, phase_stopped};
+ghost use Rattle.h2_server.specs.Phases.{is_phase_open, is_phase_over};
 ghost use Rattle.h2_server.specs.declared.connection.Phase.TheVariants as phases;
 ghost use Rattle.h2_server.specs.declared.reason.CloseReason.TheVariants as reasons;
 
@@ -43,6 +43,8 @@ impl<H: Handler> Connection<H> {
         ensures makes { MakesOwn H.Handler [] self.old self.new }
         ensures told { KeepsTold self.old self.new }
         ensures goes_away { GoesAway self.old self.new }
+        ensures kept { KeepsExchanges self.old self.new }
+        ensures rest { is_phase_open self.old.phase ≡ false → self.new ≡ self.old }
         ensures phase { phase_left self.old.phase why self.old.watch.time self.new.phase }
         ensures readiness { self.new.readiness ≡ self.old.readiness }
         ensures watch { self.new.watch ≡ self.old.watch }

@@ -1,6 +1,6 @@
 //! The limits of one connection, each with its reason.
 
-/// Time limits in milliseconds; 0 is no limit.
+/// Time limits of an open connection, in milliseconds; 0 is no limit.
 #[derive(Clone, Copy, Debug, PartialEq, Eq)]
 pub struct TimeLimits {
     /// For the preface and the first frame. The default, 10 seconds, is ten round trips of one

@@ -1,14 +1,19 @@
 //! What a server with its exchanges sends in one call.
 
-ghost use Rattle.std.specs.Prelude.{◌≡◌, ◌≢◌, ◌-◌, ℕ, [], OnOk, length, option_map, true};
+ghost use Rattle.std.specs.Prelude.{◌≡◌, ◌≢◌, ◌<◌, ◌-◌, ℕ, [], IfSome, None, OnOk, false, length};
+ghost use Rattle.std.specs.Prelude.{option_map, true};
 ghost use Rattle.h2_spec_log.specs.Acts.{Values};
-ghost use Rattle.h2_spec_log.specs.Log.{Log};
+ghost use Rattle.h2_spec_log.specs.Limits.{full_output};
+ghost use Rattle.h2_spec_log.specs.Log.{Log, waiting};
 ghost use Rattle.h2_conn.specs.Conn.{ConnRepresents};
 ghost use Rattle.h2_ends.specs.declared.end.End.{End};
 ghost use Rattle.h2_server.specs.Activity.{IsAnswering, has_answer_at};
 ghost use Rattle.h2_server.specs.Credit.{HandlesCredit, HandlesCreditOn, is_credit_due_in_all};
-ghost use Rattle.h2_server.specs.Credit.{nat_part, unused_at};
+ghost use Rattle.h2_server.specs.Credit.{unused_at};
 ghost use Rattle.h2_server.specs.Exchanges.{IsEmptied, awake, exchange_at, handling_of};
+ghost use Rattle.h2_server.specs.Exchanges.{is_part_due_at};
+ghost use Rattle.h2_server.specs.Sending.{HasNothing, IsAskedFor, NoneCanAsk, asked_on};
+ghost use Rattle.h2_server.specs.Sending.{nat_part, window_part, windows_allow};
 ghost use Rattle.h2_server.specs.Steps.{Handles};
 
 use crate::exchange::Stage;
@@ -194,19 +199,34 @@ impl<H: Handler> Exchanges<H> {
 
     /// The stream whose handler is asked next for a part, and for how many octets: the next one
     /// after the last asked, or else the first. None if the output is full.
-    fn next_asked(&self, server: &Server) -> Option<(u32, usize)> {
+    fn next_asked(&self, server: &Server) -> Option<(u32, usize)>
+        ensures some { IfSome result (λ next. IsAskedFor server.now.end.conn next.0 next.1
+            self.now.kept.entries) }
+        ensures none { result ≡ None → (values : Values) (log : Log)
+            → ConnRepresents values server.now.end.conn log → waiting log < full_output
+            → NoneCanAsk log 0 self.now.kept.entries }
+    {
         if server.is_full() {
             return None;
         }
-        match self.next_asked_above(server, self.asked) {
-            None if self.asked > 0 => self.next_asked_above(server, 0),
-            found => found,
+        if let Some(next) = self.next_asked_above(server, self.asked) {
+            return Some(next);
         }
+        if self.asked == 0 {
+            return None;
+        }
+        self.next_asked_above(server, 0)
     }
 
     /// The first stream above a number whose handler may be asked for a part, and for how many
     /// octets.
-    fn next_asked_above(&self, server: &Server, above: u32) -> Option<(u32, usize)> {
+    fn next_asked_above(&self, server: &Server, above: u32) -> Option<(u32, usize)>
+        ensures some { IfSome result (λ next. IsAskedFor server.now.end.conn next.0 next.1
+            self.now.kept.entries) }
+        ensures none { result ≡ None → (values : Values) (log : Log)
+            → ConnRepresents values server.now.end.conn log
+            → NoneCanAsk log above self.now.kept.entries }
+    {
         let mut above = above;
         while let Some(id) = self.kept.next_above(above) {
             above = id;
@@ -220,12 +240,25 @@ impl<H: Handler> Exchanges<H> {
 
     /// The number of octets a handler may be asked for: what both windows allow; 0 if it is not
     /// asked.
-    fn room_to_ask(&self, server: &Server, id: u32) -> usize {
+    fn room_to_ask(&self, server: &Server, id: u32) -> usize
+        ensures due { 0 < result → is_part_due_at (exchange_at id self.now.kept.entries) ≡ true }
+        ensures asked { (values : Values) (log : Log)
+            → ConnRepresents values server.now.end.conn log
+            → result ≡ asked_on log id self.now.kept.entries }
+    {
+        if self.is_part_due(id) {
+            return room_on(server, id);
+        }
+        0
+    }
+
+    /// Whether a part of the response on a stream is due, for which its handler can be asked.
+    fn is_part_due(&self, id: u32) -> bool
+        ensures { result ≡ is_part_due_at (exchange_at id self.now.kept.entries) }
+    {
         match self.kept.get(id) {
-            Some(exchange) if matches!(&exchange.stage, Stage::Parts { later: false }) => {
-                room_on(server, id)
-            }
-            _ => 0,
+            Some(exchange) => matches!(&exchange.stage, Stage::Parts { later: false }),
+            None => false,
         }
     }
 
@@ -250,6 +283,7 @@ impl<H: Handler> Exchanges<H> {
     // rule: handlers (own) What is given as an answer is what its handler gave
     /// Asks the handler for a part of the response on a stream, and sends it.
     fn ask_on(&mut self, server: &mut Server, id: u32, room: &mut [u8]) -> Result<(), Stop>
+        requires { IsAskedFor server.old.end.conn id (length room.old) self.old.kept.entries }
         ensures handles { Handles H.Handler [] server.old.end (handling_of self.old)
             server.new.end (handling_of self.new) }
         ensures room { length room.new ≡ length room.old }
@@ -329,7 +363,10 @@ impl<H: Handler> Exchanges<H> {
 
     /// Whether [`Exchanges::send_some`] could send more: octets of a complete body, or a part for
     /// which the handler can be asked.
-    pub fn may_send(&self, server: &Server) -> bool {
+    pub fn may_send(&self, server: &Server) -> bool
+        ensures { result ≡ false → (values : Values) (log : Log)
+            → ConnRepresents values server.now.end.conn log → HasNothing log self.now }
+    {
         self.more || self.next_asked(server).is_some()
     }
 
@@ -369,9 +406,20 @@ fn used_of(granted: u32, left: i64, unused: u64) -> u32
 }
 
 /// The number of octets that both windows allow on a stream.
-fn room_on(server: &Server, id: u32) -> usize {
-    let own = server.conn().room(id).unwrap_or(0);
-    let all = server.conn().room(0).unwrap_or(0);
-    let least = own.min(all);
-    usize::try_from(least).unwrap_or(0)
+fn room_on(server: &Server, id: u32) -> usize
+    ensures { (values : Values) (log : Log)
+        → ConnRepresents values server.now.end.conn log → result ≡ windows_allow log id }
+{
+    let conn = server.conn();
+    octets_of(conn.room(id)).min(octets_of(conn.room(0)))
+}
+
+/// The number of octets that a window allows.
+fn octets_of(window: Option<i64>) -> usize
+    ensures { result ≡ window_part window }
+{
+    match window {
+        Some(room) => usize::try_from(room).unwrap_or(0),
+        None => 0,
+    }
 }

@@ -4,7 +4,8 @@ ghost use Rattle.std.specs.Prelude.{◌≡◌, ◌≤◌, ◌++◌, [], ℕ, Lis
 ghost use Rattle.std.specs.Prelude.{take, true};
 ghost use Rattle.h2_host.specs.declared.party.Own.TheVariants as owns;
 ghost use Rattle.h2_server.specs.Connections.{GivesGone, IsSameOrRefused, IsSameOrStopped};
-ghost use Rattle.h2_server.specs.Connections.{KeepsTold, Makes, MakesOwn, TakesOfKept, WatchesBy};
+ghost use Rattle.h2_server.specs.Connections.{KeepsTold, Makes, MakesOwn, TakesOfKept, WakesEach};
+ghost use Rattle.h2_server.specs.Connections.{WatchesBy};
 ghost use Rattle.h2_server.specs.Connections.{input_kept};
 ghost use Rattle.h2_server.specs.Connections.{keeps_none};
 ghost use Rattle.h2_server.specs.Watching.{readiness_after};
@@ -27,6 +28,7 @@ impl<H: Handler> Connection<H> {
         ensures makes { MakesOwn H.Handler [] self.old self.new }
         ensures told { KeepsTold self.old self.new }
         ensures phase { self.new.phase ≡ self.old.phase }
+        ensures asks { WakesEach self.old self.new }
         ensures readiness { self.new.readiness ≡ readiness_after (owns.Ready reads writes) [] true
             self.old.readiness }
         ensures watch { self.new.watch ≡ self.old.watch }

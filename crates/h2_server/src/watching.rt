@@ -1,9 +1,10 @@
 //! How a connection watches its deadlines, its flood budget and what it holds.
 
-ghost use Rattle.std.specs.Prelude.{◌≡◌, ◌+◌, ◌*◌, [], max, true};
+ghost use Rattle.std.specs.Prelude.{◌≡◌, ◌+◌, ◌*◌, [], Some, max, true};
 ghost use Rattle.h2_host.specs.declared.party.Own.TheVariants as owns;
 ghost use Rattle.h2_server.specs.Activity.{IsActivity};
-ghost use Rattle.h2_server.specs.Connections.{AreCounts, HasToDo, IsAllSent, IsCounted, KeepsTold};
+ghost use Rattle.h2_server.specs.Connections.{AreCounts, AsksAgain, GoesAway, HasToDo, IdleGoesAway};
+ghost use Rattle.h2_server.specs.Connections.{IsAllSent, IsCounted, KeepsExchanges, KeepsTold};
 ghost use Rattle.h2_server.specs.Connections.{MakesOwn};
 ghost use Rattle.h2_server.specs.Connections.{NotesEnding, NotesFailing, NotesPhase, NotesWatch};
 ghost use Rattle.h2_server.specs.Connections.{WatchesBy, phase_late, phase_passed};
@@ -11,6 +12,7 @@ ghost use Rattle.h2_server.specs.Connections.{since_moved, watch_moved};
 ghost use Rattle.h2_server.specs.Deadlines.{overdue_of};
 ghost use Rattle.h2_server.specs.Phases.{is_phase_failing};
 ghost use Rattle.h2_server.specs.declared.connection.Phase.TheVariants as phases;
+ghost use Rattle.h2_server.specs.declared.deadlines.Timeout.TheVariants as timeouts;
 
 use crate::connection::{Connection, Phase};
 use crate::deadlines::{Activity, Timeout};
@@ -29,6 +31,8 @@ impl<H: Handler> Connection<H> {
         ensures told { KeepsTold self.old self.new }
         ensures phase { phase_passed self.old.phase self.old.watch.deadlines self.old.watch.limits
             (max self.old.watch.time now) self.new.phase }
+        ensures idle { IdleGoesAway (owns.Passed now) self.old self.new }
+        ensures asks { AsksAgain (owns.Passed now) self.old self.new }
         ensures readiness { self.new.readiness ≡ self.old.readiness }
         ensures watch { WatchesBy (owns.Passed now) [] self.old self.new.watch }
     {
@@ -44,6 +48,9 @@ impl<H: Handler> Connection<H> {
         ensures told { KeepsTold self.old self.new }
         ensures phase { phase_passed self.old.phase self.old.watch.deadlines self.old.watch.limits
             self.old.watch.time self.new.phase }
+        ensures idle { overdue_of self.old.watch.deadlines self.old.watch.limits.times
+            self.old.watch.time ≡ Some timeouts.Idle → GoesAway self.old self.new }
+        ensures kept { KeepsExchanges self.old self.new }
         ensures readiness { self.new.readiness ≡ self.old.readiness }
         ensures watch { self.new.watch ≡ self.old.watch }
     {
@@ -65,6 +72,9 @@ impl<H: Handler> Connection<H> {
         ensures told { KeepsTold self.old self.new }
         ensures phase { phase_late (overdue_of self.old.watch.deadlines self.old.watch.limits.times
             self.old.watch.time) self.old.phase self.old.watch.time self.new.phase }
+        ensures idle { overdue_of self.old.watch.deadlines self.old.watch.limits.times
+            self.old.watch.time ≡ Some timeouts.Idle → GoesAway self.old self.new }
+        ensures kept { KeepsExchanges self.old self.new }
         ensures readiness { self.new.readiness ≡ self.old.readiness }
         ensures watch { self.new.watch ≡ self.old.watch }
     {

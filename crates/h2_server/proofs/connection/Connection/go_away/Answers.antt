@@ -43,5 +43,13 @@ returns-clause-goes_away g c =
       away_done c.go_away.result (sym c.is_err.ensures.value ∙ c.if-is_err.false)
           c.go_away.ensures,
       refl,
-      refl,
     )
+
+pub returns-then-not-matches-clause-kept : goal.returns-then-not-matches-clause-kept
+returns-then-not-matches-clause-kept g c = inr refl
+
+pub returns-then-is_err-clause-kept : goal.returns-then-is_err-clause-kept
+returns-then-is_err-clause-kept g c = inl (ap is_phase_down c.fail.ensures.phase)
+
+pub returns-clause-kept : goal.returns-clause-kept
+returns-clause-kept g c = inr refl

@@ -1,5 +1,5 @@
 -- What of the three it is.
-use Rattle.std.proofs.Common.{◌≡◌, ◌∙◌, Bool, ap, false}
+use Rattle.std.proofs.Common.{◌≡◌, ◌∙◌, Bool, ap, true}
 use Rattle.std.specs.Prelude.{◌&&◌, ◌||◌, length, nat_lt}
 use Rattle.h2_conn.specs.Conn.{octets_queued}
 use Rattle.h2_server.specs.Connections.{takes_now, wants_turn}
@@ -12,7 +12,8 @@ use Rattle.h2_server.proofs.connection.Connection.has_to_do.Goals as goal
 
 pub returns-then-wants_read : goal.returns-then-wants_read
 returns-then-wants_read g c = (
-  false,
+  true,
+  λ sends. absurd (cc),
   λ values log is.
       let connection = c.args.self.now in
       let queued = connection.readiness.writes
@@ -31,13 +32,14 @@ returns-then-wants_read g c = (
         | else-writes+else-self-2 w ↦ as_second _ _ _
             (and_false _ _ _ w.if-self-2.false (w.value-is ∙ w.if-self-2.false)) w.if-writes.false
       ] in
-      either_is queued reads (wants_turn connection log false) c.if-writes.value
+      either_is queued reads (wants_turn connection log true) c.if-writes.value
       (either ∙ ap (λ (b : Bool). b || reads) writes) c.if-wants_read.true,
 )
 
 pub returns-else-wants_read : goal.returns-else-wants_read
 returns-else-wants_read g c = (
   c.wants_turn.ensures.0,
+  c.wants_turn.ensures.1,
   λ values log is.
       let connection = c.args.self.now in
       let queued = connection.readiness.writes
@@ -56,7 +58,7 @@ returns-else-wants_read g c = (
         | else-writes+else-self-2 w ↦ as_second _ _ _
             (and_false _ _ _ w.if-self-2.false (w.value-is ∙ w.if-self-2.false)) w.if-writes.false
       ] in
-      c.wants_turn.ensures.1 values log is
+      c.wants_turn.ensures.2 values log is
       ∙ neither_is queued reads (wants_turn connection log c.wants_turn.ensures.0)
       c.if-writes.value (either ∙ ap (λ (b : Bool). b || reads) writes) c.if-wants_read.false,
 )

@@ -9,6 +9,8 @@ returns g c =
           same c.go_away.ensures.makes;
       goes_away = counted_away c.args.self.now c.go_away.new.self c.count.new.self
           same c.go_away.ensures.goes_away;
+      kept = rw same c.go_away.ensures.kept;
+      rest = λ closed. rw (c.go_away.ensures.rest closed) at c.count.ensures.rest;
       told = told_counted c.args.self.now c.go_away.new.self c.count.new.self
           same c.go_away.ensures.told;
       phase = rw same c.go_away.ensures.phase;

@@ -18,4 +18,5 @@ returns-in-Err-clause-makes g c =
     let kept = input_kept c.args.self.now in
     stops_then c.args.self.now c.take_waiting.new.self _ [] kept c.in-Err.stop _
     (append-nil kept) c.in-Err.ensures.takes
-    (same_failing _ _ c.take_waiting.ensures.same c.take_waiting.ensures.phase) c.stop.ensures.makes c.stop.ensures.phase
+    (same_failing _ _ c.take_waiting.ensures.same c.take_waiting.ensures.phase) c.stop.ensures.makes
+    c.stop.ensures.phase

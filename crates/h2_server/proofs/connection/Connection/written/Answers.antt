@@ -10,6 +10,8 @@ returns g c = let (gone, makes, gives, watch) = c.take_away.ensures.makes in rec
   over = λ is. refused_over _ _ is c.take_away.ensures.phase;
   made = λ is. c.take_away.ensures.phase;
   refused = λ is. tt;
+  idle = tt;
+  asks = tt;
   readiness = c.take_away.ensures.readiness;
   watch = watch;
   notes = c.note.ensures.makes;

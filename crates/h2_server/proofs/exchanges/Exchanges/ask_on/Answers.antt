@@ -10,7 +10,7 @@ returns-in-Some-clause-handles g c =
     let next = record one { stage = c.send_part-result.result.given.stage } in
     asked_handles (handling_of c.part-part.new.self) c.args.id c.part-part.new.room
     c.part-part.result c.send_part-result.result.given.stage (exchange_kept one)
-    c.part-part.ensures.asks
+    (rw c.part-part.ensures.length c.requires) c.part-part.ensures.asks
     c.send_part-result.ensures
     (found_kept c.args.id c.part-part.new.self.kept.entries one c.in-Some.ensures.value) refl
     (written_kept c.args.id c.part-part.new.self.kept _ one next c.in-Some.ensures.value
