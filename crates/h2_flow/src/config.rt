@@ -99,9 +99,10 @@ impl Config {
     /// SETTINGS frame that has it, a smaller one from its acknowledgment.
     ///
     /// The connection's window is 65,535 octets until `widen` is called, so DATA with a longer
-    /// payload still ends the connection: with FLOW_CONTROL_ERROR if its stream is active, was
-    /// reset by this end, or is above the last stream of its GOAWAY; with PROTOCOL_ERROR if it is
-    /// idle; otherwise with STREAM_CLOSED. The limit of a field block stays 65,552 octets.
+    /// payload still ends the connection: with FLOW_CONTROL_ERROR if the stream is active, was
+    /// reset by this end, or is above the last stream of the GOAWAY that this end has sent; with
+    /// PROTOCOL_ERROR if the stream is idle; otherwise with STREAM_CLOSED. The limit of a field
+    /// block stays 65,552 octets.
     ///
     /// # Errors
     ///

@@ -19,8 +19,8 @@ pub fn one_reading()
 {}
 
 // contract: 4.2 A payload as long as the limit is received
-/// A stream has the same frames and the same unparsed octets if the limit of payloads is raised
-/// at any of its octets, as long as it is lowered at none.
+/// A stream that can be read with some limits of payloads has the same frames and unparsed octets
+/// with any other limits that are at no octet below these.
 pub fn frames_are_read_with_wider_limits()
     ensures { (expects : Bool) (limits others : Limits) (stream : List ℕ) (frames : List Frame)
         (unparsed : List ℕ) → ((place : ℕ) → limits place ≤ others place)
