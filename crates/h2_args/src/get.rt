@@ -230,8 +230,9 @@ Fields are sent in the order given, after the pseudo-header fields. No others
 are added, not even content-length: the end of the stream ends the body. A host
 field is refused, since the URL names the host. Spaces and tabs around a value
 are removed. With --include, an octet of a field that is not printable ASCII, or
-is a backslash, is printed as `\x00`, so a server cannot send control characters
-to the terminal in its fields. Trailers follow the body and a newline.
+is a backslash, is printed in hexadecimal, such as `\x1b`, so a server cannot
+send control characters to the terminal in its fields. Trailers follow the body
+and a newline.
 
 Exit status (lines in backquotes go to standard error):
   0  a response was received, whatever its status unless --fail is given
