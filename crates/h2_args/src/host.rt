@@ -153,8 +153,8 @@ than 10 seconds, and with code 11 in these cases:
   (of all streams together) take more than 30 seconds;
 - if output is queued and none of it is written for 60 seconds, or if no octet
   of any response body is sent for 60 seconds while there is an open exchange
-  that has a response, sent or not (an exchange is open until its request and
-  its response are both complete, or its stream is reset);
+  that has a response, even if it was sent in full (an exchange is open until
+  its request and its response are both complete, or its stream is reset);
 - if, within one of consecutive periods of 10 seconds,
   - the client sends more than 500 RST_STREAM frames, or more than 500 empty
     frames without effect: DATA without END_STREAM, or HEADERS or CONTINUATION

@@ -34,8 +34,9 @@ pub fn no_grouping_past_a_fault()
 // contract: 4.2 (own) Payloads of at most 65,536 octets are sent, where the peer reads them
 // contract: 4.3 A block is sent as contiguous HEADERS and CONTINUATION, each full but one
 /// The frames over which a block is spread are one block of its octets, whatever the greatest
-/// payload (`most`) is. Each payload has at most `most` octets, and the frames may be written if a
-/// head can encode `most`.
+/// payload (`most`) is. If `most` is less than 2<sup>24</sup> and the stream from 1 to
+/// 2<sup>31</sup> - 1, each payload has at most `most` octets, and no frame is refused when it is
+/// written.
 pub fn spread_block()
     ensures grouped { (most stream : ℕ) (end : Bool) (octets : List ℕ) → 1 ≤ most
         → length octets ≤ 65552

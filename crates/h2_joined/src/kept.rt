@@ -124,7 +124,8 @@ pub struct Accepted {
     pub id: u32,
     /// The message; if it was begun, what was accepted of it so far.
     pub message: Message,
-    /// Whether more of it may follow.
+    /// Whether it was begun in parts and its end was not accepted yet. A reset of the stream or a
+    /// failure of the connection does not change this.
     pub begun: bool,
 }
 
