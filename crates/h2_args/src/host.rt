@@ -116,10 +116,10 @@ whose authority names a user gets status 400.
 With --root, GET and HEAD are answered with a file below that folder, of any
 size, with its type, length, `etag`, `last-modified` and `date`. Conditional
 requests and single ranges are supported (RFC 9110, sections 13 and 14). A path
-that ends with a slash is the `index.html` of that folder. The body of an error
-is its status and phrase. A response to HEAD has no body, nor has a 400 that is
-sent because the authority names a user, nor a 500 that is sent because memory
-for the answer ran out. Errors:
+that ends with a slash names a folder: its `index.html` is sent. The body of an
+error is its status and phrase. A response to HEAD has no body, nor has a 400
+that is sent because the authority names a user, nor a 500 that is sent because
+memory for the answer ran out. Errors:
   400       the path cannot be decoded or has a control character, or the
             authority names a user
   403       a symbolic link or anything below one, a file that is not regular,

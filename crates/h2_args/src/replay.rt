@@ -103,8 +103,8 @@ The rules of messages (RFC 9113, section 8) are checked only with --messages:
 they are M1 to M12 of docs/PROTOCOL.md. CONNECT is not supported, and breaks M6
 or M7. Not checked are the value of :scheme, a user in host or :authority, and
 whether those two agree. If a part of a message breaks a rule, the endpoint
-resets its stream. In place of the part this line is printed, before that of the
-reset:
+resets its stream. In place of the part, this line is printed, before that of
+the reset:
   malformed ID RULE  the number and name of the first rule that the part breaks,
                      such as `M10 ConnectionField` (docs/PROTOCOL.md)
 A malformed message is not a fault, so the exit status stays 0. At most 1000

@@ -205,8 +205,8 @@ PING adds its eight octets in hexadecimal, and PRIORITY adds nothing. The fields
 of a block follow the frame that ends it. Other lines:
   preface            the client connection preface
     name: value      a header field; `!` before the name marks it as never
-                     indexed, and `\x00` is an octet outside printable ASCII, or
-                     a backslash, in hexadecimal
+                     indexed; an octet outside printable ASCII, or a backslash,
+                     is printed in hexadecimal, such as `\x1b`
     list too large   the field section exceeds 65536 octets, counting 32 extra
                      for each field
   fault CODE at N    a connection error with this code (RFC 9113, section 7) at

@@ -3,7 +3,7 @@
 use crate::client::{Client, End};
 use crate::requests::OPENING;
 use crate::served::{Fate, Place, Served, Setup, add_why};
-use crate::told::Told;
+use crate::told::{Asked, Told};
 use crate::turn::give_turn;
 use h2_case::case::CaseError;
 use h2_case::octets::add_frames;
@@ -200,9 +200,9 @@ impl<'a> Connections<'a> {
         self.give_turns(words);
     }
 
-    /// The client's connection is asked to end in order.
-    pub(crate) fn leave(&mut self, words: &mut Words<'_>) {
-        self.told.ask(self.current);
+    /// Something is asked of the client's connection.
+    pub(crate) fn ask(&mut self, asked: Asked, words: &mut Words<'_>) {
+        self.told.ask(self.current, asked);
         self.served.pass(self.now);
         self.told.ask_nobody();
         self.give_turns(words);

@@ -5,12 +5,15 @@ ghost use Rattle.std.specs.Prelude.{◌≡◌, length};
 ghost use Rattle.h2_server.specs.Parts.{FitsPart};
 
 use crate::path::{Does, Then, read_path};
-use crate::told::Told;
+use crate::told::{Gives, Told};
 use h2_case::fields::read_fields;
 use h2_case::text::Text;
 use h2_case::words::Words;
 use h2_case_conn::answers::begin_line;
-use h2_server::{Cause, Field, FieldList, Handler, HandlerFault, Message, Part, Reply};
+use h2_server::{
+    Cause, ExchangeRefusal, Field, FieldList, Handler, HandlerFault, Message, Part, Reply,
+    ResponseFault,
+};
 use std::alloc::Global;
 
 /// The handler of a connection.
@@ -51,6 +54,13 @@ impl Paths<'_> {
         self.told.add(self.number, line);
     }
 
+    // Notes what is said of a stream.
+    fn note_stream(&self, name: &str, stream: u32) {
+        let mut line = Text::new(self.alloc);
+        begin_line(&mut line, name, stream, false);
+        self.told.add(self.number, line);
+    }
+
     // Notes that an exchange is over.
     fn note_over(&self, id: u32, cause: Cause) {
         let mut line = Text::new(self.alloc);
@@ -73,6 +83,7 @@ impl Handler for Paths<'_> {
     fn head(
         &mut self,
         alloc: Global,
+        _stream: u32,
         list: &FieldList,
         end: bool,
     ) -> Result<(Exchange, Reply), HandlerFault> {
@@ -119,13 +130,8 @@ impl Handler for Paths<'_> {
     ) -> Result<Part, HandlerFault> {
         self.note_count("part", work.id, room.len(), false);
         match work.does {
-            Does::Parts(count, then) => {
-                let given = work.given;
-                let left = count.saturating_sub(given);
-                work.given = given.saturating_add(left.min(room.len()));
-                fill(room, given);
-                next_part(alloc, left, room.len(), then)
-            }
+            Does::Parts(count, then) => give_part(alloc, work, count, then, room),
+            Does::Defers(count) => give_part(alloc, work, count, Then::Ends, room),
             _ => Err(HandlerFault::Failed),
         }
     }
@@ -141,6 +147,12 @@ impl Handler for Paths<'_> {
         match work.does {
             Does::Keeps(count) => work.came.saturating_sub(count),
             _ => 0,
+        }
+    }
+
+    fn fault(&self, id: u32, fault: ResponseFault) {
+        if fault == ResponseFault::TooLate {
+            self.note_stream("late", id);
         }
     }
 
@@ -167,8 +179,27 @@ fn reply_at_head(alloc: Global, does: Does, end: bool) -> Result<Reply, HandlerF
 fn reply_later(alloc: Global, does: Does, end: bool) -> Result<Reply, HandlerFault> {
     match does {
         Does::Whole(count) if end => answer(alloc, 200, count),
+        Does::Defers(_) => Ok(Reply::Deferred),
         Does::Keeps(_) | Does::Holds(_) if end => answer(alloc, 200, 0),
         _ => Ok(Reply::Later),
+    }
+}
+
+/// A reply with this status.
+pub(crate) fn deferred(alloc: Global, status: u16, gives: Gives) -> Result<Reply, HandlerFault> {
+    match gives {
+        Gives::Whole(count) => answer(alloc, status, count),
+        Gives::Parts => Ok(Reply::Parts(Message::response(alloc, status)?.head)),
+        Gives::Nothing => Ok(Reply::Deferred),
+    }
+}
+
+/// Why a call for an exchange was refused.
+pub(crate) fn name_of_refusal(refusal: ExchangeRefusal) -> &'static str {
+    match refusal {
+        ExchangeRefusal::NoResponse => "refused no response",
+        ExchangeRefusal::Over => "refused over",
+        ExchangeRefusal::Answered => "refused answered",
     }
 }
 
@@ -194,6 +225,24 @@ fn fill(room: &mut [u8], before: usize)
         *octet = next;
         next = if next >= 250 { 0 } else { next.wrapping_add(1) };
     }
+}
+
+// The next part of a body of `count` octets.
+fn give_part(
+    alloc: Global,
+    work: &mut Exchange,
+    count: usize,
+    then: Then,
+    room: &mut [u8],
+) -> Result<Part, HandlerFault>
+    ensures length { length room.new ≡ length room.old }
+    ensures fits { FitsPart (length room.old) result }
+{
+    let given = work.given;
+    let left = count.saturating_sub(given);
+    work.given = given.saturating_add(left.min(room.len()));
+    fill(room, given);
+    next_part(alloc, left, room.len(), then)
 }
 
 // The next part, where this much is left and fits.

@@ -15,6 +15,8 @@ pub(crate) enum Does {
     Parts(usize, Then),
     /// No response yet.
     Later,
+    /// A deferred response; if it is given in parts, so many octets.
+    Defers(usize),
     /// A fault.
     Fails,
     /// A reset.
@@ -72,6 +74,7 @@ fn does_with(name: &str, number: u32) -> Does {
         "trailers" => Does::Parts(count, Then::Trailers),
         "stalls" => Does::Parts(count, Then::Stalls),
         "fails" => Does::Parts(count, Then::Fails),
+        "defers" => Does::Defers(count),
         "keeps" => Does::Keeps(number),
         "holds" => Does::Holds(count),
         "resets" => reset_of(number),

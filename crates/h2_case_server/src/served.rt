@@ -3,15 +3,16 @@
 
 ghost use Rattle.std.specs.Prelude.{⊤};
 
-use crate::handler::{Exchange, Paths};
-use crate::told::Told;
+use crate::handler::{Exchange, Paths, deferred, name_of_refusal};
+use crate::told::{Asked, Told};
 use h2_case::text::Text;
 use h2_case::words::Words;
 pub(crate) use h2_host::MOST_TAKEN;
 use h2_host::{Answer, Bound, Host, Limits, Own, Party, Reply, Step, Token};
 pub(crate) use h2_server::CloseReason;
 use h2_server::{
-    Code, Config, Connection, ConnectionLimits, Flood, FloodLimits, Handler, TimeLimits, Timeout,
+    Code, Config, Connection, ConnectionLimits, ExchangeRefusal, Flood, FloodLimits, Handler,
+    TimeLimits, Timeout,
 };
 use std::alloc::Global;
 
@@ -34,15 +35,16 @@ pub(crate) enum Fate {
     Over,
 }
 
-/// A connection that can be asked to end in order.
-trait Leaves {
-    fn leave(&mut self);
+/// A connection that can be asked to do something.
+trait Asks {
+    /// Does it, and returns why it was refused.
+    fn ask(&mut self, alloc: Global, asked: Asked) -> Option<ExchangeRefusal>;
 }
 
-/// A connection of a host, which begins to end in order at the next time that passes after it was
-/// asked to.
+/// A connection of a host, which does what it was asked to at the next time that passes.
 #[derive(Drop)]
 struct Guest<'a, P> {
+    alloc: Global,
     party: P,
     /// The number of its client.
     number: usize,
@@ -94,6 +96,7 @@ fn set_time_limit(limits: &mut ConnectionLimits, name: &str, words: &mut Words<'
         "writing" => times.writing = words.number(),
         "answering" => times.answering = words.number(),
         "idle" => times.idle = words.number(),
+        "deferred" => times.deferred = words.number(),
         _ => set_flood_limit(&mut limits.floods, name, words),
     }
 }
@@ -110,13 +113,41 @@ fn set_flood_limit(floods: &mut FloodLimits, name: &str, words: &mut Words<'_>) 
     }
 }
 
-impl<H: Handler> Leaves for Connection<H> {
-    fn leave(&mut self) {
-        Connection::leave(self);
+impl<H: Handler> Asks for Connection<H> {
+    fn ask(&mut self, alloc: Global, asked: Asked) -> Option<ExchangeRefusal> {
+        match asked {
+            Asked::Leave => {
+                self.leave();
+                None
+            }
+            Asked::Respond {
+                stream,
+                status,
+                gives,
+            } => {
+                let reply = deferred(alloc, status, gives).ok()?;
+                self.respond(stream, reply).err()
+            }
+            Asked::Reset { stream, code } => self.reset(stream, code).err(),
+        }
     }
 }
 
-impl<P: Party + Leaves> Party for Guest<'_, P> {
+impl<P: Party + Asks> Guest<'_, P> {
+    // Does what the connection is asked to, and notes why that is refused.
+    fn do_asked(&mut self) {
+        let Some(asked) = self.told.asked_of(self.number) else {
+            return;
+        };
+        if let Some(refusal) = self.party.ask(self.alloc, asked) {
+            let mut line = Text::new(self.alloc);
+            line.push_str(name_of_refusal(refusal));
+            self.told.add(self.number, line);
+        }
+    }
+}
+
+impl<P: Party + Asks> Party for Guest<'_, P> {
     ghost steps = { λ _ _ _ _ _. ⊤ };
 
     ghost held_of = { λ guest. P.held_of guest.party };
@@ -128,10 +159,11 @@ impl<P: Party + Leaves> Party for Guest<'_, P> {
     ghost output_of = { λ guest. P.output_of guest.party };
 
     fn step(&mut self, own: Own, octets: &[u8], room: &mut [u8]) -> Answer {
-        if matches!(own, Own::Passed { .. }) && self.told.is_asked(self.number) {
-            self.party.leave();
+        let answer = self.party.step(own, octets, room);
+        if matches!(own, Own::Passed { .. }) {
+            self.do_asked();
         }
-        self.party.step(own, octets, room)
+        answer
     }
 
     fn held(&self) -> usize {
@@ -174,6 +206,7 @@ impl<'a> Served<'a> {
             return None;
         };
         let party = Guest {
+            alloc,
             party,
             number,
             told,

@@ -2,8 +2,8 @@
 //!
 //! - `config TABLE WINDOW STREAMS`: the settings of the connections that are opened then; at first
 //!   the default ones. `limit NAME N`: a limit of these, or of the host, before the first `open`:
-//!   `opening`, `frame`, `body`, `least_body`, `writing`, `answering` and `idle` (times in
-//!   milliseconds; octets), `stretch`, `resets`, `empty`, `refused` and `replies` (floods),
+//!   `opening`, `frame`, `body`, `least_body`, `writing`, `answering`, `idle` and `deferred` (times
+//!   in milliseconds; octets), `stretch`, `resets`, `empty`, `refused` and `replies` (floods),
 //!   `closing` and `least_closing`, `held`, `held_in_all` and `connections`.
 //! - `open NAME`: a client of this name connects; the commands that follow are for it, up to the
 //!   next `open` or `on NAME`. `full` where the host has no place. `start NAME`: the same; then the
@@ -21,13 +21,16 @@
 //!   ends its side. `close`: its transport is gone.
 //! - `time MS`: time passes until `MS` milliseconds after the start, in steps of at most a second,
 //!   with turns after each; `time MS at once`: in one step.
-//! - `leave`: the connection is asked to end in order.
+//! - `leave`: the connection is asked to end in order. `respond STREAM STATUS N`: the response of
+//!   the exchange on this stream is given, with a body of N octets; `respond STREAM STATUS parts`:
+//!   in parts; `respond STREAM STATUS nothing`: none is. `reset STREAM CODE`: the stream is reset.
 //! - `out`: the frames of what the client has taken; `drop out`, `count out`: it is taken away, and
 //!   not shown, or its number of octets is.
 //! - `told`: what the handler was told: `head ID`, `body ID COUNT`, `trailers ID`, the first two
 //!   with `end` where the request is complete; `part ID ROOM`; and `over ID` with `done`, `closed`,
-//!   `reset CODE ours` or `reset CODE theirs`. The same line N times one after another has `xN`.
-//!   A handler is not told the stream: `ID` is what comes after `?` in the path, and else 0.
+//!   `reset CODE ours` or `reset CODE theirs`. `ID` is what comes after `?` in the path, and else
+//!   0. `late STREAM`: a response was deferred for too long. Of `respond` and `reset` also `refused
+//!   over` or `refused answered`. The same line N times one after another has `xN`.
 //! - `why`: `up`; `ending` and `over`, each with why, as [`crate::served::add_why`] says; `gone`
 //!   after `close`. `holds`: the number of octets that the connection holds; `holds in all`: that
 //!   of all. `waiting`: the number of connections that wait for a turn.
@@ -39,6 +42,7 @@
 //!   `/bad`: a response that breaks a rule, at the head.
 //! - `/parts/N`: the head of a response, and then N octets in parts that are as long as may be;
 //!   `/trailers/N`: then the trailers `x: y`; `/stalls/N`: then nothing; `/fails/N`: then a fault.
+//! - `/defers/N`: the response is deferred; in parts it has N octets.
 //! - `/later`: no response. `/fails`: a fault at the head. `/resets/CODE`: a reset.
 //! - `/keeps/N`: status 200 once the request is complete, of whose body N octets are used at most.
 //!   `/holds/N`: the same, where all are used, and N octets are held.
@@ -47,13 +51,14 @@
 use crate::connections::Connections;
 use crate::requests::{GET, OPENING, POST, read_requests};
 use crate::served::Setup;
-use crate::told::Told;
+use crate::told::{Asked, Gives, Told};
 use h2_case::case::Case;
 use h2_case::driver::{Answer, Driver};
 use h2_case::text::Text;
 use h2_case::words::Words;
 use h2_case_conn::acts::read_config;
 use h2_case_conn::cuts::{answers_of, read_frames};
+use h2_server::Code;
 use std::alloc::Global;
 
 /// The state of a case.
@@ -127,9 +132,49 @@ fn answer_act(
         "ends" => connections.end(words),
         "close" => connections.close(words),
         "time" => connections.pass(words),
-        "leave" => connections.leave(words),
+        "leave" => connections.ask(Asked::Leave, words),
+        "respond" => {
+            let asked = read_response(words);
+            connections.ask(asked, words);
+        }
+        "reset" => {
+            if let Some(asked) = read_reset(words) {
+                connections.ask(asked, words);
+            }
+        }
         _ => read(connections, name, words, text),
     }
+}
+
+// Reads the response of a stream: its status, and the number of its octets, or `parts`.
+fn read_response(words: &mut Words<'_>) -> Asked {
+    let stream = words.number();
+    let status = words.number();
+    let gives = if words.has("parts") {
+        Gives::Parts
+    } else if words.has("nothing") {
+        Gives::Nothing
+    } else {
+        Gives::Whole(words.number())
+    };
+    Asked::Respond {
+        stream,
+        status,
+        gives,
+    }
+}
+
+// Reads a stream, and the code with which it is reset.
+fn read_reset(words: &mut Words<'_>) -> Option<Asked> {
+    let stream = words.number();
+    let code = Code::from_number(words.number());
+    if code.is_none() {
+        words.unread();
+    }
+    Some(Asked::Reset {
+        stream,
+        code: code?,
+    })
 }
 
 // Adds what has come of it.

@@ -3,11 +3,41 @@
 use h2_case::case::CaseError;
 use h2_case::text::Text;
 use h2_case::words::Words;
+use h2_server::Code;
 use std::alloc::Global;
 use std::cell::{Cell, RefCell};
 
-/// Nobody is asked to end.
+/// Nothing is asked of a connection of this number.
 const NOBODY: usize = usize::MAX;
+
+/// How a response is given.
+#[derive(Clone, Copy)]
+pub(crate) enum Gives {
+    /// Whole, with so many octets.
+    Whole(usize),
+    /// In parts.
+    Parts,
+    /// Not at all.
+    Nothing,
+}
+
+/// What a connection is asked to do.
+#[derive(Clone, Copy)]
+pub(crate) enum Asked {
+    /// To end in order.
+    Leave,
+    /// To give the response of the exchange on a stream, with this status.
+    Respond {
+        stream: u32,
+        status: u16,
+        gives: Gives,
+    },
+    /// To reset a stream.
+    Reset {
+        stream: u32,
+        code: Code,
+    },
+}
 
 /// Lines; those that are the same one after another are one line, with their number.
 #[derive(Drop)]
@@ -19,13 +49,13 @@ struct Lines {
     count: u32,
 }
 
-/// What handlers are told, and who is asked to end.
+/// What handlers are told, and what is asked of whom.
 #[derive(Drop)]
 pub(crate) struct Told {
     /// The lines of each connection, by the numbers of their clients.
     lines: RefCell<Vec<Lines>>,
-    /// The number of the client whose connection is asked to end in order.
-    asked: Cell<usize>,
+    /// What is asked of a connection, with the number of its client.
+    asked: Cell<(usize, Asked)>,
 }
 
 impl Lines {
@@ -66,7 +96,7 @@ impl Told {
     pub(crate) fn new(alloc: Global) -> Told {
         Told {
             lines: RefCell::new(Vec::new(alloc)),
-            asked: Cell::new(NOBODY),
+            asked: Cell::new((NOBODY, Asked::Leave)),
         }
     }
 
@@ -104,18 +134,19 @@ impl Told {
         taken.text
     }
 
-    /// Asks a connection to end in order.
-    pub(crate) fn ask(&self, number: usize) {
-        self.asked.set(number);
+    /// Asks something of a connection.
+    pub(crate) fn ask(&self, number: usize, asked: Asked) {
+        self.asked.set((number, asked));
     }
 
     /// Asks nobody any more.
     pub(crate) fn ask_nobody(&self) {
-        self.asked.set(NOBODY);
+        self.asked.set((NOBODY, Asked::Leave));
     }
 
-    /// Whether a connection is asked to end in order.
-    pub(crate) fn is_asked(&self, number: usize) -> bool {
-        self.asked.get() == number
+    /// What is asked of a connection.
+    pub(crate) fn asked_of(&self, number: usize) -> Option<Asked> {
+        let (of, asked) = self.asked.get();
+        if of == number { Some(asked) } else { None }
     }
 }

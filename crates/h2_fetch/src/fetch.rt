@@ -22,10 +22,10 @@ use std::alloc::Global;
 /// A client that makes one request over a link and returns its response part by part. It keeps one
 /// piece of the input, at most 16,384 octets, and returns credit to the server just before it
 /// reads the next piece: all that is owed, unless the last read returned 16,384 octets. After such
-/// a read it returns none while what is owed on the stream is less than the server may still send
-/// on the stream, and less than it may still send on the connection. But if, for either of them,
-/// what is owed and what may still be sent are together less than 65,535 octets, it holds none
-/// back.
+/// a read it returns credit only if that is due by one of the two windows, the stream's or the
+/// connection's. It is due by a window if the octets that are owed on the stream are at least as
+/// many as the server may still send within that window, or if these two numbers add up to less
+/// than 65,535.
 #[derive(Drop)]
 pub struct PartFetch {
     pub(crate) alloc: Global,
@@ -128,13 +128,13 @@ impl PartFetch {
     ///
     /// # Errors
     ///
-    /// Parts before the error were all returned; after N3 one part may be lost.
+    /// All parts before the error were returned, except that with N3 one of them may be lost.
     ///
     /// - [`LinkError::Device`] (N1) where the link failed.
     /// - [`LinkError::Stream`] (N2) where the connection failed, once its GOAWAY was written.
     /// - [`LinkError::Memory`] (N3) where an allocation was refused.
     /// - [`LinkError::CutOff`] (N4) where the input ended before the response was complete.
-    /// - [`LinkError::NoProgress`] (N5) where a write took nothing, and after 2^64 - 1 rounds.
+    /// - [`LinkError::NoProgress`] (N5) where a write took nothing, or 2^64 - 1 rounds were made.
     /// - [`LinkError::Reset`] (N6) where either end reset the stream, or the server did not
     ///   process the request.
     pub fn next<L: Link>(&mut self, link: &mut L) -> Result<ResponsePart, LinkError>

@@ -1,6 +1,6 @@
 //! Clients that make one request, or several at once, over any link (RFC 9113), and return each
-//! response part by part as it comes. They read the input in pieces of at most 16,384 octets, and
-//! return credit to the server only just before they read the next piece.
+//! response part by part as it comes. They read the input in pieces of at most 16,384 octets.
+//! Credit is returned to the server just before a piece is read, and at no other time.
 #![tactic(auto)]
 
 mod asking;

@@ -139,10 +139,8 @@ impl SeveralFetch {
     // rule: engines (own) Responses of several requests are what is handed out, each in order
     /// Returns what came next on a stream of [`SeveralFetch::streams`]. Until something has come
     /// on it, returns the credit that is owed on that stream, writes what waits, and reads the
-    /// link. After a read that returned 16,384 octets, it returns none while what is owed on the
-    /// stream is less than the server may still send on the stream, and less than it may still
-    /// send on the connection. But if, for either of them, what is owed and what may still be sent
-    /// are together less than 65,535 octets, it holds none back.
+    /// link. After a read that returned 16,384 octets, it returns credit only if that is due, as
+    /// [`crate::PartFetch`] says.
     ///
     /// Don't call it for a stream after the part that ends its response, or after
     /// [`Came::Dropped`]. Don't call it at all after N3 or N5, nor with a link that has failed.

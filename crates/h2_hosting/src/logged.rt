@@ -119,7 +119,9 @@ impl<'a, R: Clock, J: TakesLines + Drop, W: Drop, H: Handler<Work = W>> Handler
 
     type Work = Note<W>;
 
-    ghost heads = { λ old list end result new. HeadsLogged H.heads old list end result new };
+    ghost heads = { λ old id list end result new. HeadsLogged
+        (λ handler list end result after. H.heads handler id list end result after) old list end
+        result new };
 
     ghost bodies = { λ old note octets end reply after new. MoreLogged
         (λ handler work reply after then. H.bodies handler work octets end reply after then) old
@@ -137,13 +139,14 @@ impl<'a, R: Clock, J: TakesLines + Drop, W: Drop, H: Handler<Work = W>> Handler
     fn head(
         &mut self,
         alloc: Global,
+        id: u32,
         list: &FieldList,
         end: bool,
     ) -> Result<(Note<W>, Reply), HandlerFault> {
         let is_noted = self.journal.is_some();
         let method = noted(alloc, value_in(list, b":method"), is_noted)?;
         let path = noted(alloc, value_in(list, b":path"), is_noted)?;
-        let (work, reply) = self.handler.head(alloc, list, end)?;
+        let (work, reply) = self.handler.head(alloc, id, list, end)?;
         let note = Note {
             work,
             method,

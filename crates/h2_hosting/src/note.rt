@@ -69,7 +69,7 @@ pub(crate) fn status_in(reply: &Reply) -> Option<u16>
     match reply {
         Reply::Whole(message) | Reply::Refuse(message) => head_status(&message.head),
         Reply::Parts(head) => head_status(head),
-        Reply::Later | Reply::Reset(_) => None,
+        Reply::Later | Reply::Deferred | Reply::Reset(_) => None,
     }
 }
 

@@ -25,7 +25,7 @@ impl<'a, R: Files + Clock> Handler for Site<'a, R> {
 
     type Work = Option<Sending<R::File>>;
 
-    ghost heads = { λ old list end result new. (new ≡ old) × AnswersSite list result };
+    ghost heads = { λ old id list end result new. (new ≡ old) × AnswersSite list result };
 
     ghost bodies = { λ old work octets end result after new.
         (new ≡ old) × (after ≡ work) × (result ≡ Ok replies.Later) };
@@ -43,6 +43,7 @@ impl<'a, R: Files + Clock> Handler for Site<'a, R> {
     fn head(
         &mut self,
         alloc: Global,
+        _id: u32,
         list: &FieldList,
         _end: bool,
     ) -> Result<(Option<Sending<R::File>>, Reply), HandlerFault> {

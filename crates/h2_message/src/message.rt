@@ -35,7 +35,7 @@ impl Message {
     /// Makes a request with its four pseudo-header fields (RFC 9113, section 8.3.1), of which
     /// `:scheme` is `http`, and no body or trailers. It checks no rule:
     /// [`check_request`](crate::check_request), which a client's `request` calls, refuses for
-    /// instance a path that does not begin with a slash.
+    /// instance a GET whose path does not begin with a slash.
     ///
     /// # Errors
     ///

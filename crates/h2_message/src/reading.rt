@@ -29,7 +29,8 @@ pub enum Reads {
     /// A server reads requests.
     Requests,
     /// A client reads responses. In a response to HEAD, or with status 204 or 304,
-    /// `content-length` is not compared (RFC 9113, section 8.1.1), and any DATA is accepted (own).
+    /// `content-length` is not compared (RFC 9113, section 8.1.1), and any DATA is accepted (a
+    /// choice that the standard leaves open).
     Responses {
         /// Whether the request was HEAD.
         to_head: bool,

@@ -1,12 +1,12 @@
--- Which exchanges there are, which have an answer, and which may be asked for one again.
-use Rattle.std.proofs.Common.{◌≡◌, ◌≢◌, ◌<◌, ◌≤◌, ◌==◌, ◌⊎◌, ℕ, List, true, false, Some, None}
+-- Which exchanges there are, which of them are so, and how all of them change.
+use Rattle.std.proofs.Common.{◌≡◌, ◌≢◌, ◌<◌, ◌≤◌, ◌==◌, ◌⊎◌, ℕ, Bool, List, true, false, Some, None}
 use Rattle.std.proofs.Common.{Option, ap, sym, refl, ◌∙◌, inl, inr, arith}
 use Rattle.std.proofs.lemmas.Bool.{cases_Bool, eqb-true, eqb-false, cases_lt}
 use Rattle.std.specs.Prelude.{if◌then◌else◌, is_some, option_map}
 use Rattle.h2_numbers.specs.Entries.{IsNextAbove, value_at}
 use Rattle.h2_server.specs.declared.exchange.Exchange.{Exchange}
-use Rattle.h2_server.specs.Activity.{IsAnswering, IsBusy, has_answer_at}
-use Rattle.h2_server.specs.Exchanges.{Handling, IsEmptied, Kept, awake, exchange_at, exchange_kept}
+use Rattle.h2_server.specs.Activity.{IsBusy}
+use Rattle.h2_server.specs.Exchanges.{Handling, IsEmptied, Kept, exchange_at, exchange_kept}
 use Rattle.h2_server.specs.Exchanges.{is_part_due_at}
 use Rattle.h2_server.specs.Sending.{NoneCanAsk, asked_on, windows_allow}
 use Rattle.h2_spec_log.specs.Log.{Log}
@@ -29,83 +29,85 @@ module _ {W : Type 0} where
   busy_next entries (Some id) is =
       let (kept, at) = some_kept (value_at id entries) is.1 in (id, kept, at)
 
-  -- None of those up to this stream has an answer.
-  abbrev pub NoneAnswers : List (ℕ × Exchange W) → ℕ → Type 0
-  NoneAnswers entries above =
-      (i : ℕ) → i ≢ 0 → i ≤ above → has_answer_at (exchange_at i entries) ≡ false
+module _ {W : Type 0} (p : Option (Kept W) → Bool) (nothing : p None ≡ false) where
+  -- None of those up to this stream is so.
+  abbrev pub NoneTo : List (ℕ × Exchange W) → ℕ → Type 0
+  NoneTo entries above = (i : ℕ) → i ≢ 0 → i ≤ above → p (exchange_at i entries) ≡ false
 
-  none_has : (entries : List (ℕ × Exchange W)) (i : ℕ) → value_at i entries ≡ None
-      → has_answer_at (exchange_at i entries) ≡ false
-  none_has entries i none =
-      ap (λ (v : Option (Exchange W)). has_answer_at (option_map exchange_kept v)) none
+  none_here : (entries : List (ℕ × Exchange W)) (i : ℕ) → value_at i entries ≡ None
+      → p (exchange_at i entries) ≡ false
+  none_here entries i none = ap p (none_kept entries i none) ∙ nothing
 
-  pub none_answers_on : (entries : List (ℕ × Exchange W)) (above id : ℕ)
-      → NoneAnswers entries above → IsNextAbove entries above (Some id)
-      → has_answer_at (exchange_at id entries) ≡ false → NoneAnswers entries id
-  none_answers_on entries above id so_far is this i other within =
+  pub none_to_begin : (entries : List (ℕ × Exchange W)) → NoneTo entries 0
+  none_to_begin entries i other within = absurd (omega (arith, other, within))
+
+  pub none_to_on : (entries : List (ℕ × Exchange W)) (above id : ℕ)
+      → NoneTo entries above → IsNextAbove entries above (Some id)
+      → p (exchange_at id entries) ≡ false → NoneTo entries id
+  none_to_on entries above id so_far is this i other within =
       elim (cases_Bool (i == id)) [
-        | inl here ↦
-            ap (λ (n : ℕ). has_answer_at (exchange_at n entries)) (eqb-true i id here) ∙ this
+        | inl here ↦ ap (λ (n : ℕ). p (exchange_at n entries)) (eqb-true i id here) ∙ this
         | inr there ↦ elim (cases_lt above i) [
-          | inl later ↦ none_has entries i (is.2 i later
+          | inl later ↦ none_here entries i (is.2 i later
               (omega (arith, within, eqb-false i id there)))
           | inr before ↦ so_far i other (omega (arith, before))
         ]
       ]
 
-  -- No exchange has.
-  pub none_answers : (entries : List (ℕ × Exchange W)) (above : ℕ) → NoneAnswers entries above
-      → IsNextAbove entries above None → IsAnswering entries false
-  none_answers entries above so_far is id other = elim (cases_lt above id) [
-    | inl later ↦ none_has entries id (is id later)
+  -- No exchange is.
+  pub none_to_all : (entries : List (ℕ × Exchange W)) (above : ℕ) → NoneTo entries above
+      → IsNextAbove entries above None → (id : ℕ) → id ≢ 0 → p (exchange_at id entries) ≡ false
+  none_to_all entries above so_far is id other = elim (cases_lt above id) [
+    | inl later ↦ none_here entries id (is id later)
     | inr before ↦ so_far id other (omega (arith, before))
   ]
 
-  -- What is kept may be asked again,
-  pub awake_at : (id : ℕ) (old new : List (ℕ × Exchange W)) (kept : Kept W)
-      → exchange_at id old ≡ Some kept → exchange_at id new ≡ Some (awake kept)
-      → exchange_at id new ≡ option_map awake (exchange_at id old)
-  awake_at id old new kept was now =
-      now ∙ sym (ap (λ (k : Option (Kept W)). option_map awake k) was)
+module _ {W : Type 0} (f : Kept W → Kept W) where
+  -- What is kept has changed so,
+  pub changed_at : (id : ℕ) (old new : List (ℕ × Exchange W)) (kept : Kept W)
+      → exchange_at id old ≡ Some kept → exchange_at id new ≡ Some (f kept)
+      → exchange_at id new ≡ option_map f (exchange_at id old)
+  changed_at id old new kept was now =
+      now ∙ sym (ap (λ (k : Option (Kept W)). option_map f k) was)
 
-  -- and of nothing there is nothing to ask.
-  pub awake_none : (id : ℕ) (old new : List (ℕ × Exchange W)) → exchange_at id old ≡ None
+  -- and where nothing is there is nothing to change.
+  pub changed_none : (id : ℕ) (old new : List (ℕ × Exchange W)) → exchange_at id old ≡ None
       → exchange_at id new ≡ exchange_at id old
-      → exchange_at id new ≡ option_map awake (exchange_at id old)
-  awake_none id old new none same =
-      same ∙ none ∙ sym (ap (λ (k : Option (Kept W)). option_map awake k) none)
+      → exchange_at id new ≡ option_map f (exchange_at id old)
+  changed_none id old new none same =
+      same ∙ none ∙ sym (ap (λ (k : Option (Kept W)). option_map f k) none)
 
-  -- So far those up to this stream may be asked again, and the others are as they were.
-  pub record WokenTo (start now : List (ℕ × Exchange W)) (above : ℕ) : Type 0 where
-    pub woken : (i : ℕ) → 0 < i → i ≤ above
-        → exchange_at i now ≡ option_map awake (exchange_at i start)
+  -- So far those up to this stream have changed so, and the others are as they were.
+  pub record ChangedTo (start now : List (ℕ × Exchange W)) (above : ℕ) : Type 0 where
+    pub changed : (i : ℕ) → 0 < i → i ≤ above
+        → exchange_at i now ≡ option_map f (exchange_at i start)
     pub others : (i : ℕ) → (i ≡ 0) ⊎ (above < i) → exchange_at i now ≡ exchange_at i start
 
-  pub woken_begin : (start : List (ℕ × Exchange W)) → WokenTo start start 0
-  woken_begin start = record {
-    woken = λ i some none. absurd (omega (arith, some, none));
+  pub changed_begin : (start : List (ℕ × Exchange W)) → ChangedTo start start 0
+  changed_begin start = record {
+    changed = λ i some none. absurd (omega (arith, some, none));
     others = λ i after. refl;
   }
 
   -- One more.
-  pub woken_on : (start now next : List (ℕ × Exchange W)) (above id : ℕ)
-      → WokenTo start now above → IsNextAbove now above (Some id)
-      → exchange_at id next ≡ option_map awake (exchange_at id now)
-      → ((i : ℕ) → i ≢ id → exchange_at i next ≡ exchange_at i now) → WokenTo start next id
-  woken_on start now next above id so_far is at others = record {
-    woken = λ i some within. elim (cases_Bool (i == id)) [
+  pub changed_on : (start now next : List (ℕ × Exchange W)) (above id : ℕ)
+      → ChangedTo start now above → IsNextAbove now above (Some id)
+      → exchange_at id next ≡ option_map f (exchange_at id now)
+      → ((i : ℕ) → i ≢ id → exchange_at i next ≡ exchange_at i now) → ChangedTo start next id
+  changed_on start now next above id so_far is at others = record {
+    changed = λ i some within. elim (cases_Bool (i == id)) [
       | inl here ↦
           ap (λ (n : ℕ). exchange_at n next) (eqb-true i id here) ∙ at
-          ∙ ap (λ (k : Option (Kept W)). option_map awake k) (so_far.others id (inr is.0))
-          ∙ sym (ap (λ (n : ℕ). option_map awake (exchange_at n start)) (eqb-true i id here))
+          ∙ ap (λ (k : Option (Kept W)). option_map f k) (so_far.others id (inr is.0))
+          ∙ sym (ap (λ (n : ℕ). option_map f (exchange_at n start)) (eqb-true i id here))
       | inr there ↦ others i (eqb-false i id there) ∙ elim (cases_lt above i) [
         | inl later ↦
             let none = none_kept now i (is.2 i later
             (omega (arith, within, eqb-false i id there))) in
             none
-            ∙ sym (ap (λ (k : Option (Kept W)). option_map awake k)
+            ∙ sym (ap (λ (k : Option (Kept W)). option_map f k)
             (sym (so_far.others i (inr later)) ∙ none))
-        | inr before ↦ so_far.woken i some (omega (arith, before))
+        | inr before ↦ so_far.changed i some (omega (arith, before))
       ]
     ];
     others = λ i after. elim after [
@@ -118,28 +120,28 @@ module _ {W : Type 0} where
     ];
   }
 
-  -- All may be asked again,
-  pub woken_all : (start now : List (ℕ × Exchange W)) (above : ℕ) → WokenTo start now above
+  -- All have changed so,
+  pub changed_all : (start now : List (ℕ × Exchange W)) (above : ℕ) → ChangedTo start now above
       → IsNextAbove now above None → (i : ℕ) → i ≢ 0
-      → exchange_at i now ≡ option_map awake (exchange_at i start)
-  woken_all start now above so_far is i other = elim (cases_lt above i) [
+      → exchange_at i now ≡ option_map f (exchange_at i start)
+  changed_all start now above so_far is i other = elim (cases_lt above i) [
     | inl later ↦
         let none = none_kept now i (is i later) in
         none
-        ∙ sym (ap (λ (k : Option (Kept W)). option_map awake k)
+        ∙ sym (ap (λ (k : Option (Kept W)). option_map f k)
         (sym (so_far.others i (inr later)) ∙ none))
-    | inr before ↦ so_far.woken i (omega (arith, other)) (omega (arith, before))
+    | inr before ↦ so_far.changed i (omega (arith, other)) (omega (arith, before))
   ]
 
 -- and where nothing was kept, nothing is.
-pub woken_none : {H W : Type 0} (start now : Handling H W) (above : ℕ)
-    → WokenTo start.entries now.entries above → IsNextAbove now.entries above None
+pub changed_emptied : {H W : Type 0} (f : Kept W → Kept W) (start now : Handling H W) (above : ℕ)
+    → ChangedTo f start.entries now.entries above → IsNextAbove now.entries above None
     → IsEmptied start → IsEmptied now
-woken_none {W} start now above so_far is none i = elim (cases_Bool (i == 0)) [
+changed_emptied {W} f start now above so_far is none i = elim (cases_Bool (i == 0)) [
   | inl zero_one ↦ so_far.others i (inl (eqb-true i 0 zero_one)) ∙ none i
   | inr some ↦
-      woken_all start.entries now.entries above so_far is i (eqb-false i 0 some)
-      ∙ ap (λ (k : Option (Kept W)). option_map awake k) (none i)
+      changed_all f start.entries now.entries above so_far is i (eqb-false i 0 some)
+      ∙ ap (λ (k : Option (Kept W)). option_map f k) (none i)
 ]
 
 module _ {W : Type 0} where

@@ -5,6 +5,7 @@ mod ConnectionSteps
 mod CreditReturned
 mod CreditSteps
 mod EndedExchanges
+mod Expired
 mod FailingPhase
 mod GoneOutput
 mod KeptMaps

@@ -38,7 +38,9 @@ use Rattle.h2_server.specs.declared.stop.Stop.TheVariants as stops
 use Rattle.h2_server.specs.declared.watch.Watch.{Watch}
 use Rattle.h2_server.specs.Activity.{IsActivity}
 use Rattle.h2_server.specs.Deadlines.{overdue_of}
-use Rattle.h2_server.specs.Exchanges.{IsEmptied, Relations, awake, exchange_at, handling_of}
+use Rattle.h2_server.specs.Deferring.{ExpiresEach, IsPending, NoneExpires}
+use Rattle.h2_server.specs.Exchanges.{Handling, IsEmptied, Relations, awake, exchange_at}
+use Rattle.h2_server.specs.Exchanges.{handling_of}
 use Rattle.h2_server.specs.Floods.{flood_of}
 use Rattle.h2_server.specs.Phases.{is_phase_down, is_phase_failing, is_phase_open, is_phase_over}
 use Rattle.h2_server.specs.Sending.{HasNothing}
@@ -259,13 +261,14 @@ watch_moved connection =
 abbrev pub since_moved : {H W : Type 0} → Connection H W → (since : ℕ) → ℕ
 since_moved connection since = if has_moved connection then connection.watch.time else since
 
--- All of its output was written, all octets that came were used, and nothing more is noted to be
--- sent.
+-- All of its output was written, all octets that came were used, nothing more is noted to be sent,
+-- and no answer, nor a part of one, is waited for.
 pub record IsAllSent {H W : Type 0} (connection : Connection H W) : Type 0 where
   pub written : octets_queued connection.server.end.conn ≡ []
   pub used : input_kept connection ≡ []
   pub nothing : (values : Values) (log : Log)
       → ConnRepresents values connection.server.end.conn log → HasNothing log connection.exchanges
+  pub answered : IsPending connection.exchanges.kept.entries false
 
 -- Where one that is open is after a call: it ends for what is a flood; and it is closed only where
 -- its client has ended its side, and nothing waits.
@@ -464,6 +467,42 @@ pub record ConnectionLeaves {H W : Type 0} (rel : Relations H W) (old new : Conn
   pub watch : new.watch ≡ old.watch
   pub counted : IsCounted new
 
+-- Its exchanges have changed so, and nothing else of it but what is counted.
+pub record ChangesExchanges {H W : Type 0} (changes : (old new : Handling H W) → Type 0)
+    (old new : Connection H W) : Type 0 where
+  pub so : changes (handling_of old.exchanges) (handling_of new.exchanges)
+  pub rest : new ≡ record old {
+    exchanges = new.exchanges;
+    holds = new.holds;
+    ready = new.ready;
+  }
+  pub told : KeepsTold old new
+  pub counted : IsCounted new
+
+-- The time has passed for each exchange whose answer is waited for. Where one is too late, that is
+-- noted to be sent.
+-- rule: handlers (own) An answer that was deferred for too long is status 504
+pub record Expires {H W : Type 0} (old new : Connection H W) : Type 0 where
+  pub each : ChangesExchanges
+      (λ before after. ExpiresEach old.watch.limits.times.deferred old.watch.time before after)
+      old new
+  pub sends : NoneExpires old.watch.limits.times.deferred old.watch.time
+      old.exchanges.kept.entries ⊎ (new.exchanges.more ≡ true)
+  pub keeps : old.exchanges.more ≡ true → new.exchanges.more ≡ true
+
+-- What the passing of time makes of a connection, and then of its exchanges.
+pub record Ticks {H W : Type 0} (rel : Relations H W) (now : ℕ) (old new : Connection H W) : Type 0
+  where
+    pub mid : Connection H W
+    pub calls : Calls rel (owns.Passed now) [] old mid
+    pub expires : Expires mid new
+
+-- A call that a host asks for was made.
+abbrev pub CallsThen : {H W : Type 0} → Relations H W → Own → (octets : List ℕ)
+    → (old new : Connection H W) → Type 0
+CallsThen rel (owns.Passed now) octets old new = Ticks rel now old new
+CallsThen rel own octets old new = Calls rel own octets old new
+
 -- the answer of a connection to its host
 abbrev pub answer_in : Phase → Answer
 answer_in phase = if is_phase_over phase then answers.Over else answers.Goes
@@ -471,7 +510,7 @@ answer_in phase = if is_phase_over phase then answers.Over else answers.Goes
 -- A step of a host: such a call was made, and this is its answer.
 pub record ConnectionSteps {H W : Type 0} (rel : Relations H W) (old : Connection H W) (own : Own)
     (octets : List ℕ) (answer : Answer) (new : Connection H W) : Type 0 where
-  pub calls : Calls rel own (octets_with own octets) old new
+  pub calls : CallsThen rel own (octets_with own octets) old new
   pub answers : answer ≡ answer_in new.phase
 
 -- Whether it is open, octets of bodies have come, and a request is incomplete.

@@ -13,14 +13,15 @@ abbrev pub Relations : (H W : Type 0) → Type 1
 Relations H W = Ghosts H W
 
 -- what is kept of an exchange, without what is counted of it: what its handler keeps; whether its
--- request is whole, has the method HEAD, and was refused, so that its rest is not wanted; and how
--- far its answer is
+-- request is whole, has the method HEAD, and was refused, so that its rest is not wanted; how far
+-- its answer is; and since when that has been deferred
 pub record Kept (W : Type 0) : Type 0 where
   pub work : Option W
   pub whole : Bool
   pub to_head : Bool
   pub refused : Bool
   pub stage : Stage
+  pub since : Option ℕ
 
 abbrev pub exchange_kept : {W : Type 0} → Exchange W → Kept W
 exchange_kept exchange = record {
@@ -29,6 +30,7 @@ exchange_kept exchange = record {
   to_head = exchange.to_head;
   refused = exchange.refused;
   stage = exchange.stage;
+  since = exchange.since;
 }
 
 -- what is kept of one whose handler may be asked again

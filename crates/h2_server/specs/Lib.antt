@@ -3,6 +3,7 @@ pub mod Buffering
 pub mod Connections
 pub mod Credit
 pub mod Deadlines
+pub mod Deferring
 pub mod Exchanges
 pub mod Floods
 pub mod Giving

@@ -47,6 +47,7 @@ stage_once first stage = second_answer stage
 -- rule: handlers (own) A fault of a handler is a 500 before its answer, and a reset in it
 abbrev pub stage_after : (whole : Bool) → Stage → Result Reply HandlerFault → Stage
 stage_after whole stage (Ok replies.Later) = stage_once_later whole stage
+stage_after whole stage (Ok replies.Deferred) = stage
 stage_after whole stage (Ok (replies.Reset code)) = stage_reset stage code
 stage_after whole stage (Ok (replies.Whole message)) = stage_once (stages.Answers message) stage
 stage_after whole stage (Ok (replies.Refuse message)) = stage_once (stages.Answers message) stage
@@ -64,6 +65,11 @@ refused_after refused stage reply = refused
 abbrev pub stage_awake : Stage → Stage
 stage_awake (stages.Parts later) = stages.Parts false
 stage_awake stage = stage
+
+-- Whether its handler had no part of it when it was asked.
+abbrev pub is_part_later : Stage → Bool
+is_part_later (stages.Parts later) = later
+is_part_later stage = false
 
 -- Whether a part of it is due: its handler gives it in parts, and may be asked for one.
 abbrev pub is_part_due : Stage → Bool

@@ -30,6 +30,7 @@ kept_new whole to_head = record {
   to_head = to_head;
   refused = false;
   stage = stages.Asked;
+  since = None;
 }
 
 -- the same after this answer to the head
@@ -44,13 +45,13 @@ kept_begun kept (Err fault) = record kept { stage = stage_after kept.whole kept.
 -- The head of a request was told to the handler; or it wasn't, since the authority names a user,
 -- and status 400 is to be the answer.
 -- rule: handlers (own) An authority that names a user is a 400 of which no handler is told
-abbrev pub ToldHead : {H W : Type 0} → Relations H W → List Field → (ends : Bool)
+abbrev pub ToldHead : {H W : Type 0} → Relations H W → ℕ → List Field → (ends : Bool)
     → (old new : H) → (kept next : Kept W) → Type 0
-ToldHead {H} {W} rel list ends old new kept next =
+ToldHead {H} {W} rel id list ends old new kept next =
     ((authority_names_user list ≡ true) × (new ≡ old)
     × (next ≡ record kept { stage = stages.Fails bad_request }))
     ⊎ ((authority_names_user list ≡ false) × ((answer : Result (W × Reply) HandlerFault)
-    × rel.heads old list ends answer new × (next ≡ kept_begun kept answer)))
+    × rel.heads old id list ends answer new × (next ≡ kept_begun kept answer)))
 
 -- what is kept after more of its request was told: with this work, and after this answer
 abbrev pub kept_more : {W : Type 0} → Kept W → (ends : Bool) → (work : W)
@@ -61,6 +62,7 @@ kept_more kept ends work reply = record {
   to_head = kept.to_head;
   refused = refused_after kept.refused kept.stage reply;
   stage = stage_after (ends || kept.whole) kept.stage reply;
+  since = kept.since;
 }
 
 -- the same where the handler wasn't told
@@ -149,7 +151,7 @@ pub record BeginsOne {H W : Type 0} (rel : Relations H W) (id : ℕ) (list : Lis
     (ends : Bool) (old new : Handling H W) : Type 0 where
   pub next : Kept W
   pub none : exchange_at id old.entries ≡ None
-  pub told_so : ToldHead rel list ends old.handler new.handler
+  pub told_so : ToldHead rel id list ends old.handler new.handler
       (kept_new ends (asks_head list)) next
   pub now : SetsKept id (Some next) old.entries new.entries
 

@@ -1,14 +1,17 @@
 //! The calls of a connection.
 
-ghost use Rattle.std.specs.Prelude.{◌≡◌, [], length, true};
+ghost use Rattle.std.specs.Prelude.{◌≡◌, [], OnErr, OnOk, length, true};
 ghost use Rattle.h2_host.specs.declared.party.Own.TheVariants as owns;
 ghost use Rattle.h2_server.specs.Connections.{Calls, ConnectionLeaves, ConnectionWidens};
-ghost use Rattle.h2_server.specs.Connections.{IsCounted};
+ghost use Rattle.h2_server.specs.Connections.{ChangesExchanges, Expires, IsCounted, Ticks};
+ghost use Rattle.h2_server.specs.Deferring.{ResetsBy, RespondsBy};
 ghost use Rattle.h2_server.specs.Phases.{is_phase_over};
 
 use crate::connection::Connection;
-use crate::handler::Handler;
+use crate::deferring::ExchangeRefusal;
+use crate::handler::{Handler, Reply};
 use crate::reason::CloseReason;
+use h2_ends::Code;
 use h2_host::Bound;
 
 impl<H: Handler> Connection<H> {
@@ -29,8 +32,8 @@ impl<H: Handler> Connection<H> {
     /// [`MOST_TAKEN`](h2_host::MOST_TAKEN) (16,384), the transport is taken to have no more for
     /// now. A call takes at most 16 parts of requests (passed to the handler or dropped): one if
     /// more than a tenth of a flood budget is spent, none while 65,536 octets of output or more
-    /// wait or earlier input is still kept. Octets that it does not take are kept for the next turns.
-    /// A connection that is down drops all octets.
+    /// wait or earlier input is still kept. Octets that it does not take are kept for the next
+    /// turns. A connection that is down drops all octets.
     pub fn receive(&mut self, octets: &[u8])
         ensures { Calls H.Handler owns.Came octets.now self.old self.new }
     {
@@ -47,7 +50,10 @@ impl<H: Handler> Connection<H> {
     }
 
     /// Says that the client has ended its side. An open connection is closed once everything that
-    /// can be sent has been sent.
+    /// can be sent has been sent, and no response or part of one is still to be given: a deferred
+    /// response, and a part for which the handler returned [`Part::Later`](crate::Part::Later), are
+    /// waited for. A client that is gone may look the same: if you know better, call
+    /// [`Connection::lose`].
     pub fn receive_end(&mut self)
         ensures { Calls H.Handler owns.Ended [] self.old self.new }
     {
@@ -102,12 +108,72 @@ impl<H: Handler> Connection<H> {
     /// the last one. What has taken too long ends an open connection ([`CloseReason::Late`]); a
     /// closing one is closed once [`closing`](crate::ConnectionLimits::closing) has passed, and
     /// keeps its reason. From the next turn on, the handler is asked again for the parts for which
-    /// it returned [`Part::Later`](crate::Part::Later).
+    /// it returned [`Part::Later`](crate::Part::Later). A deferred response that was not given in
+    /// time ([`TimeLimits::deferred`](crate::TimeLimits::deferred)) is replaced by status 504.
     pub fn tick(&mut self, now: u64)
-        ensures { Calls H.Handler (owns.Passed now) [] self.old self.new }
+        ensures { Ticks H.Handler now self.old self.new }
     {
         self.pass(now);
         self.note();
+        self.expire();
+    }
+
+    /// Replaces the deferred responses that were not given in time.
+    fn expire(&mut self)
+        ensures { Expires self.old self.new }
+    {
+        let limit = self.watch.limits.times.deferred;
+        self.exchanges.expire(limit, self.watch.time);
+        self.count();
+    }
+
+    // contract: handlers (own) An answer that was deferred is given by a call, once
+    /// Gives the response of the exchange on stream `id`, which has none yet (its handler returned
+    /// [`Reply::Deferred`], or its request is incomplete), as if its handler had returned `reply`.
+    /// It is queued in the next turn, for which the connection is ready unless 65,536 octets of
+    /// output or more wait. A body in parts ([`Reply::Parts`]) is asked of the handler. If the
+    /// handler gives a response too, that is a second one.
+    ///
+    /// # Errors
+    ///
+    /// A refused call drops `reply`, and changes nothing.
+    ///
+    /// - [`ExchangeRefusal::NoResponse`] for [`Reply::Later`] and [`Reply::Deferred`].
+    /// - [`ExchangeRefusal::Over`] if there is no exchange on this stream: it never began, its
+    ///   response was sent and its request was complete, its stream was reset, or the connection
+    ///   has failed or is closed.
+    /// - [`ExchangeRefusal::Answered`] if it has a response, or if a status (such as 504, because
+    ///   the response comes too late) or a reset is about to be sent in its place.
+    pub fn respond(&mut self, id: u32, reply: Reply) -> Result<(), ExchangeRefusal>
+        ensures responds { ChangesExchanges (λ old new. RespondsBy id reply old result new)
+            self.old self.new }
+        ensures turn { OnOk result (self.new.exchanges.more ≡ true) }
+        ensures refused { OnErr result (self.new.exchanges ≡ self.old.exchanges) }
+    {
+        let responded = self.exchanges.respond(id, reply);
+        self.count();
+        responded
+    }
+
+    // contract: handlers (own) An answer that was deferred is given by a call, once
+    /// Resets stream `id` with this code in the next turn, for which the connection is ready unless
+    /// 65,536 octets of output or more wait, whether or not its exchange has a response. What waits
+    /// of a response is dropped; of two resets in one turn the later one is sent. After 1,000
+    /// resets on the connection, the connection is ended instead; but with NO_ERROR nothing happens
+    /// then, and no more of the response is sent.
+    ///
+    /// # Errors
+    ///
+    /// [`ExchangeRefusal::Over`] if there is no exchange on this stream. Nothing has changed then.
+    pub fn reset(&mut self, id: u32, code: Code) -> Result<(), ExchangeRefusal>
+        ensures resets { ChangesExchanges (λ old new. ResetsBy id code old result new)
+            self.old self.new }
+        ensures turn { OnOk result (self.new.exchanges.more ≡ true) }
+        ensures refused { OnErr result (self.new.exchanges ≡ self.old.exchanges) }
+    {
+        let reset = self.exchanges.reset(id, code);
+        self.count();
+        reset
     }
 
     // contract: hosts (own) A connection that is refused is over and holds none

@@ -116,7 +116,7 @@ impl<S: Service> Handler for Buffered<S> {
     /// `None` once the request was refused, or an error was returned for it.
     type Work = Option<BufferedRequest>;
 
-    ghost heads = { λ old list end result new. GathersHead S.responds old list end result new };
+    ghost heads = { λ old id list end result new. GathersHead S.responds old list end result new };
 
     ghost bodies = { λ old work octets end result next new.
         GathersBody S.responds old work octets end result next new };
@@ -132,6 +132,7 @@ impl<S: Service> Handler for Buffered<S> {
     fn head(
         &mut self,
         alloc: Global,
+        _id: u32,
         list: &FieldList,
         end: bool,
     ) -> Result<(Option<BufferedRequest>, Reply), HandlerFault> {

@@ -96,14 +96,22 @@ impl Timer {
     }
 
     /// Whether it has run for `limit` milliseconds or more; 0 is no limit.
-    #[tactic(auto, unfolding(crate::specs::Deadlines::is_late))]
     fn is_late(self, limit: u64, now: u64) -> bool
         ensures { result ≡ is_late self.at limit now }
     {
-        match self.at {
-            Some(at) => limit > 0 && now.saturating_sub(at) >= limit,
-            None => false,
-        }
+        is_late(self.at, limit, now)
+    }
+}
+
+/// Whether `limit` milliseconds or more have passed since this time, if there is one; 0 is no
+/// limit.
+#[tactic(auto, unfolding(crate::specs::Deadlines::is_late))]
+pub(crate) fn is_late(since: Option<u64>, limit: u64, now: u64) -> bool
+    ensures { result ≡ is_late since limit now }
+{
+    match since {
+        Some(at) => limit > 0 && now.saturating_sub(at) >= limit,
+        None => false,
     }
 }
 

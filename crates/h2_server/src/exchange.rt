@@ -1,11 +1,15 @@
 //! The state of one exchange, a request and its response.
 
 ghost use Rattle.std.specs.Prelude.{◌≡◌};
+ghost use Rattle.h2_server.specs.Activity.{has_answer};
+ghost use Rattle.h2_server.specs.Deferring.{is_deferred, is_expired, is_pending, kept_in_time};
+ghost use Rattle.h2_server.specs.Deferring.{kept_reset};
 ghost use Rattle.h2_server.specs.Exchanges.{awake, exchange_kept};
 ghost use Rattle.h2_server.specs.Stages.{second_answer, stage_after, stage_once_later};
 ghost use Rattle.h2_server.specs.Stages.{refused_after, stage_of_fault, stage_reset};
 ghost use Rattle.h2_server.specs.Telling.{kept_new};
 
+use crate::deadlines::is_late;
 use crate::handler::{HandlerFault, Reply, ResponseFault};
 use h2_ends::{Code, Field, Message};
 use std::mem;
@@ -15,6 +19,10 @@ pub(crate) const BAD_REQUEST: u16 = 400;
 
 /// The status of the response to a request at which the handler has failed.
 pub(crate) const SERVER_ERROR: u16 = 500;
+
+/// The status of the response to a request whose response was deferred for too long (RFC 9110,
+/// section 15.6.5).
+const GATEWAY_TIMEOUT: u16 = 504;
 
 /// How far the response of an exchange is.
 #[derive(Debug, Drop)]
@@ -67,6 +75,8 @@ pub(crate) struct Exchange<W> {
     pub(crate) held: usize,
     /// The octets of the request's body that the handler has not used.
     pub(crate) unused: u32,
+    /// The time, in milliseconds, at which it was first noted that its response is deferred.
+    pub(crate) since: Option<u64>,
 }
 
 impl<W> Exchange<W> {
@@ -83,7 +93,64 @@ impl<W> Exchange<W> {
             given: 0,
             held: 0,
             unused: 0,
+            since: None,
         }
+    }
+
+    /// Whether a response was given.
+    pub(crate) fn has_response(&self) -> bool
+        ensures { result ≡ has_answer self.now.stage }
+    {
+        !matches!(&self.stage, Stage::Asked)
+    }
+
+    /// Whether the request is complete, and its response is still to be given.
+    pub(crate) fn is_deferred(&self) -> bool
+        ensures { result ≡ is_deferred (exchange_kept self.now) }
+    {
+        self.whole && !self.has_response()
+    }
+
+    /// Whether its response is deferred, or a part of it for which the handler returned
+    /// [`Part::Later`](crate::Part::Later).
+    pub(crate) fn is_pending(&self) -> bool
+        ensures { result ≡ is_pending (exchange_kept self.now) }
+    {
+        self.is_deferred() || matches!(&self.stage, Stage::Parts { later: true })
+    }
+
+    // rule: handlers (own) An answer that was deferred for too long is status 504
+    /// Notes that it is `now`: a deferred response that has been waited for `limit` milliseconds or
+    /// more (0 is no limit) is replaced by status 504. Returns whether it was.
+    pub(crate) fn expire(&mut self, limit: u64, now: u64) -> bool
+        ensures kept { exchange_kept self.new ≡ kept_in_time limit now (exchange_kept self.old) }
+        ensures expired { result ≡ is_expired limit now (exchange_kept self.old) }
+        ensures unused { self.new.unused ≡ self.old.unused }
+    {
+        if !self.is_deferred() {
+            return false;
+        }
+        if self.since.is_none() {
+            self.since = Some(now);
+            return false;
+        }
+        if !is_late(self.since, limit, now) {
+            return false;
+        }
+        self.stage = Stage::Fails {
+            status: GATEWAY_TIMEOUT,
+        };
+        true
+    }
+
+    /// Lets a reset with this code wait, unless the stream was reset already.
+    pub(crate) fn reset(&mut self, code: Code)
+        ensures kept { exchange_kept self.new ≡ kept_reset (exchange_kept self.old) code }
+        ensures unused { self.new.unused ≡ self.old.unused }
+    {
+        let stage = mem::replace(&mut self.stage, Stage::Given);
+        self.stage = reset(stage, code);
+        self.given = 0;
     }
 
     /// Lets a handler that had no part be asked again.
@@ -102,7 +169,7 @@ impl<W> Exchange<W> {
         match reply {
             Err(fault) => Some(ResponseFault::Handler(*fault)),
             Ok(Reply::Later) if is_asked && self.whole => Some(ResponseFault::NoResponse),
-            Ok(Reply::Later | Reply::Reset(_)) => None,
+            Ok(Reply::Later | Reply::Deferred | Reply::Reset(_)) => None,
             Ok(_) if is_asked || is_over => None,
             Ok(_) => Some(ResponseFault::SecondResponse),
         }
@@ -131,6 +198,7 @@ pub(crate) fn stage_after(whole: bool, stage: Stage, reply: Result<Reply, Handle
 {
     match reply {
         Ok(Reply::Later) => later(whole, stage),
+        Ok(Reply::Deferred) => stage,
         Ok(Reply::Reset(code)) => reset(stage, code),
         Ok(Reply::Whole(message) | Reply::Refuse(message)) => match stage {
             Stage::Asked => Stage::Answers(message),

@@ -255,7 +255,7 @@ impl<H: Handler> Exchanges<H> {
 
 impl Totals {
     /// Recounts what the handler holds of an exchange and has not used.
-    fn count<H: Handler>(&mut self, handler: &H, exchange: &mut Exchange<H::Work>)
+    pub(crate) fn count<H: Handler>(&mut self, handler: &H, exchange: &mut Exchange<H::Work>)
         ensures { exchange_kept exchange.new ≡ exchange_kept exchange.old }
     {
         let (held, unused) = match &exchange.work {

@@ -55,9 +55,16 @@ impl From<io::Error> for HandlerFault {
 /// The reply of a handler to a part of a request.
 #[derive(Debug, Drop)]
 pub enum Reply {
-    /// Nothing now: the response comes later, or was given before. If the request is complete and
-    /// no response was given, status 500 is sent.
+    /// Nothing now: the response comes with a later call of the handler, or was given before. If
+    /// the request is complete and no response was given, status 500 is sent.
     Later,
+    /// Nothing now, even if the request is complete: whoever drives the connection gives the
+    /// response, by [`Connection::respond`](crate::Connection::respond). Until then return it for
+    /// each part of the request. Once a response was given, it is the same as [`Reply::Later`]. If
+    /// no response is given in time ([`TimeLimits::deferred`](crate::TimeLimits::deferred)), status
+    /// 504 is sent. `serve_handler` has no such call: there the exchange stays open until the
+    /// client resets its stream or ends its side of the connection.
+    Deferred,
     /// The complete response. A body to HEAD is not sent.
     Whole(Message),
     /// The complete response, such as status 413, to a request whose rest is not wanted. The
@@ -94,6 +101,9 @@ pub enum ResponseFault {
     /// The request is complete, and no response was given.
     #[error("no response was given")]
     NoResponse,
+    /// The response was deferred ([`Reply::Deferred`]), and was not given in time.
+    #[error("no response was given in time")]
+    TooLate,
 }
 
 /// The next part of a response.
@@ -108,9 +118,8 @@ pub enum Part {
     Trailers(Vec<Field>),
     /// Nothing now. `serve_handler` asks again after its next read; a `Connection` after
     /// `set_ready` and `tick`, so a host when the socket becomes readable or writable, and ten
-    /// times a second. If the client has shut down its side of the connection, a host closes the
-    /// connection once nothing else can be sent, and `serve_handler` returns `LinkError::CutOff`
-    /// (N4).
+    /// times a second, also if the client has shut down its side of the connection. (Then
+    /// `serve_handler` returns `LinkError::CutOff`, N4.)
     Later,
 }
 
@@ -144,8 +153,8 @@ pub trait Handler: Drop {
     type Work: Drop;
 
     /// Relates the head of a request to the results of [`Handler::head`].
-    ghost heads: { Self → (head : List Field) → (end : Bool)
-        → Result (Self.Work × Reply) HandlerFault → Self → Type 0 } = { λ _ _ _ _ _. ⊤ };
+    ghost heads: { Self → (id : ℕ) → (head : List Field) → (end : Bool)
+        → Result (Self.Work × Reply) HandlerFault → Self → Type 0 } = { λ _ _ _ _ _ _. ⊤ };
 
     /// Relates octets of a body to the results of [`Handler::body`].
     ghost bodies: { Self → Self.Work → (octets : List ℕ) → (end : Bool)
@@ -162,9 +171,9 @@ pub trait Handler: Drop {
     /// Relates the end of an exchange to the state after [`Handler::over`].
     ghost ends: { Self → Self.Work → Cause → Self → Type 0 } = { λ _ _ _ _. ⊤ };
 
-    /// Called with the head of a request, unless its `:authority` names a user (userinfo; RFC
-    /// 9113, section 8.3.1): then the response is status 400. `end` says whether the request is
-    /// complete.
+    /// Called with the head of a request on stream `id`, unless its `:authority` names a user
+    /// (userinfo; RFC 9113, section 8.3.1): then the response is status 400. `end` says whether the
+    /// request is complete. By its stream a deferred response is given later.
     ///
     /// # Errors
     ///
@@ -172,10 +181,11 @@ pub trait Handler: Drop {
     fn head(
         &mut self,
         alloc: Global,
+        id: u32,
         list: &FieldList,
         end: bool,
     ) -> Result<(Self::Work, Reply), HandlerFault>
-        ensures { heads self.old list.now end result self.new };
+        ensures { heads self.old id list.now end result self.new };
 
     /// Called with octets of a request's body, possibly none. `end` says whether the request is
     /// complete. If you have given a response already, return [`Reply::Later`]. A second response
@@ -240,9 +250,10 @@ pub trait Handler: Drop {
     /// cannot be sent: by default it does nothing. In place of a response that breaks a rule of
     /// messages, or whose fields are too large, the client gets status 500, or, once a head was
     /// sent, a reset with INTERNAL_ERROR. A complete request without a response is answered with
-    /// status 500. A second response, given before all of the first was passed to the connection,
-    /// resets the stream with INTERNAL_ERROR, whether or not the request is complete.
-    /// [`HandlerFault`] says what the client gets after an error of the handler.
+    /// status 500, and one whose response was deferred for too long with status 504. A second
+    /// response, given before all of the first was passed to the connection, resets the stream with
+    /// INTERNAL_ERROR, whether or not the request is complete. [`HandlerFault`] says what the
+    /// client gets after an error of the handler.
     fn fault(&self, _id: u32, _fault: ResponseFault) {}
 
     /// Called once for each `work` that [`Handler::head`] has returned, when its exchange is over.

@@ -17,6 +17,9 @@
 //!   written, or [`Connection::written_none`] if none could be;
 //! - [`Connection::tick`] with the time, several times a second, and [`Connection::lose`] once the
 //!   transport has failed;
+//! - [`Connection::respond`] with a response that its handler has deferred, once it is known,
+//!   [`Connection::reset`] to give up an exchange, and [`Connection::leave`] to end in order; each
+//!   of these is followed by a turn, if the connection wants one;
 //!
 //! until [`Connection::is_over`] is true. Then the loop writes the output once more, and closes
 //! the transport.
@@ -26,6 +29,7 @@ mod acting;
 mod buffered;
 mod connection;
 mod deadlines;
+mod deferring;
 mod ending;
 mod exchange;
 mod exchanges;
@@ -49,6 +53,7 @@ mod watching;
 pub use buffered::{Buffered, BufferedRequest, Echo, Request, Service};
 pub use connection::Connection;
 pub use deadlines::{Activity, Deadlines, Timeout};
+pub use deferring::ExchangeRefusal;
 pub use exchanges::Exchanges;
 pub use floods::{Flood, FloodBudget, FloodCounts};
 pub use h2_ends::{Code, Config, Conn, Field, FieldList, Message};

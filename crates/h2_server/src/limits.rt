@@ -1,6 +1,7 @@
 //! The limits of one connection, each with its reason.
 
-/// Time limits of an open connection, in milliseconds; 0 is no limit.
+/// Time limits of an open connection, in milliseconds; 0 is no limit. That of deferred responses
+/// holds also while the connection is closing.
 #[derive(Clone, Copy, Debug, PartialEq, Eq)]
 pub struct TimeLimits {
     /// For the preface and the first frame. The default, 10 seconds, is ten round trips of one
@@ -20,6 +21,10 @@ pub struct TimeLimits {
     pub answering: u64,
     /// For the next request, while no exchange is open.
     pub idle: u64,
+    /// For a response that was deferred ([`Reply::Deferred`](crate::Reply::Deferred)), from the
+    /// first tick after its request was complete. Then the client gets status 504, and the
+    /// connection goes on.
+    pub deferred: u64,
 }
 
 /// Flood limits: what a client may send, or make the server send, within a period.
@@ -33,8 +38,8 @@ pub struct FloodLimits {
     /// Empty frames without effect. A good client sends hardly any.
     pub empty: u32,
     /// Streams that the server resets for a fault of the client: malformed requests, other stream
-    /// errors, and streams above a limit. Resets by a handler don't count. A good client causes
-    /// none.
+    /// errors, and streams above a limit. Resets by a handler or a call don't count. A good client
+    /// causes none.
     pub refused: u32,
     /// Octets of replies to PING and SETTINGS, 17 and 9 each.
     pub replies: u64,
@@ -42,7 +47,7 @@ pub struct FloodLimits {
 
 impl Default for TimeLimits {
     /// 10 seconds to open, 30 for a frame and for 1,024 octets of bodies, 60 for the next octet
-    /// sent, and 75 without a request.
+    /// sent and for a deferred response, and 75 without a request.
     fn default() -> TimeLimits {
         TimeLimits {
             opening: 10_000,
@@ -52,6 +57,7 @@ impl Default for TimeLimits {
             writing: 60_000,
             answering: 60_000,
             idle: 75_000,
+            deferred: 60_000,
         }
     }
 }

@@ -48,12 +48,12 @@ impl<H: Handler> Connection<H> {
     ghost use Rattle.std.specs.Prelude.{◌≡◌, length, true};
     ghost use Rattle.h2_host.specs.Parties.{IsRefusal};
     ghost use Rattle.h2_host.specs.declared.party.Own.TheVariants as owns;
-    ghost use Rattle.h2_server.specs.Connections.{Calls, octets_with};
+    ghost use Rattle.h2_server.specs.Connections.{CallsThen, octets_with};
     ghost use Rattle.h2_server.specs.Phases.{is_phase_over};
 
     /// Makes the call that a host asks for.
     fn act(&mut self, own: Own, octets: &[u8], room: &mut [u8])
-        ensures calls { Calls H.Handler own (octets_with own octets.now) self.old self.new }
+        ensures calls { CallsThen H.Handler own (octets_with own octets.now) self.old self.new }
         ensures refused { IsRefusal own → is_phase_over self.new.phase ≡ true }
         ensures lost { own ≡ owns.Lost → is_phase_over self.new.phase ≡ true }
         ensures room { length room.new ≡ length room.old }

@@ -390,7 +390,7 @@ impl<H: Handler> Exchanges<H> {
         ensures { result ≡ has_answer_at (exchange_at id self.now.kept.entries) }
     {
         match self.kept.get(id) {
-            Some(exchange) => !matches!(&exchange.stage, Stage::Asked),
+            Some(exchange) => exchange.has_response(),
             None => false,
         }
     }

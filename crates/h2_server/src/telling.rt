@@ -34,7 +34,7 @@ pub(crate) fn tell_head<H: Handler>(
     list: &FieldList,
     end: bool,
 )
-    ensures { ToldHead H.Handler list.now end handler.old handler.new
+    ensures { ToldHead H.Handler id list.now end handler.old handler.new
         (exchange_kept exchange.old) (exchange_kept exchange.new) }
 {
     if authority_names_user(list) {
@@ -43,7 +43,7 @@ pub(crate) fn tell_head<H: Handler>(
         };
         return;
     }
-    match handler.head(alloc, list, end) {
+    match handler.head(alloc, id, list, end) {
         Ok((work, reply)) => {
             exchange.work = Some(work);
             take_reply(handler, id, exchange, Ok(reply));
@@ -53,7 +53,7 @@ pub(crate) fn tell_head<H: Handler>(
 }
 
 /// Stores a reply of the handler, and tells the handler what is wrong with it.
-fn take_reply<H: Handler>(
+pub(crate) fn take_reply<H: Handler>(
     handler: &H,
     id: u32,
     exchange: &mut Exchange<H::Work>,

@@ -241,12 +241,13 @@ impl<H: Handler> Connection<H> {
         self.watch.time
     }
 
-    /// Whether no output waits, no input was kept, and nothing more can be sent.
+    /// Whether no output waits, no input was kept, nothing more can be sent, and neither a response
+    /// nor a part of one is still to be given.
     fn is_sent(&self) -> bool
         ensures { result ≡ true → IsAllSent self.now }
     {
         let waits = self.wants_write() || !self.kept.is_empty();
-        !waits && !self.exchanges.may_send(&self.server)
+        !waits && !self.exchanges.may_send(&self.server) && !self.exchanges.is_pending()
     }
 
     // rule: hosts (own) What a connection holds is its output, input, requests and answers

@@ -41,7 +41,7 @@ pub fn ask<W: Drop, H: Handler<Work = W>>(
     list: &FieldList,
     room: &mut [u8],
 ) -> Option<Answer> {
-    let (mut work, reply) = handler.head(alloc, list, true).ok()?;
+    let (mut work, reply) = handler.head(alloc, 1, list, true).ok()?;
     let answer = match reply {
         Reply::Whole(message) | Reply::Refuse(message) => Answer {
             status: status_of(alloc, &message.head)?,

@@ -25,6 +25,7 @@ impl<'a> Handler for Faulty<'a> {
     fn head(
         &mut self,
         alloc: Global,
+        _id: u32,
         list: &FieldList,
         _end: bool,
     ) -> Result<((), Reply), HandlerFault> {

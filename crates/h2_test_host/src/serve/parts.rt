@@ -21,6 +21,7 @@ impl<'a> Handler for Counting<'a> {
     fn head(
         &mut self,
         alloc: Global,
+        _id: u32,
         _list: &FieldList,
         _end: bool,
     ) -> Result<(u32, Reply), HandlerFault> {

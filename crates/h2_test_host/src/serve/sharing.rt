@@ -21,6 +21,7 @@ impl Handler for Sharing {
     fn head(
         &mut self,
         alloc: Global,
+        _id: u32,
         list: &FieldList,
         _end: bool,
     ) -> Result<(usize, Reply), HandlerFault> {

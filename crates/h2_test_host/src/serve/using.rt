@@ -25,6 +25,7 @@ impl Handler for Using {
     fn head(
         &mut self,
         alloc: Global,
+        _id: u32,
         _list: &FieldList,
         end: bool,
     ) -> Result<(Came, Reply), HandlerFault> {
