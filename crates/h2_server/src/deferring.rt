@@ -17,7 +17,7 @@ use thiserror::Error;
 /// Why a call for an exchange was refused. A refused call changes nothing.
 #[derive(Clone, Copy, Debug, PartialEq, Eq, Hash, Error)]
 pub enum ExchangeRefusal {
-    /// The reply is none that gives a response: [`Reply::Later`] or [`Reply::Deferred`].
+    /// The reply gives no response: it is [`Reply::Later`] or [`Reply::Deferred`].
     #[error("the reply gives no response")]
     NoResponse,
     /// There is no exchange on the stream: it is over, or it never began.

@@ -173,7 +173,7 @@ pub trait Handler: Drop {
 
     /// Called with the head of a request on stream `id`, unless its `:authority` names a user
     /// (userinfo; RFC 9113, section 8.3.1): then the response is status 400. `end` says whether the
-    /// request is complete. By its stream a deferred response is given later.
+    /// request is complete. A deferred response is given later for this stream.
     ///
     /// # Errors
     ///
