@@ -1,111 +1,54 @@
--- What is kept of streams, and the first that is kept of one.
-use Rattle.std.proofs.Common.{◌≡◌, ◌≢◌, ℕ, ◌==◌, ◌+◌, ◌++◌, ◌∷◌, Bool, true, false, cond, not}
-use Rattle.std.proofs.Common.{List, [], Some, None, refl, sym, ap, ◌∙◌, arith, take, drop, subst}
-use Rattle.std.proofs.Common.{append-nil, append_assoc, slice_index_or, suc, inl, inr}
-use Rattle.std.proofs.lemmas.Bool.{cases_eq, ne_eqb}
-use Rattle.std.proofs.lemmas.List.{take_all}
-use Rattle.std.proofs.lemmas.List.Sums.{passes_at_first, split_at_first, take_while-cons}
-use Rattle.std.specs.List.{position_or_len, position, take_while, remove}
+-- What is kept of streams once more was kept or one was taken.
+use Rattle.std.proofs.Common.{◌≡◌, ◌≢◌, ℕ, ◌==◌, ◌++◌, ◌∷◌, List, [], Some, refl, sym, ap, ◌∙◌}
+use Rattle.std.proofs.Common.{append-nil, append_assoc, inl, inr, if◌then◌else◌}
+use Rattle.std.proofs.lemmas.Bool.{cases_eq, eq-eqb, ne_eqb}
+use Rattle.std.proofs.lemmas.List.Elements.{Contains-append_cases, Contains-append_right}
+use Rattle.std.specs.List.{Contains}
 use Rattle.std.specs.Prelude.{◌⊎◌}
-use borrow.Author.Tests.{ltb-true, ltb-false, eqb-true}
-use Rattle.h2_fetch.specs.Kept.{TakesFirstKept, came_on, is_of}
-use Rattle.h2_fetch.specs.Several.{AnsweredOn, OnStream, answered_next, kept_on}
-use Rattle.h2_fetch.specs.declared.several.Came.{Came}
+use Rattle.h2_laws_pair.proofs.FaultsInvariant.{first_in}
+use Rattle.h2_laws_pair.proofs.Lists.{none_in, one_in}
+use Rattle.h2_fetch.specs.Kept.{KeepsAll, KeepsAlso, TakesKept}
+use Rattle.h2_fetch.specs.Several.{AnsweredOn, DropOn, OnStream, answered_next, came_as, kept_on}
+use Rattle.h2_fetch.specs.declared.connection.Came.{Came}
+use Rattle.h2_fetch.specs.declared.connection.Came.TheVariants.{Dropped, Part}
+use Rattle.h2_fetch.specs.declared.kept.Queue.{Queue}
 
--- Nothing of a stream comes before the first that is kept of it.
-none_by : (id stream : ℕ) (came : Came) (kept : List (ℕ × Came)) (b : Bool) → (stream == id) ≡ b
-    → kept_on id kept ≡ [] → kept_on id (cond (not b) ((stream, came) ∷ kept) []) ≡ []
-unfolding kept_on
-none_by id stream came kept true is none = refl
-none_by id stream came kept false is none = rw is none
+-- what is kept of each stream
+abbrev pub Queues : Type 0
+Queues = List (ℕ × Queue)
 
-none_before : (id : ℕ) (kept : List (ℕ × Came))
-    → kept_on id (take_while (λ one. not (is_of id one)) kept) ≡ []
-unfolding kept_on
-none_before id [] = refl
-none_before id (one ∷ kept) =
-    ap (kept_on id) (take_while-cons (λ one. not (is_of id one)) one kept)
-    ∙ none_by id one.0 one.1 (take_while (λ one. not (is_of id one)) kept) (one.0 == id) refl
-    (none_before id kept)
-
--- A place that is chosen by a test is chosen where it holds.
-chosen : (n at : ℕ) (test : Bool) → cond test (Some n) None ≡ Some at → (test ≡ true) × (n ≡ at)
-chosen n at true is = (refl, cc)
-chosen n at false is = (cc, cc)
-
-not_chosen : (n : ℕ) (test : Bool) → cond test (Some n) None ≡ None → test ≡ false
-not_chosen n true is = cc
-not_chosen n false is = refl
-
--- Nothing is kept of a stream,
-pub none_kept : (id : ℕ) (kept : List (ℕ × Came)) → position (is_of id) kept ≡ None
-    → kept_on id kept ≡ []
-none_kept id kept none =
-    let fails = ltb-false _ _ (not_chosen _ _ none) in
-    let all = take_all (position_or_len (is_of id) kept) kept (omega (arith, fails)) in
-    ap (kept_on id) (sym all) ∙ none_before id kept
-
--- or this is the first.
-pub first_kept : (id : ℕ) (kept : List (ℕ × Came)) (at : ℕ) (one : ℕ × Came)
-    → position (is_of id) kept ≡ Some at → one ≡ slice_index_or kept at one
-    → TakesFirstKept id kept (remove kept at) one.1
-first_kept id kept at one found is =
-    let (there, same) = chosen _ at _ found in
-    let within = ltb-true _ _ there in
-    let first : kept ≡ take at kept ++ slice_index_or kept at one ∷ drop (at + 1) kept =
-    subst (λ (n : ℕ). kept ≡ take n kept ++ slice_index_or kept n one ∷ drop (n + 1) kept) same
-    (split_at_first (is_of id) kept one within) in
-    let passes : is_of id (slice_index_or kept at one) ≡ true =
-    subst (λ (n : ℕ). is_of id (slice_index_or kept n one) ≡ true) same
-    (passes_at_first (is_of id) kept one within) in
-    let here : one.0 ≡ id = eqb-true _ _ (ap (is_of id) is ∙ passes) in
-    let whole : slice_index_or kept at one ≡ (id, one.1) =
-    sym is ∙ ap (λ (i : ℕ). (i, one.1)) here in
-    let next : suc at ≡ at + 1 = omega arith in
-    record {
-      before = take at kept;
-      after = drop (at + 1) kept;
-      was = first ∙ ap (λ (o : ℕ × Came). take at kept ++ o ∷ drop (at + 1) kept) whole;
-      left = ap (λ (n : ℕ). take at kept ++ drop n kept) next;
-      none = subst (λ (n : ℕ). kept_on id (take n kept) ≡ []) same (none_before id kept);
-    }
-
--- What is kept is what each adds, one after another;
-kept_more : (i id : ℕ) (came : Came) (kept : List (ℕ × Came))
-    → kept_on i ((id, came) ∷ kept) ≡ came_on id came i ++ kept_on i kept
-unfolding kept_on
-kept_more i id came kept = refl
-
-kept_append : (i : ℕ) (one two : List (ℕ × Came))
-    → kept_on i (one ++ two) ≡ kept_on i one ++ kept_on i two
-unfolding kept_on
-kept_append i [] two = refl
-kept_append i (first ∷ one) two =
-    let came = came_on first.0 first.1 i in
-    kept_more i first.0 first.1 (one ++ two)
-    ∙ ap (λ (rest : List OnStream). came ++ rest) (kept_append i one two)
-    ∙ sym (append_assoc came (kept_on i one) (kept_on i two))
-    ∙ ap (λ (all : List OnStream). all ++ kept_on i two) (sym (kept_more i first.0 first.1 one))
-
--- so with one more at the end.
-kept_push : (i id : ℕ) (came : Came) (kept : List (ℕ × Came))
-    → kept_on i (kept ++ (id, came) ∷ []) ≡ kept_on i kept ++ came_on id came i
-unfolding kept_on
-kept_push i id came kept =
-    kept_append i kept ((id, came) ∷ [])
-    ∙ ap (λ (rest : List OnStream). kept_on i kept ++ rest)
-    (kept_more i id came [] ∙ append-nil (came_on id came i))
+-- what has come on a stream of its own, or nothing on another
+abbrev pub came_on : ℕ → Came → ℕ → List OnStream
+came_on id came i = if id == i then came_as id came ∷ [] else []
 
 -- What has come on a stream is nothing of another.
 came_elsewhere : (i id : ℕ) (came : Came) → i ≢ id → came_on id came i ≡ []
 came_elsewhere i id came other = rw (ne_eqb id i (λ same. other (sym same))) refl
 
-pub none_more : (id stream : ℕ) (came : Came) (kept : List (ℕ × Came)) → stream ≢ id
-    → kept_on id kept ≡ [] → kept_on id (kept ++ (stream, came) ∷ []) ≡ []
-none_more id stream came kept other none =
-    let elsewhere = came_elsewhere id stream came (λ same. other (sym same)) in
-    kept_push id stream came kept
-    ∙ ap (λ (all : List OnStream). all ++ came_on stream came id) none ∙ elsewhere
+-- The first that was kept of a stream is all that has gone of any,
+one_taken : (i id : ℕ) (came : Came) (old new : Queues) → TakesKept id old new (Some came)
+    → kept_on i old ≡ came_on id came i ++ kept_on i new
+unfolding TakesKept
+one_taken i id came old new takes = elim (cases_eq i id) [
+  | inl here ↦ rw (here, eq-eqb id id refl) takes.0
+  | inr other ↦ rw (came_elsewhere i id came other) (sym (takes.1 i other))
+]
+
+-- and the last that is kept of one is all that was added.
+one_kept : (i id : ℕ) (came : Came) (old new : Queues) → KeepsAlso id came old new
+    → kept_on i new ≡ kept_on i old ++ came_on id came i
+one_kept i id came old new also = elim (cases_eq i id) [
+  | inl here ↦ rw (here, eq-eqb id id refl) also.last
+  | inr other ↦
+      also.others i other ∙ sym (append-nil (kept_on i old))
+      ∙ ap (λ (more : List OnStream). kept_on i old ++ more)
+      (sym (came_elsewhere i id came other))
+]
+
+pub none_more : (id stream : ℕ) (came : Came) (old new : Queues) → stream ≢ id
+    → KeepsAlso stream came old new → kept_on id old ≡ [] → kept_on id new ≡ []
+none_more id stream came old new other also none =
+    also.others id (λ same. other (sym same)) ∙ none
 
 -- Of two lists of which one is empty, either may come first.
 either_first : (one two three : List OnStream) → (two ≡ []) ⊎ (three ≡ [])
@@ -117,7 +60,7 @@ either_first one two three (inr none) =
     rw none (append-nil (one ++ two) ∙ ap (λ (all : List OnStream). all ++ two)
     (sym (append-nil one)))
 
-none_or_elsewhere : (i id : ℕ) (came : Came) (kept : List (ℕ × Came)) → kept_on id kept ≡ []
+none_or_elsewhere : (i id : ℕ) (came : Came) (kept : Queues) → kept_on id kept ≡ []
     → (kept_on i kept ≡ []) ⊎ (came_on id came i ≡ [])
 none_or_elsewhere i id came kept none = elim (cases_eq i id) [
   | inl here ↦ inl (rw here none)
@@ -125,7 +68,7 @@ none_or_elsewhere i id came kept none = elim (cases_eq i id) [
 ]
 
 -- What has come on a stream of which nothing is kept is answered,
-pub parts_answered : (answered : AnsweredOn) (id : ℕ) (came : Came) (kept : List (ℕ × Came))
+pub parts_answered : (answered : AnsweredOn) (id : ℕ) (came : Came) (kept : Queues)
     (i : ℕ) {before after : List OnStream} → kept_on id kept ≡ []
     → before ≡ answered i ++ kept_on i kept → after ≡ before ++ came_on id came i
     → after ≡ answered_next answered id came i ++ kept_on i kept
@@ -135,42 +78,69 @@ parts_answered answered id came kept i none was now =
     (none_or_elsewhere i id came kept none)
 
 -- what has come on another is kept,
-pub parts_kept : (answered : AnsweredOn) (id : ℕ) (came : Came) (kept : List (ℕ × Came))
-    (i : ℕ) {before after : List OnStream}
-    → before ≡ answered i ++ kept_on i kept → after ≡ before ++ came_on id came i
-    → after ≡ answered i ++ kept_on i (kept ++ (id, came) ∷ [])
-parts_kept answered id came kept i was now =
+pub parts_kept : (answered : AnsweredOn) (id : ℕ) (came : Came) (old new : Queues)
+    (i : ℕ) {before after : List OnStream} → KeepsAlso id came old new
+    → before ≡ answered i ++ kept_on i old → after ≡ before ++ came_on id came i
+    → after ≡ answered i ++ kept_on i new
+parts_kept answered id came old new i also was now =
     now ∙ ap (λ (all : List OnStream). all ++ came_on id came i) was
-    ∙ append_assoc (answered i) (kept_on i kept) (came_on id came i)
-    ∙ ap (λ (all : List OnStream). answered i ++ all) (sym (kept_push i id came kept))
+    ∙ append_assoc (answered i) (kept_on i old) (came_on id came i)
+    ∙ ap (λ (all : List OnStream). answered i ++ all) (sym (one_kept i id came old new also))
 
 -- or lost where there is no memory for that;
-pub parts_lost : (answered : AnsweredOn) (id : ℕ) (came : Came) (kept : List (ℕ × Came))
-    (i : ℕ) {before after : List OnStream}
-    → before ≡ answered i ++ kept_on i kept → after ≡ before ++ came_on id came i
-    → after ≡ answered i ++ (kept_on i kept ++ came_on id came i)
-parts_lost answered id came kept i was now =
+pub parts_lost : (answered : AnsweredOn) (id : ℕ) (came : Came) (old new : Queues)
+    (i : ℕ) {before after : List OnStream} → KeepsAll old new
+    → before ≡ answered i ++ kept_on i old → after ≡ before ++ came_on id came i
+    → after ≡ answered i ++ (kept_on i new ++ came_on id came i)
+parts_lost answered id came old new i all was now =
     now ∙ ap (λ (all : List OnStream). all ++ came_on id came i) was
-    ∙ append_assoc (answered i) (kept_on i kept) (came_on id came i)
+    ∙ append_assoc (answered i) (kept_on i old) (came_on id came i)
+    ∙ ap (λ (kept : List OnStream). answered i ++ (kept ++ came_on id came i)) (sym (all i))
 
 -- and the first that is kept of a stream is answered.
-pub parts_taken : (answered : AnsweredOn) (id : ℕ) (came : Came) {old new : List (ℕ × Came)}
-    (i : ℕ) {handed : List OnStream} → TakesFirstKept id old new came
+pub parts_taken : (answered : AnsweredOn) (id : ℕ) (came : Came) (old new : Queues)
+    (i : ℕ) {handed : List OnStream} → TakesKept id old new (Some came)
     → handed ≡ answered i ++ kept_on i old
     → handed ≡ answered_next answered id came i ++ kept_on i new
-parts_taken answered id came {old} {new} i takes was =
-    let before = kept_on i takes.before in
-    let after = kept_on i takes.after in
-    let one = came_on id came i in
-    let all : kept_on i old ≡ before ++ (one ++ after) =
-    ap (kept_on i) takes.was ∙ kept_append i takes.before ((id, came) ∷ takes.after)
-    ∙ ap (λ (rest : List OnStream). before ++ rest) (kept_more i id came takes.after) in
-    let left : kept_on i new ≡ before ++ after =
-    ap (kept_on i) takes.left ∙ kept_append i takes.before takes.after in
-    was ∙ ap (λ (rest : List OnStream). answered i ++ rest) all
-    ∙ sym (append_assoc (answered i) before (one ++ after))
-    ∙ sym (append_assoc (answered i ++ before) one after)
-    ∙ ap (λ (first : List OnStream). first ++ after) (either_first (answered i) before one
-    (none_or_elsewhere i id came takes.before takes.none))
-    ∙ append_assoc (answered i ++ one) before after
-    ∙ ap (λ (rest : List OnStream). (answered i ++ one) ++ rest) (sym left)
+parts_taken answered id came old new i takes was =
+    was ∙ ap (λ (all : List OnStream). answered i ++ all) (one_taken i id came old new takes)
+    ∙ sym (append_assoc (answered i) (came_on id came i) (kept_on i new))
+
+-- What is left was kept,
+pub was_kept : (i id : ℕ) (came : Came) (old new : Queues) → TakesKept id old new (Some came)
+    → (one : OnStream) → Contains (kept_on i new) one → Contains (kept_on i old) one
+was_kept i id came old new takes one there =
+    rw (one_taken i id came old new takes)
+    (Contains-append_right (came_on id came i) (kept_on i new) one there)
+
+-- and so was the first.
+pub first_was_kept : (id : ℕ) (came : Came) (old new : Queues)
+    → TakesKept id old new (Some came) → Contains (kept_on id old) (came_as id came)
+unfolding TakesKept
+first_was_kept id came old new takes = rw takes.0 (first_in (came_as id came) (kept_on id new))
+
+-- A stream that is kept as dropped was kept so, or has come so.
+as_dropped : (id : ℕ) (came : Came) (code : ℕ) → came_as id came ≡ DropOn code
+    → came ≡ Dropped code
+as_dropped id (Part part) code is = absurd (cc)
+as_dropped id (Dropped number) code is = let same : number ≡ code = cc in ap Dropped same
+
+came_as_dropped : (i id : ℕ) (came : Came) (code : ℕ)
+    → Contains (came_on id came i) (DropOn code) → (id ≡ i) × (came ≡ Dropped code)
+came_as_dropped i id came code there = elim (cases_eq i id) [
+  | inl here ↦
+      let one : Contains (came_as id came ∷ []) (DropOn code) =
+      rw (here, eq-eqb id id refl) at there in
+      (sym here, as_dropped id came code (one_in (came_as id came) (DropOn code) one))
+  | inr other ↦ absurd (none_in (DropOn code) (rw (came_elsewhere i id came other) at there))
+]
+
+pub dropped_cases : (i id : ℕ) (came : Came) (old new : Queues) → KeepsAlso id came old new
+    → (code : ℕ) → Contains (kept_on i new) (DropOn code)
+    → Contains (kept_on i old) (DropOn code) ⊎ ((id ≡ i) × (came ≡ Dropped code))
+dropped_cases i id came old new also code there =
+    elim (Contains-append_cases (kept_on i old) (came_on id came i) (DropOn code)
+    (rw (one_kept i id came old new also) at there)) [
+      | inl was ↦ inl was
+      | inr last ↦ inr (came_as_dropped i id came code last)
+    ]

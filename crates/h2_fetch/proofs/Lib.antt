@@ -1,15 +1,17 @@
 mod Beginning
 mod ChosenCredit
 mod Comings
+mod ConnectionRequests
 mod Ending
 mod KeptParts
+mod KeptQueues
 mod OwedCredit
 mod ReadPieces
+pub mod RefusedRequests
 mod Refilling
 mod ReturningCredit
 mod SendingRounds
 mod SeveralAnswers
-mod SeveralBeginning
 mod SeveralComings
 mod SeveralRounds
 mod SeveralTaking

@@ -4,13 +4,12 @@ use Names.{◌≡◌, ◌≤◌, ◌<◌, ℕ, ◌+◌, ◌-◌, List, [], ◌�
 use Names.{refl, sym, ap, ◌∙◌, subst, inl, inr, arith, drop-drop, drop_all, take_rest, Contains}
 use Names.{Values, EndLog, EndRepresents, EndTook, Handed, EndMayTake, IsLinked, Traffic}
 use Names.{first_in}
-use Rattle.std.proofs.lemmas.List.Elements.{Contains-push_cases}
 use Rattle.h2_engines.specs.Fetches.{WasDropped}
 use Rattle.h2_engines.proofs.ResponderEnds.{given_within}
 use Rattle.h2_engines.proofs.ServeLinkTakes.{took_links, takes_first}
 use Rattle.h2_engines.proofs.TakeMessages.{handed_after, taken_says}
 use Rattle.h2_engines.proofs.TurnsPassed.{turns_of_take}
-use Rattle.h2_fetch.specs.Kept.{came_on}
+use Rattle.h2_fetch.specs.Kept.{KeepsAll, KeepsAlso}
 use Rattle.h2_fetch.specs.Several.{all_on, AnsweredOn, AreComing, AreDropped, AskedOn}
 use Rattle.h2_fetch.specs.Several.{answered_next, IsFetchingSeveral, kept_on, several_unused}
 use Rattle.h2_fetch.specs.Several.{takes}
@@ -18,10 +17,11 @@ use Rattle.h2_fetch.specs.SeveralComings.{HaveTakenLast, lacks_memory}
 use Rattle.h2_fetch.specs.SeveralTakes.{IsAsCame, TakesCameOnce, TakesCameSo, without_empty}
 use Rattle.h2_fetch.specs.declared.coming.CameNext.TheVariants as nexts
 use Rattle.h2_fetch.specs.declared.coming.CameTaken.{CameTaken}
-use Rattle.h2_fetch.specs.declared.several.Came.{Came}
-use Rattle.h2_fetch.specs.declared.several.Came.TheVariants.{Dropped}
-use Rattle.h2_fetch.specs.declared.several.SeveralFetch.{SeveralFetch}
-use Rattle.h2_fetch.proofs.KeptParts.{parts_answered, parts_kept, parts_lost}
+use Rattle.h2_fetch.specs.declared.connection.Came.{Came}
+use Rattle.h2_fetch.specs.declared.connection.Came.TheVariants.{Dropped}
+use Rattle.h2_fetch.specs.declared.connection.ClientConnection.{ClientConnection}
+use Rattle.h2_fetch.proofs.KeptParts.{Queues, came_on, dropped_cases, parts_answered}
+use Rattle.h2_fetch.proofs.KeptParts.{parts_kept, parts_lost}
 use Rattle.h2_fetch.proofs.SeveralTaking.{AddsCame, SaysSome, IsNothing, adds_came, dropped_as}
 use Rattle.h2_fetch.proofs.SeveralTaking.{handed_came, nothing_came, still_done}
 use Rattle.h2_fetch.proofs.SeveralTaking.{something_came, stay_dropped, stays_handed}
@@ -30,23 +30,24 @@ use Rattle.h2_link.specs.declared.error.LinkError.TheVariants as errors
 -- Whatever had happened at first, the client fetches still, keeps nothing of the stream, and each
 -- round was a turn at least.
 pub record AreGoing (values : Values) (wide : ℕ) (start now : Traffic) (asked : List AskedOn)
-    (fetch : SeveralFetch) (id : ℕ) (before : EndLog) (answered : AnsweredOn) (rounds : ℕ) : Type 0
+    (fetch : ClientConnection) (id : ℕ) (before : EndLog) (answered : AnsweredOn)
+    (rounds : ℕ) : Type 0
   where
     pub after : EndLog
     pub coming : AreComing values wide start now asked fetch after answered
-    pub none : kept_on id fetch.kept.items ≡ []
+    pub none : kept_on id fetch.kept.entries ≡ []
     pub turns : rounds + length before.log.turns ≤ length after.log.turns
 
 pub are_going : {values : Values} {wide : ℕ} {start now : Traffic} {asked : List AskedOn}
-    {fetch : SeveralFetch} (id : ℕ) {end : EndLog} {answered : AnsweredOn}
-    → AreComing values wide start now asked fetch end answered → kept_on id fetch.kept.items ≡ []
+    {fetch : ClientConnection} (id : ℕ) {end : EndLog} {answered : AnsweredOn}
+    → AreComing values wide start now asked fetch end answered → kept_on id fetch.kept.entries ≡ []
     → AreGoing values wide start now asked fetch id end answered 0
 are_going id {end} is none =
     record { after = end; coming = is; none = none; turns = omega arith }
 
 -- The client has taken octets of those that it keeps, and this was handed out.
 pub record HasTakenCame (values : Values) (wide : ℕ) (start now : Traffic) (asked : List AskedOn)
-    (fetch : SeveralFetch) (before : EndLog) (ids : List ℕ) (taken : CameTaken) : Type 0 where
+    (fetch : ClientConnection) (before : EndLog) (taken : CameTaken) : Type 0 where
   pub after : EndLog
   pub fetching : IsFetchingSeveral values wide asked after
   pub represents : EndRepresents values fetch.client.end after
@@ -55,24 +56,24 @@ pub record HasTakenCame (values : Values) (wide : ℕ) (start now : Traffic) (as
   pub linked : IsLinked start now after.log (several_unused fetch)
   pub turns : length before.log.turns < length after.log.turns
   pub handed : Option Handed
-  pub hands : AddsCame ids handed (without_empty taken.next)
+  pub hands : AddsCame handed (without_empty taken.next)
   pub same : after.handed ≡ handed_after (EndTook taken.used handed) before.handed
   pub done : without_empty taken.next ≡ nexts.Done → several_unused fetch ≡ []
 
 -- what the octets are that a client hands to `take`
-abbrev pub piece_of : SeveralFetch → List ℕ
+abbrev pub piece_of : ClientConnection → List ℕ
 piece_of fetch = take (length fetch.input.items - fetch.used) (several_unused fetch)
 
 -- The rest of a piece is a list of its own.
-pub rest_is : (fetch : SeveralFetch) → piece_of fetch ≡ several_unused fetch
+pub rest_is : (fetch : ClientConnection) → piece_of fetch ≡ several_unused fetch
 rest_is fetch = take_rest fetch.input.items fetch.used
 
 module _ {values : Values} {wide : ℕ} {start now : Traffic} {asked : List AskedOn}
-    {old : SeveralFetch} (new : SeveralFetch) {end : EndLog} {answered : AnsweredOn}
+    {old : ClientConnection} (new : ClientConnection) {end : EndLog} {answered : AnsweredOn}
     (is : AreComing values wide start now asked old end answered) where
   pub taken_came : (taken : CameTaken) → new.input ≡ old.input → new.used ≡ old.used + taken.used
-      → TakesCameOnce old.client.end new.client.end old.ids.items (piece_of old) (Ok taken)
-      → HasTakenCame values wide start now asked new end old.ids.items taken
+      → TakesCameOnce old.client.end new.client.end (piece_of old) (Ok taken)
+      → HasTakenCame values wide start now asked new end taken
   unfolding TakesCameSo
   taken_came taken input used part =
       let (after, represents, so) = part values end is.represents in
@@ -94,35 +95,34 @@ module _ {values : Values} {wide : ℕ} {start now : Traffic} {asked : List Aske
             (took_links (given_within is.represents) is.linked first.uses first.says.0);
         turns = turns_of_take may;
         handed = so.0;
-        hands = adds_came old.ids.items so.0 taken.next so.2;
+        hands = adds_came so.0 taken.next so.2;
         same = says.handed;
         done = λ is_done. sym left ∙ drop_all taken.used (several_unused old)
             (omega (arith, so.3 (still_done taken.next is_done), ap length (rest_is old)));
       }
 
--- Nothing has come: it goes on.
 module _ {values : Values} {wide : ℕ} {start now : Traffic} {asked : List AskedOn}
-    {old : SeveralFetch} (new : SeveralFetch) {end : EndLog} {answered : AnsweredOn}
+    {old : ClientConnection} (new : ClientConnection) {end : EndLog} {answered : AnsweredOn}
     {taken : CameTaken} (is : AreComing values wide start now asked old end answered)
-    (took : HasTakenCame values wide start now asked new end old.ids.items taken)
-    (ids : new.ids ≡ old.ids) where
+    (took : HasTakenCame values wide start now asked new end taken) where
+  -- What was handed out still is.
+  handed_still : (one : Handed) → Contains end.handed one → Contains took.after.handed one
+  handed_still = stays_handed (EndTook taken.used took.handed) end.handed took.same
+
+  -- Nothing has come: it goes on.
   pub took_none : IsNothing (without_empty taken.next) → new.kept ≡ old.kept
       → AreComing values wide start now asked new took.after answered
   took_none nothing kept =
       record {
         fetching = took.fetching;
         represents = took.represents;
-        streams = rw ids is.streams;
         accepted = λ id message one. rw took.accepted (is.accepted id message one);
         up = took.up;
         linked = took.linked;
-        parts = λ id one.
-            let there : Contains old.ids.items id = rw ids at one in
-            nothing_came old.ids.items (without_empty taken.next) taken.used took.handed
-            end.handed nothing took.hands took.same id there
-            ∙ rw kept (is.parts id there);
-        dropped = rw kept (stay_dropped end took.after old.kept.items
-            (stays_handed (EndTook taken.used took.handed) end.handed took.same) is.dropped);
+        parts = λ id. nothing_came (without_empty taken.next) taken.used took.handed end.handed
+            nothing took.hands took.same id ∙ rw kept (is.parts id);
+        dropped = stay_dropped end took.after old.kept.entries new.kept.entries (λ i. rw kept refl)
+            handed_still is.dropped;
       }
 
   module _ (stream : ℕ) (came : Came) (next : without_empty taken.next ≡ nexts.On stream came)
@@ -130,8 +130,8 @@ module _ {values : Values} {wide : ℕ} {start now : Traffic} {asked : List Aske
     -- Something has come, which was handed out last.
     last_came : (one : Handed) × IsAsCame stream came one
         × (took.after.handed ≡ one ∷ end.handed)
-    last_came = something_came old.ids.items stream came taken.used took.handed end.handed next
-        took.hands took.same
+    last_came = something_came stream came taken.used took.handed end.handed next took.hands
+        took.same
 
     more_came : (i : ℕ)
         → all_on i took.after.handed ≡ all_on i end.handed ++ came_on stream came i
@@ -147,69 +147,60 @@ module _ {values : Values} {wide : ℕ} {start now : Traffic} {asked : List Aske
         (subst (λ (handed : List Handed). Contains handed one) (sym same)
         (first_in one end.handed))
 
-    still_dropped : AreDropped took.after old.kept.items
-    still_dropped = stay_dropped end took.after old.kept.items
-        (stays_handed (EndTook taken.used took.handed) end.handed took.same) is.dropped
+    still_dropped : (kept : Queues) → KeepsAll old.kept.entries kept → AreDropped took.after kept
+    still_dropped kept same =
+        stay_dropped end took.after old.kept.entries kept same handed_still is.dropped
 
     -- It is answered, where nothing is kept of the stream,
-    pub came_answered : kept_on stream old.kept.items ≡ [] → new.kept ≡ old.kept
+    pub came_answered : kept_on stream old.kept.entries ≡ [] → new.kept ≡ old.kept
         → AreComing values wide start now asked new took.after (answered_next answered stream came)
     came_answered none kept =
         record {
           fetching = took.fetching;
           represents = took.represents;
-          streams = rw ids is.streams;
           accepted = λ id message one. rw took.accepted (is.accepted id message one);
           up = took.up;
           linked = took.linked;
-          parts = λ id one.
-              let there : Contains old.ids.items id = rw ids at one in
-              rw kept (parts_answered answered stream came old.kept.items id none
-              (is.parts id there) (more_came id));
-          dropped = rw kept still_dropped;
+          parts = λ id. rw kept (parts_answered answered stream came old.kept.entries id none
+              (is.parts id) (more_came id));
+          dropped = still_dropped new.kept.entries (λ i. rw kept refl);
         }
 
     -- or kept,
-    more_dropped : AreDropped took.after (old.kept.items ++ (stream, came) ∷ [])
-    more_dropped id code one = elim (Contains-push_cases old.kept.items (stream, came)
-        (id, Dropped code) one) [
-          | inl was ↦ still_dropped id code was
-          | inr same ↦
-              let here : stream ≡ id = ap (λ (pair : ℕ × Came). pair.0) same in
-              let dropped : came ≡ Dropped code = ap (λ (pair : ℕ × Came). pair.1) same in
-              subst (λ (i : ℕ). WasDropped took.after i code) here (came_dropped code dropped)
+    more_dropped : KeepsAlso stream came old.kept.entries new.kept.entries
+        → AreDropped took.after new.kept.entries
+    more_dropped also id code one =
+        elim (dropped_cases id stream came old.kept.entries new.kept.entries also code one) [
+          | inl was ↦ still_dropped old.kept.entries (λ i. refl) id code was
+          | inr last ↦
+              subst (λ (i : ℕ). WasDropped took.after i code) last.0 (came_dropped code last.1)
         ]
 
-    pub came_kept : new.kept.items ≡ old.kept.items ++ (stream, came) ∷ []
+    pub came_kept : KeepsAlso stream came old.kept.entries new.kept.entries
         → AreComing values wide start now asked new took.after answered
-    came_kept kept =
+    came_kept also =
         record {
           fetching = took.fetching;
           represents = took.represents;
-          streams = rw ids is.streams;
           accepted = λ id message one. rw took.accepted (is.accepted id message one);
           up = took.up;
           linked = took.linked;
-          parts = λ id one.
-              let there : Contains old.ids.items id = rw ids at one in
-              rw kept (parts_kept answered stream came old.kept.items id
-              (is.parts id there) (more_came id));
-          dropped = rw kept more_dropped;
+          parts = λ id. parts_kept answered stream came old.kept.entries new.kept.entries id also
+              (is.parts id) (more_came id);
+          dropped = more_dropped also;
         }
 
     -- or lost, where there is no memory for that.
-    pub came_lost : new.kept.items ≡ old.kept.items
+    pub came_lost : KeepsAll old.kept.entries new.kept.entries
         → HaveTakenLast values wide start now asked new took.after answered errors.Memory
-    came_lost kept =
+    came_lost all =
         record {
           fetching = took.fetching;
           represents = took.represents;
           unused = several_unused new;
           linked = took.linked;
           lost = came_on stream came;
-          parts = λ id one.
-              let there : Contains old.ids.items id = rw ids at one in
-              rw kept (parts_lost answered stream came old.kept.items id
-              (is.parts id there) (more_came id));
+          parts = λ id. parts_lost answered stream came old.kept.entries new.kept.entries id all
+              (is.parts id) (more_came id);
           why = lacks_memory took.up refl;
         }

@@ -1,13 +1,14 @@
 -- What the rounds make of octets that were read, at a client that makes several requests.
 use Rattle.h2_engines.proofs.Names
-use Names.{◌≡◌, ◌≢◌, ◌≤◌, ℕ, ◌+◌, ◌-◌, ◌^◌, List, [], ◌∷◌, ◌++◌, Some, None, Ok, Err, refl, sym}
-use Names.{ap, ◌∙◌, subst, arith, append-nil, Contains, Values, EndLog, EndTook, EndAnswer}
+use Names.{◌≡◌, ◌≢◌, ◌≤◌, ℕ, ◌+◌, ◌-◌, ◌^◌, List, [], ◌++◌, Some, None, Ok, Err, refl, sym}
+use Names.{ap, ◌∙◌, subst, arith, append-nil, Values, EndLog, EndTook, EndAnswer}
 use Names.{EndFailed, EndMayTake, LinkError, Traffic, append_assoc}
 use Rattle.h2_engines.specs.Fetches.{WasDropped}
 use Rattle.h2_engines.specs.ServerSteps.{ErrsServing}
 use Rattle.h2_engines.proofs.ResponderEnds.{given_within}
 use Rattle.h2_engines.proofs.ServeLinkTakes.{links_first, takes_first}
 use Rattle.h2_engines.proofs.TakeMessages.{kept_failed, taken_says}
+use Rattle.h2_fetch.specs.Kept.{KeepsAll, KeepsAlso}
 use Rattle.h2_fetch.specs.Several.{OnStream, all_on, as_on, AnsweredOn, AreComing, AskedOn, CameSo}
 use Rattle.h2_fetch.specs.Several.{kept_on, several_unused, answered_next, takes}
 use Rattle.h2_fetch.specs.SeveralComings.{TakesNoneMore, TakesUntilCame, TookCame, fails}
@@ -15,8 +16,8 @@ use Rattle.h2_fetch.specs.SeveralComings.{lacks_memory, out_of_rounds}
 use Rattle.h2_fetch.specs.SeveralTakes.{TakesCameOnce, TakesCameSo, without_empty}
 use Rattle.h2_fetch.specs.declared.coming.CameNext.TheVariants as nexts
 use Rattle.h2_fetch.specs.declared.coming.CameTaken.{CameTaken}
-use Rattle.h2_fetch.specs.declared.several.Came.{Came}
-use Rattle.h2_fetch.specs.declared.several.SeveralFetch.{SeveralFetch}
+use Rattle.h2_fetch.specs.declared.connection.Came.{Came}
+use Rattle.h2_fetch.specs.declared.connection.ClientConnection.{ClientConnection}
 use Rattle.h2_fetch.proofs.KeptParts.{none_more}
 use Rattle.h2_fetch.proofs.SeveralComings.{AreGoing, are_going, came_answered, came_dropped}
 use Rattle.h2_fetch.proofs.SeveralComings.{came_kept, came_lost, piece_of, rest_is, taken_came}
@@ -25,92 +26,90 @@ use Rattle.h2_fetch.proofs.SeveralTaking.{SaysSome, IsNothing}
 use Rattle.h2_link.specs.declared.error.LinkError.TheVariants as errors
 
 -- In a call of `take_next` nothing goes over the link.
-abbrev pub TakesCame : (old new : SeveralFetch) → ℕ → (rounds : ℕ) → Type 0
+abbrev pub TakesCame : (old new : ClientConnection) → ℕ → (rounds : ℕ) → Type 0
 TakesCame old new id rounds =
     (values : Values) (wide : ℕ) (start now : Traffic) (asked : List AskedOn) (end : EndLog)
     (answered : AnsweredOn) → AreComing values wide start now asked old end answered
-    → kept_on id old.kept.items ≡ []
+    → kept_on id old.kept.entries ≡ []
     → AreGoing values wide start now asked new id end answered rounds
 
 -- At first nothing was taken.
-pub came_first : (fetch : SeveralFetch) (id : ℕ) → TakesCame fetch fetch id 0
+pub came_first : (fetch : ClientConnection) (id : ℕ) → TakesCame fetch fetch id 0
 came_first fetch id values wide start now asked end answered is none = are_going id is none
 
 -- In each round octets are taken once.
-module _ (old middle new : SeveralFetch) (id rounds : ℕ) (on : TakesCame old middle id rounds)
-    (ids : new.ids ≡ middle.ids) where
-  module _ (taken : CameTaken) (input : new.input ≡ middle.input)
-      (used : new.used ≡ middle.used + taken.used)
-      (part : TakesCameOnce middle.client.end new.client.end middle.ids.items (piece_of middle)
-      (Ok taken)) where
-    -- Nothing has come: it goes on,
-    pub next_nothing : IsNothing (without_empty taken.next) → new.kept ≡ middle.kept
+module _ (old middle new : ClientConnection) (id rounds : ℕ) (on : TakesCame old middle id rounds)
+    (taken : CameTaken) (input : new.input ≡ middle.input)
+    (used : new.used ≡ middle.used + taken.used)
+    (part : TakesCameOnce middle.client.end new.client.end (piece_of middle) (Ok taken)) where
+  -- Nothing has come: it goes on,
+  pub next_nothing : IsNothing (without_empty taken.next) → new.kept ≡ middle.kept
+      → TakesCame old new id (rounds + 1)
+  next_nothing nothing kept values wide start now asked end answered is none =
+      let go = on values wide start now asked end answered is none in
+      let took = taken_came new go.coming taken input used part in
+      record {
+        after = took.after;
+        coming = took_none new go.coming took nothing kept;
+        none = rw kept go.none;
+        turns = omega (arith, go.turns, took.turns);
+      }
+
+  -- or all octets were used;
+  pub next_done : without_empty taken.next ≡ nexts.Done → new.kept ≡ middle.kept
+      → TakesUntilCame old new id (Ok None)
+  unfolding TookCame
+  next_done done kept values wide start now asked end answered is none =
+      let go = on values wide start now asked end answered is none in
+      let took = taken_came new go.coming taken input used part in (
+        took.after,
+        took_none new go.coming took (rw done tt) kept,
+        rw kept go.none,
+        took.done done,
+        omega (arith, go.turns, took.turns),
+      )
+
+  -- something has come on the stream,
+  pub next_came : (stream : ℕ) (came : Came)
+      → without_empty taken.next ≡ nexts.On stream came
+      → SaysSome stream came → stream ≡ id → new.kept ≡ middle.kept
+      → TakesUntilCame old new id (Ok (Some came))
+  unfolding TookCame CameSo
+  next_came stream came next final same kept values wide start now asked end answered is none =
+      let go = on values wide start now asked end answered is none in
+      let took = taken_came new go.coming taken input used part in
+      let first : kept_on stream middle.kept.entries ≡ [] = rw same go.none in (
+        took.after,
+        subst (λ (i : ℕ). AreComing values wide start now asked new took.after
+            (answered_next answered i came)) same
+            (came_answered new go.coming took stream came next final first kept),
+        λ code dropped. subst (λ (i : ℕ). WasDropped took.after i code) same
+            (came_dropped new go.coming took stream came next final code dropped),
+      )
+
+  module _ (stream : ℕ) (came : Came) (next : without_empty taken.next ≡ nexts.On stream came)
+      (final : SaysSome stream came) (other : stream ≢ id) where
+    -- or on another: that is kept,
+    pub next_kept : KeepsAlso stream came middle.kept.entries new.kept.entries
         → TakesCame old new id (rounds + 1)
-    next_nothing nothing kept values wide start now asked end answered is none =
+    next_kept also values wide start now asked end answered is none =
         let go = on values wide start now asked end answered is none in
         let took = taken_came new go.coming taken input used part in
         record {
           after = took.after;
-          coming = took_none new go.coming took ids nothing kept;
-          none = rw kept go.none;
+          coming = came_kept new go.coming took stream came next final also;
+          none = none_more id stream came middle.kept.entries new.kept.entries other also go.none;
           turns = omega (arith, go.turns, took.turns);
         }
 
-    -- or all octets were used;
-    pub next_done : without_empty taken.next ≡ nexts.Done → new.kept ≡ middle.kept
-        → TakesUntilCame old new id (Ok None)
+    -- or there is no memory for it;
+    pub next_lost : KeepsAll middle.kept.entries new.kept.entries
+        → TakesUntilCame old new id (Err errors.Memory)
     unfolding TookCame
-    next_done done kept values wide start now asked end answered is none =
-        let go = on values wide start now asked end answered is none in
-        let took = taken_came new go.coming taken input used part in (
-          took.after,
-          took_none new go.coming took ids (rw done tt) kept,
-          rw kept go.none,
-          took.done done,
-          omega (arith, go.turns, took.turns),
-        )
-
-    -- something has come on the stream,
-    pub next_came : (stream : ℕ) (came : Came)
-        → without_empty taken.next ≡ nexts.On stream came
-        → SaysSome stream came → stream ≡ id → new.kept ≡ middle.kept
-        → TakesUntilCame old new id (Ok (Some came))
-    unfolding TookCame CameSo
-    next_came stream came next final same kept values wide start now asked end answered is none =
+    next_lost all values wide start now asked end answered is none =
         let go = on values wide start now asked end answered is none in
         let took = taken_came new go.coming taken input used part in
-        let first : kept_on stream middle.kept.items ≡ [] = rw same go.none in (
-          took.after,
-          subst (λ (i : ℕ). AreComing values wide start now asked new took.after
-              (answered_next answered i came)) same
-              (came_answered new go.coming took ids stream came next final first kept),
-          λ code dropped. subst (λ (i : ℕ). WasDropped took.after i code) same
-              (came_dropped new go.coming took ids stream came next final code dropped),
-        )
-
-    module _ (stream : ℕ) (came : Came) (next : without_empty taken.next ≡ nexts.On stream came)
-        (final : SaysSome stream came) (other : stream ≢ id) where
-      -- or on another: that is kept,
-      pub next_kept : new.kept.items ≡ middle.kept.items ++ (stream, came) ∷ []
-          → TakesCame old new id (rounds + 1)
-      next_kept kept values wide start now asked end answered is none =
-          let go = on values wide start now asked end answered is none in
-          let took = taken_came new go.coming taken input used part in
-          record {
-            after = took.after;
-            coming = came_kept new go.coming took ids stream came next final kept;
-            none = rw kept (none_more id stream came middle.kept.items other go.none);
-            turns = omega (arith, go.turns, took.turns);
-          }
-
-      -- or there is no memory for it;
-      pub next_lost : new.kept.items ≡ middle.kept.items
-          → TakesUntilCame old new id (Err errors.Memory)
-      unfolding TookCame
-      next_lost kept values wide start now asked end answered is none =
-          let go = on values wide start now asked end answered is none in
-          let took = taken_came new go.coming taken input used part in
-          (took.after, came_lost new go.coming took ids stream came next final kept)
+        (took.after, came_lost new go.coming took stream came next final all)
 
 -- or the client can take no more: the connection has failed, or memory was refused for what was
 -- handed out, which is lost.
@@ -138,12 +137,12 @@ lost_last end after (EndTook count None) may i =
     ap (all_on i) (taken_says may).handed ∙ sym (append-nil (all_on i end.handed))
 lost_last end after (EndTook count (Some one)) may i = ap (all_on i) (taken_says may).handed
 
-pub next_failed : (old middle new : SeveralFetch) (id rounds : ℕ) (error : LinkError)
-    → TakesCame old middle id rounds → new.ids ≡ middle.ids → new.kept ≡ middle.kept
-    → TakesCameOnce middle.client.end new.client.end middle.ids.items (piece_of middle) (Err error)
+pub next_failed : (old middle new : ClientConnection) (id rounds : ℕ) (error : LinkError)
+    → TakesCame old middle id rounds → new.kept ≡ middle.kept
+    → TakesCameOnce middle.client.end new.client.end (piece_of middle) (Err error)
     → TakesUntilCame old new id (Err error)
 unfolding TookCame TakesCameSo
-next_failed old middle new id rounds error on ids kept part values wide start now asked end answered
+next_failed old middle new id rounds error on kept part values wide start now asked end answered
     is none =
     let go = on values wide start now asked end answered is none in
     let (after, represents, so) = part values go.after go.coming.represents in
@@ -157,17 +156,15 @@ next_failed old middle new id rounds error on ids kept part values wide start no
         unused = first.uses.unused;
         linked = links_first (given_within go.coming.represents) go.coming.linked first.uses;
         lost = lost_of so.0;
-        parts = λ i one.
-            let there : Contains middle.ids.items i = rw ids at one in
-            lost_last go.after after so.0 may i
-            ∙ ap (λ (all : List OnStream). all ++ lost_of so.0 i) (go.coming.parts i there)
-            ∙ rw kept (append_assoc (answered i) (kept_on i middle.kept.items) (lost_of so.0 i));
+        parts = λ i. lost_last go.after after so.0 may i
+            ∙ ap (λ (all : List OnStream). all ++ lost_of so.0 i) (go.coming.parts i)
+            ∙ rw kept (append_assoc (answered i) (kept_on i middle.kept.entries) (lost_of so.0 i));
         why = why_none go.after after so.0 error may so.2;
       },
     )
 
 -- There were as many rounds as may be.
-pub next_out : (old new : SeveralFetch) (id rounds : ℕ) → 2 ^ 64 - 1 ≤ rounds
+pub next_out : (old new : ClientConnection) (id rounds : ℕ) → 2 ^ 64 - 1 ≤ rounds
     → TakesCame old new id rounds → TakesUntilCame old new id (Err errors.NoProgress)
 unfolding TookCame
 next_out old new id rounds all on values wide start now asked end answered is none =
@@ -179,9 +176,9 @@ next_out old new id rounds all on values wide start now asked end answered is no
         unused = several_unused new;
         linked = go.coming.linked;
         lost = λ i. [];
-        parts = λ i one. go.coming.parts i one
+        parts = λ i. go.coming.parts i
             ∙ ap (λ (kept : List OnStream). answered i ++ kept)
-            (sym (append-nil (kept_on i new.kept.items)));
+            (sym (append-nil (kept_on i new.kept.entries)));
         why = out_of_rounds go.coming.up refl (omega (arith, all, go.turns)) (λ i. refl);
       },
     )

@@ -1,21 +1,22 @@
 -- How a client that makes several requests waits for the next of one.
 use Rattle.h2_engines.proofs.Names
 use Names.{◌≡◌, ◌≢◌, ◌≤◌, ℕ, ◌+◌, ◌-◌, ◌^◌, List, [], ◌++◌, Some, None, Result, Ok, Err, refl}
-use Names.{sym, ap, ◌∙◌, subst, inl, inr, arith, append-nil, Contains, Code, Values, EndLog}
+use Names.{sym, ap, ◌∙◌, subst, inl, inr, arith, append-nil, Code, Values, EndLog}
 use Names.{EndRepresents, IsLinked, LinkError, Traffic, error_with, length}
 use Rattle.h2_engines.proofs.MachineViews.{all_in_part}
 use Rattle.h2_fetch.specs.Reads.{EndedSo, EndsOver, ReadOver, ReadSo, ReadsOver, ends_at_once}
 use Rattle.h2_fetch.specs.Reads.{ends_failed}
 use Rattle.h2_fetch.specs.Credits.{credit_before}
 use Rattle.h2_fetch.specs.Sends.{AsksSeveral, HasReturned}
+use Rattle.h2_fetch.specs.Kept.{KeepsAll}
 use Rattle.h2_fetch.specs.Several.{OnStream, AnsweredOn, AreComing, AskedOn, CameSo}
 use Rattle.h2_fetch.specs.Several.{IsFetchingSeveral, StopsAllFor, kept_on, several_unused}
 use Rattle.h2_fetch.specs.SeveralComings.{FilledSo, FillsSeveral, TakesNoneMore, TakesUntilCame}
 use Rattle.h2_fetch.specs.SeveralComings.{TookCame, WaitsFor, fails, lacks_memory, out_of_rounds}
 use Rattle.h2_fetch.specs.declared.sending.Credit.{Credit}
 use Rattle.h2_fetch.specs.declared.sending.Credit.TheVariants.{On}
-use Rattle.h2_fetch.specs.declared.several.Came.{Came}
-use Rattle.h2_fetch.specs.declared.several.SeveralFetch.{SeveralFetch}
+use Rattle.h2_fetch.specs.declared.connection.Came.{Came}
+use Rattle.h2_fetch.specs.declared.connection.ClientConnection.{ClientConnection}
 use Rattle.h2_fetch.proofs.ChosenCredit.{ChoosesCredit, chosen_allows}
 use Rattle.h2_fetch.proofs.SeveralComings.{AreGoing, are_going}
 use Rattle.h2_fetch.proofs.SeveralTaking.{stay_dropped}
@@ -23,40 +24,37 @@ use Rattle.h2_link.specs.declared.error.LinkError.TheVariants as errors
 
 -- Where nothing has happened to messages, and as much is kept, the client fetches still.
 pub coming_still : {values : Values} {wide : ℕ} {start before now : Traffic} {asked : List AskedOn}
-    {old : SeveralFetch} (new : SeveralFetch) {end : EndLog} (after : EndLog)
-    {answered : AnsweredOn} → new.ids ≡ old.ids → new.kept.items ≡ old.kept.items
+    {old : ClientConnection} (new : ClientConnection) {end : EndLog} (after : EndLog)
+    {answered : AnsweredOn} → KeepsAll old.kept.entries new.kept.entries
     → after.accepted ≡ end.accepted → after.handed ≡ end.handed
     → IsFetchingSeveral values wide asked after → EndRepresents values new.client.end after
     → after.log.failed ≡ None → IsLinked start now after.log (several_unused new)
     → AreComing values wide start before asked old end answered
     → AreComing values wide start now asked new after answered
-coming_still {old = old} new {end} after ids kept accepted handed fetching represents up linked is =
+coming_still {old = old} new {end} after kept accepted handed fetching represents up linked is =
     record {
       fetching = fetching;
       represents = represents;
-      streams = rw ids is.streams;
       accepted = λ id message one. rw accepted (is.accepted id message one);
       up = up;
       linked = linked;
-      parts = λ id one.
-          let there : Contains old.ids.items id = rw ids at one in
-          rw (handed, kept) (is.parts id there);
-      dropped = rw kept (stay_dropped end after old.kept.items (λ one was. rw handed was)
-          is.dropped);
+      parts = λ id. rw (handed, kept id) (is.parts id);
+      dropped = stay_dropped end after old.kept.entries new.kept.entries kept
+          (λ one was. rw handed was) is.dropped;
     }
 
 -- A piece was read, or the fetch has ended.
 module _ {values : Values} {wide : ℕ} {start : Traffic} (before now : Traffic)
-    {asked : List AskedOn} (old new : SeveralFetch) {end : EndLog} {answered : AnsweredOn}
-    (is : AreComing values wide start before asked old end answered) (ids : new.ids ≡ old.ids)
-    (kept : new.kept.items ≡ old.kept.items) {credit : Credit} where
+    {asked : List AskedOn} (old new : ClientConnection) {end : EndLog} {answered : AnsweredOn}
+    (is : AreComing values wide start before asked old end answered)
+    (kept : KeepsAll old.kept.entries new.kept.entries) {credit : Credit} where
   filled_so : (result : Result (Unit {0}) LinkError) → new.used ≡ 0
       → (read : ReadOver credit values (AsksSeveral asked wide) start now end new.client.end
       new.input.items result)
       → FilledSo values wide start now asked new end read.after answered result
   unfolding FilledSo ReadSo
   filled_so (Ok done) first read = (
-    coming_still new read.after ids kept read.same.accepted read.same.handed read.asks
+    coming_still new read.after kept read.same.accepted read.same.handed read.asks
         read.represents read.so.0 (rw first read.so.1) is,
     read.so.2,
   )
@@ -66,23 +64,21 @@ module _ {values : Values} {wide : ℕ} {start : Traffic} (before now : Traffic)
         represents = read.represents;
         linked = read.so.0;
         lost = λ id. [];
-        parts = λ id one.
-            let there : Contains old.ids.items id = rw ids at one in
-            rw (read.same.handed, kept) (is.parts id there
+        parts = λ id. rw (read.same.handed, kept id) (is.parts id
             ∙ ap (λ (rest : List OnStream). answered id ++ rest)
-            (sym (append-nil (kept_on id old.kept.items))));
+            (sym (append-nil (kept_on id old.kept.entries))));
         all = λ other id. refl;
         so = read.so.1;
       }
 
 -- What is chosen before a read by the credit of one stream may be returned.
-pub filled : (before now : Traffic) (old new : SeveralFetch) (id last : ℕ) (credit : Credit)
-    (result : Result (Unit {0}) LinkError) → new.ids ≡ old.ids → new.kept ≡ old.kept
+pub filled : (before now : Traffic) (old new : ClientConnection) (id last : ℕ) (credit : Credit)
+    (result : Result (Unit {0}) LinkError) → new.kept ≡ old.kept
     → new.used ≡ 0 → last ≡ length old.input.items
     → ChoosesCredit old.client.end id last (On id) credit
     → ReadsOver credit before now old.client.end new.client.end new.input.items result
     → FillsSeveral before now old new id result
-filled before now old new id last credit result ids kept first all chooses reads values wide start
+filled before now old new id last credit result kept first all chooses reads values wide start
     asked end answered is empty =
     let asks = AsksSeveral asked wide in
     let allows = chosen_allows id last (On id) asks tt chooses is.represents in
@@ -92,7 +88,7 @@ filled before now old new id last credit result ids kept first all chooses reads
     ∙ ap (λ (n : ℕ). credit_before end.log id n (On id)) all in (
       read.after,
       subst (λ (one : Credit). HasReturned one end read.after) chosen read.returned,
-      filled_so before now old new is ids (ap (λ queue. queue.items) kept) result first read,
+      filled_so before now old new is (λ i. rw kept refl) result first read,
     )
 
 -- The error of a client that can take no more is that of its connection, where that has failed.
@@ -138,18 +134,19 @@ ended_so start now why (ends_at_once up same is) = rw (same, is) (up_so start no
 ended_so start now why (ends_failed down stops) = stops
 
 -- In a call of `wait_for` something goes over the link.
-abbrev pub WaitsOn : (before now : Traffic) → (old new : SeveralFetch) → ℕ → (rounds : ℕ)
+abbrev pub WaitsOn : (before now : Traffic) → (old new : ClientConnection) → ℕ → (rounds : ℕ)
     → Type 0
 WaitsOn before now old new id rounds =
     (values : Values) (wide : ℕ) (start : Traffic) (asked : List AskedOn) (end : EndLog)
     (answered : AnsweredOn) → AreComing values wide start before asked old end answered
-    → kept_on id old.kept.items ≡ []
+    → kept_on id old.kept.entries ≡ []
     → AreGoing values wide start now asked new id end answered rounds
 
-pub waits_first : (now : Traffic) (fetch : SeveralFetch) (id : ℕ) → WaitsOn now now fetch fetch id 0
+pub waits_first : (now : Traffic) (fetch : ClientConnection) (id : ℕ) →
+    WaitsOn now now fetch fetch id 0
 waits_first now fetch id values wide start asked end answered is none = are_going id is none
 
-module _ (before between : Traffic) (old one two : SeveralFetch) (id rounds : ℕ)
+module _ (before between : Traffic) (old one two : ClientConnection) (id rounds : ℕ)
     (on : WaitsOn before between old one id rounds) where
   -- The next has come,
   pub waits_came : (came : Came) → TakesUntilCame one two id (Ok (Some came))
@@ -160,13 +157,13 @@ module _ (before between : Traffic) (old one two : SeveralFetch) (id rounds : �
       takes values wide start between asked go.after answered go.coming go.none
 
   -- or the client can take no more,
-  pub waits_ended : (now : Traffic) (three : SeveralFetch) (error result : LinkError)
-      → three.ids ≡ two.ids → three.kept.items ≡ two.kept.items
+  pub waits_ended : (now : Traffic) (three : ClientConnection) (error result : LinkError)
+      → three.kept ≡ two.kept
       → TakesUntilCame one two id (Err error)
       → EndsOver between now two.client.end three.client.end error result
       → WaitsFor before now old three id (Err result)
   unfolding TookCame CameSo
-  waits_ended now three error result ids kept takes ends values wide start asked end answered is
+  waits_ended now three error result kept takes ends values wide start asked end answered is
       none =
       let go = on values wide start asked end answered is none in
       let (after, last) =
@@ -179,15 +176,13 @@ module _ (before between : Traffic) (old one two : SeveralFetch) (id rounds : �
           represents = ended.represents;
           linked = ended.linked;
           lost = last.lost;
-          parts = λ i one.
-              let there : Contains two.ids.items i = rw ids at one in
-              rw (ended.same.handed, kept) (last.parts i there);
+          parts = λ i. rw (ended.same.handed, kept) (last.parts i);
           all = lost_none last.why ended.so;
           so = ended_so start now last.why ended.so;
         },
       )
 
-  module _ (now : Traffic) (three : SeveralFetch) (kept : three.kept ≡ two.kept)
+  module _ (now : Traffic) (three : ClientConnection) (kept : three.kept ≡ two.kept)
       (takes : TakesUntilCame one two id (Ok None)) where
     -- or a piece is read,
     pub waits_filled : (done : Unit {0}) → FillsSeveral between now two three id (Ok done)
@@ -218,7 +213,7 @@ module _ (before between : Traffic) (old one two : SeveralFetch) (id rounds : �
         fills values wide start asked after answered coming empty in (filled, stopped)
 
 -- There were as many rounds as may be.
-pub waits_no_round : (before now : Traffic) (old new : SeveralFetch) (id rounds : ℕ)
+pub waits_no_round : (before now : Traffic) (old new : ClientConnection) (id rounds : ℕ)
     → 2 ^ 64 - 1 ≤ rounds → WaitsOn before now old new id rounds
     → WaitsFor before now old new id (Err errors.NoProgress)
 unfolding CameSo
@@ -230,9 +225,9 @@ waits_no_round before now old new id rounds all on values wide start asked end a
         represents = go.coming.represents;
         linked = all_in_part go.coming.linked;
         lost = λ i. [];
-        parts = λ i one. go.coming.parts i one
+        parts = λ i. go.coming.parts i
             ∙ ap (λ (rest : List OnStream). answered i ++ rest)
-            (sym (append-nil (kept_on i new.kept.items)));
+            (sym (append-nil (kept_on i new.kept.entries)));
         all = λ other i. refl;
         so = inr (omega (arith, all, go.turns));
       },

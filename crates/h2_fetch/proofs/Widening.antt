@@ -10,7 +10,7 @@ use Rattle.h2_engines.proofs.ServeLinkLogs.{call_goes, goes_links}
 use Rattle.h2_fetch.specs.Several.{widens}
 use Rattle.h2_fetch.specs.Widening.{WidensFetch, WidensSeveral}
 use Rattle.h2_fetch.specs.declared.fetch.PartFetch.{PartFetch}
-use Rattle.h2_fetch.specs.declared.several.SeveralFetch.{SeveralFetch}
+use Rattle.h2_fetch.specs.declared.connection.ClientConnection.{ClientConnection}
 
 -- The call is quiet, whether it is refused or not.
 quiet_answer : (count : ℕ) (result : Result (Unit {0}) Refusal)
@@ -41,12 +41,12 @@ widens_fetch count result old new few answers id input used values message wide 
       },
     )
 
-pub widens_several : (count : ℕ) (result : Result (Unit {0}) Refusal) (old new : SeveralFetch)
+pub widens_several : (count : ℕ) (result : Result (Unit {0}) Refusal) (old new : ClientConnection)
     → count < 2 ^ 32 → EndAnswers old.client.end (Widen count) (answer_by (λ done. Done) result)
     new.client.end
-    → new.ids ≡ old.ids → new.kept ≡ old.kept → new.input ≡ old.input → new.used ≡ old.used
+    → new.kept ≡ old.kept → new.input ≡ old.input → new.used ≡ old.used
     → WidensSeveral count (answer_by (λ done. Done) result) old new
-widens_several count result old new few answers ids kept input used values wide start now asked end
+widens_several count result old new few answers kept input used values wide start now asked end
     answered on =
     let answer = answer_by (λ done. Done) result in
     let both = answers values end on.represents in
@@ -55,11 +55,10 @@ widens_several count result old new few answers ids kept input used values wide 
       record {
         fetching = widens on.fetching count answer (typed_widen count few) both.0;
         represents = both.1;
-        streams = rw ids on.streams;
         accepted = on.accepted;
         up = goes.failed ∙ on.up;
         linked = rw (input, used) (goes_links (given_within on.represents) goes on.linked);
-        parts = rw (ids, kept) on.parts;
+        parts = rw kept on.parts;
         dropped = rw kept on.dropped;
       },
     )

@@ -1,26 +1,24 @@
 -- What is kept of streams, and the first that is kept of one.
-use Rattle.std.specs.Prelude.{◌≡◌, ℕ, ◌==◌, List, [], ◌∷◌, ◌++◌, if◌then◌else◌, Option, Some}
-use Rattle.std.specs.Prelude.{Bool, None}
-use Rattle.h2_fetch.specs.declared.several.Came.{Came}
-use Rattle.h2_fetch.specs.Several.{OnStream, came_as, kept_on}
+use Rattle.std.specs.Prelude.{◌≡◌, ◌≢◌, ℕ, List, [], ◌∷◌, ◌++◌, Option, Some, None}
+use Rattle.h2_fetch.specs.declared.connection.Came.{Came}
+use Rattle.h2_fetch.specs.declared.kept.Queue.{Queue}
+use Rattle.h2_fetch.specs.Several.{came_as, kept_on}
 
--- whether something has come on a stream
-abbrev pub is_of : ℕ → (ℕ × Came) → Bool
-is_of id one = one.0 == id
+-- What is kept of each stream is what was; or of each other one.
+abbrev pub KeepsAll : (old new : List (ℕ × Queue)) → Type 0
+KeepsAll old new = (i : ℕ) → kept_on i new ≡ kept_on i old
 
--- what has come on a stream of its own, or nothing on another
-abbrev pub came_on : ℕ → Came → ℕ → List OnStream
-came_on id came i = if id == i then came_as id came ∷ [] else []
+abbrev pub KeepsElsewhere : ℕ → (old new : List (ℕ × Queue)) → Type 0
+KeepsElsewhere id old new = (i : ℕ) → i ≢ id → kept_on i new ≡ kept_on i old
 
--- The first that is kept of a stream is taken from there.
-pub record TakesFirstKept (id : ℕ) (old new : List (ℕ × Came)) (came : Came) : Type 0 where
-  pub before : List (ℕ × Came)
-  pub after : List (ℕ × Came)
-  pub was : old ≡ before ++ (id, came) ∷ after
-  pub left : new ≡ before ++ after
-  pub none : kept_on id before ≡ []
+-- The first that is kept of a stream is taken from there, or nothing is kept of it.
+unfoldable pub TakesKept : ℕ → (old new : List (ℕ × Queue)) → Option Came → Type 0
+TakesKept id old new None = (kept_on id old ≡ []) × KeepsAll old new
+TakesKept id old new (Some came) =
+    (kept_on id old ≡ came_as id came ∷ kept_on id new) × KeepsElsewhere id old new
 
--- So it is, or nothing is kept of the stream.
-unfoldable pub TakesKept : ℕ → (old new : List (ℕ × Came)) → Option Came → Type 0
-TakesKept id old new None = (kept_on id old ≡ []) × (new ≡ old)
-TakesKept id old new (Some came) = TakesFirstKept id old new came
+-- This is kept of a stream after all that was.
+pub record KeepsAlso (id : ℕ) (came : Came) (old new : List (ℕ × Queue)) : Type 0
+  where
+    pub last : kept_on id new ≡ kept_on id old ++ came_as id came ∷ []
+    pub others : KeepsElsewhere id old new

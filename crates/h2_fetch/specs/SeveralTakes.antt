@@ -1,17 +1,13 @@
 -- What a call of `take` has made of a client that makes several requests.
-use Rattle.std.specs.Prelude.{◌≡◌, ◌≢◌, ◌⊎◌, ◌==◌, ℕ, Bool, true, false, List, length, Option}
+use Rattle.std.specs.Prelude.{◌≡◌, ◌⊎◌, ◌==◌, ℕ, Bool, true, false, List, length, Option}
 use Rattle.std.specs.Prelude.{Some, None, Result, if◌then◌else◌}
 use Rattle.std.specs.Prelude.{Ok, Err}
-use Rattle.std.specs.List.{Contains}
 use Rattle.h2_spec_log.specs.Acts.{Values}
 use Rattle.h2_spec_log.specs.Events.{ResetEvent, UnprocessedEvent}
-use Rattle.h2_message.specs.Messages.{SentMessage}
 use Rattle.h2_ends.specs.declared.end.End.{End}
 use Rattle.h2_ends.specs.Ends.{EndLog, Handed, EndAnswer, EndTook, Passed, InterimHanded}
 use Rattle.h2_ends.specs.Ends.{HeadHanded, BodyHanded, TrailersHanded}
 use Rattle.h2_ends.specs.EndTakes.{EndMayTake}
-use Rattle.h2_ends.specs.EndCalls.{MayRequest}
-use Rattle.h2_ends.specs.declared.refusal.EndRefusal.{EndRefusal}
 use Rattle.h2_ends.specs.Represents.{EndRepresents}
 use Rattle.h2_link.specs.declared.error.LinkError.{LinkError}
 use Rattle.h2_engines.specs.Fetches.{refused_stream}
@@ -20,10 +16,9 @@ use Rattle.h2_fetch.specs.declared.coming.CameNext.{CameNext}
 use Rattle.h2_fetch.specs.declared.coming.CameNext.TheVariants as nexts
 use Rattle.h2_fetch.specs.declared.coming.CameTaken.{CameTaken}
 use Rattle.h2_fetch.specs.declared.part.ResponsePart.TheVariants as parts
-use Rattle.h2_fetch.specs.declared.several.Came.{Came}
-use Rattle.h2_fetch.specs.declared.several.Came.TheVariants.{Part, Dropped}
+use Rattle.h2_fetch.specs.declared.connection.Came.{Came}
+use Rattle.h2_fetch.specs.declared.connection.Came.TheVariants.{Part, Dropped}
 use Rattle.h2_fetch.specs.Parts.{handed_of}
-use Rattle.h2_fetch.specs.Several.{error_of_request}
 
 -- the stream of what was handed out, where that is a part of a final response, or no more comes on
 -- it
@@ -43,12 +38,12 @@ IsAsCame id (Dropped code) handed =
     ((ours : Bool) × (handed ≡ Passed (ResetEvent id code ours)))
     ⊎ ((code ≡ refused_stream) × (handed ≡ Passed (UnprocessedEvent id)))
 
--- What was handed out has come on one of these streams, or on none of them.
-abbrev pub HandsCame : (ids : List ℕ) → Option Handed → CameNext → Type 0
-HandsCame ids None (nexts.On id came) = ⊥
-HandsCame ids None next = Unit {0}
-HandsCame ids (Some handed) (nexts.On id came) = IsAsCame id came handed
-HandsCame ids (Some handed) next = (i : ℕ) → Contains ids i → stream_of_handed handed ≢ Some i
+-- What was handed out has come on a stream, or on none.
+abbrev pub HandsCame : Option Handed → CameNext → Type 0
+HandsCame None (nexts.On id came) = ⊥
+HandsCame None next = Unit {0}
+HandsCame (Some handed) (nexts.On id came) = IsAsCame id came handed
+HandsCame (Some handed) next = stream_of_handed handed ≡ None
 
 -- whether what has come says nothing: an interim response, or a part of a body without octets that
 -- ends nothing; no window bounds how many of them come
@@ -61,32 +56,18 @@ says_nothing next = false
 abbrev pub without_empty : CameNext → CameNext
 without_empty next = if says_nothing next then nexts.Again else next
 
--- what came of the octets that were handed to it: something on one of these streams, nothing with
--- some octets left, or nothing and all of them used
-unfoldable pub TakesCameSo : EndLog → (piece : List ℕ) → EndLog → (ids : List ℕ)
-    → Result CameTaken LinkError → Type 0
-TakesCameSo end piece after ids (Ok taken) =
+-- what came of the octets that were handed to it: something on a stream, nothing with some octets
+-- left, or nothing and all of them used
+unfoldable pub TakesCameSo : EndLog → (piece : List ℕ) → EndLog → Result CameTaken LinkError
+    → Type 0
+TakesCameSo end piece after (Ok taken) =
     (handed : Option Handed) × EndMayTake end piece (EndTook taken.used handed) after
-    × HandsCame ids handed taken.next × (taken.next ≡ nexts.Done → taken.used ≡ length piece)
-TakesCameSo end piece after ids (Err error) =
+    × HandsCame handed taken.next × (taken.next ≡ nexts.Done → taken.used ≡ length piece)
+TakesCameSo end piece after (Err error) =
     (answer : EndAnswer) × EndMayTake end piece answer after × ErrsServing answer error
 
 -- Whatever has happened at the client, octets were handed to `take` once.
-abbrev pub TakesCameOnce : (old new : End) → (ids piece : List ℕ) → Result CameTaken LinkError
-    → Type 0
-TakesCameOnce old new ids piece result =
+abbrev pub TakesCameOnce : (old new : End) → (piece : List ℕ) → Result CameTaken LinkError → Type 0
+TakesCameOnce old new piece result =
     (values : Values) (end : EndLog) → EndRepresents values old end
-    → (after : EndLog) × EndRepresents values new after × TakesCameSo end piece after ids result
-
--- what became of a request: it was accepted for a stream, or refused for this
-unfoldable pub RequestedSo : EndLog → SentMessage → EndLog → Result ℕ LinkError → Type 0
-RequestedSo end message after (Ok id) = MayRequest end message (Ok id) after
-RequestedSo end message after (Err error) =
-    (refusal : EndRefusal) × MayRequest end message (Err refusal) after
-    × (error ≡ error_of_request refusal)
-
--- Whatever has happened at the client, a request was made.
-abbrev pub RequestsOnce : (old new : End) → SentMessage → Result ℕ LinkError → Type 0
-RequestsOnce old new message result =
-    (values : Values) (end : EndLog) → EndRepresents values old end
-    → (after : EndLog) × EndRepresents values new after × RequestedSo end message after result
+    → (after : EndLog) × EndRepresents values new after × TakesCameSo end piece after result

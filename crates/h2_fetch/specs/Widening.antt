@@ -8,7 +8,7 @@ use Rattle.h2_ends.specs.Ends.{EndLog}
 use Rattle.h2_engines.specs.ClientHistories.{widened_by}
 use Rattle.h2_engines.specs.Linked.{Traffic}
 use Rattle.h2_fetch.specs.declared.fetch.PartFetch.{PartFetch}
-use Rattle.h2_fetch.specs.declared.several.SeveralFetch.{SeveralFetch}
+use Rattle.h2_fetch.specs.declared.connection.ClientConnection.{ClientConnection}
 use Rattle.h2_fetch.specs.Comings.{IsComing}
 use Rattle.h2_fetch.specs.Several.{AnsweredOn, AreComing, AskedOn}
 
@@ -25,7 +25,7 @@ WidensFetch count answer old new =
 
 -- The same of a client that fetches several responses.
 -- rule: 6.9.2 (own) The window of the connection is widened by a call, for good
-abbrev pub WidensSeveral : (count : ℕ) → Answer → (old new : SeveralFetch) → Type 0
+abbrev pub WidensSeveral : (count : ℕ) → Answer → (old new : ClientConnection) → Type 0
 WidensSeveral count answer old new =
     (values : Values) (wide : ℕ) (start now : Traffic) (asked : List AskedOn) (end : EndLog)
     (answered : AnsweredOn) → AreComing values wide start now asked old end answered

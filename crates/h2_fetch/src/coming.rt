@@ -1,4 +1,4 @@
-//! What a client received of several responses.
+//! What a client received of its responses.
 
 ghost use Rattle.std.specs.Prelude.{◌≡◌, ◌≢◌, ◌≤◌, IfErr, IfOk, Some, length};
 ghost use Rattle.h2_ends.specs.Loans.{event_handed};
@@ -6,9 +6,9 @@ ghost use Rattle.h2_engines.specs.Failures.{IsOfClient};
 ghost use Rattle.h2_fetch.specs.SeveralTakes.{HandsCame, TakesCameOnce, stream_of_handed};
 ghost use Rattle.h2_fetch.specs.SeveralTakes.{says_nothing, without_empty};
 
+use crate::connection::Came;
 use crate::errors::unless_failed;
 use crate::part::{ResponsePart, part_of};
-use crate::several::Came;
 use h2_ends::{Client, Code, EndEvent, FieldList};
 use h2_link::LinkError;
 use std::alloc::{AllocError, Global};
@@ -34,14 +34,13 @@ pub(crate) enum CameNext {
 }
 
 // rule: engines (own) Responses of several requests are what is handed out, each in order
-/// Hands octets to `take` once, and returns what came on one of these streams.
+/// Hands octets to `take` once, and returns what came on a stream.
 pub(crate) fn take_came(
     alloc: Global,
     client: &mut Client,
-    ids: &[u32],
     piece: &[u8],
 ) -> Result<CameTaken, LinkError>
-    ensures takes { TakesCameOnce client.old.end client.new.end ids.now piece.now result }
+    ensures takes { TakesCameOnce client.old.end client.new.end piece.now result }
     ensures within { IfOk result (λ taken. taken.used ≤ length piece.now) }
     ensures err { IfErr result IsOfClient }
     ensures goes { IfErr result (λ error. error ≢ LinkError.CutOff) }
@@ -58,7 +57,7 @@ pub(crate) fn take_came(
             next: CameNext::Done,
         }),
         Some(event) => {
-            let next = came_of(alloc, ids, event)?;
+            let next = came_of(alloc, event)?;
             Ok(CameTaken { used, next })
         }
     }
@@ -87,21 +86,14 @@ fn says_nothing(next: &CameNext) -> bool
 }
 
 // rule: engines (own) Responses of several requests are what is handed out, each in order
-/// Returns what an event says of one of these streams.
-fn came_of(
-    alloc: Global,
-    ids: &[u32],
-    event: EndEvent<&FieldList, &[u8]>,
-) -> Result<CameNext, AllocError>
-    ensures hands { IfOk result (HandsCame ids.now (Some (event_handed event.entry))) }
+/// Returns what an event says of a stream.
+fn came_of(alloc: Global, event: EndEvent<&FieldList, &[u8]>) -> Result<CameNext, AllocError>
+    ensures hands { IfOk result (HandsCame (Some (event_handed event.entry))) }
     ensures more { IfOk result (λ next. next ≢ CameNext.Done) }
 {
     let Some(id) = stream_of_handed(event) else {
         return Ok(CameNext::Again);
     };
-    if !ids.contains(&id) {
-        return Ok(CameNext::Again);
-    }
     match event {
         EndEvent::Reset { code, .. } => Ok(CameNext::On(id, Came::Dropped(code))),
         EndEvent::Unprocessed { .. } => {

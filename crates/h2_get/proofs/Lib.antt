@@ -2,6 +2,7 @@ pub mod Appending
 mod Bodies
 mod GatherLemmas
 mod Receiving
+mod RequestsMade
 mod SeveralInOrder
 mod SeveralParts
 mod SeveralPrinting

@@ -1,10 +1,8 @@
 -- How several responses are printed one after another.
 use Rattle.std.proofs.Common.{◌≡◌, ◌<◌, ℕ, ◌+◌, ◌==◌, true, false, List, [], ◌∷◌, ◌++◌, length}
-use Rattle.std.proofs.Common.{take, drop, get_or, Option, Result, Ok, Err, refl, sym, ap, ◌∙◌}
+use Rattle.std.proofs.Common.{take, drop, get_or, Option, Result, Ok, Err, refl, sym, ◌∙◌}
 use Rattle.std.proofs.Common.{subst, append-nil, Vec, Global}
 use Rattle.std.proofs.lemmas.List.{take-append-drop, take_more}
-use Rattle.std.proofs.lemmas.List.Elements.{Contains-get_or}
-use Rattle.std.specs.List.{Contains}
 use Rattle.std.specs.Prelude.{IfOk}
 use Rattle.h2_laws_pair.proofs.Lists.{all_both}
 use Rattle.h2_spec_log.specs.Acts.{Values}
@@ -12,7 +10,7 @@ use Rattle.h2_ends.specs.Ends.{EndLog, Handed}
 use Rattle.h2_link.specs.declared.error.LinkError.TheVariants as errors
 use Rattle.h2_engines.specs.Linked.{Traffic}
 use Rattle.h2_engines.specs.declared.fetcher.Fetched.{Fetched}
-use Rattle.h2_fetch.specs.declared.several.SeveralFetch.{SeveralFetch}
+use Rattle.h2_fetch.specs.declared.connection.ClientConnection.{ClientConnection}
 use Rattle.h2_fetch.specs.Several.{AnsweredOn, AreComing, AskedOn, DropOn}
 use Rattle.h2_args.specs.Words.{GetWords}
 use Rattle.h2_get.specs.declared.pass_error.StreamError.{StreamError}
@@ -24,7 +22,7 @@ use Rattle.h2_get.specs.Several.{one_is_dropped, opening_of, parts_came, prints_
 use Rattle.h2_get.proofs.SeveralParts.{coming_same, joined}
 
 -- These responses were printed, and the client fetches still.
-abbrev pub PrintsFirst : GetWords → (before now : Traffic) → (old new : SeveralFetch)
+abbrev pub PrintsFirst : GetWords → (before now : Traffic) → (old new : ClientConnection)
     → (written written_now : Option (List ℕ)) → (ids : List ℕ)
     → List (Result Fetched StreamError) → Type 0
 PrintsFirst words before now old new written written_now ids results =
@@ -34,41 +32,41 @@ PrintsFirst words before now old new written written_now ids results =
     × GoesOnWith values wide start now asked new answered
 
 -- At first none was.
-pub prints_first : (words : GetWords) (now : Traffic) (fetch : SeveralFetch)
+pub prints_first : (words : GetWords) (now : Traffic) (fetch : ClientConnection)
     (written : Option (List ℕ)) → PrintsFirst words now now fetch fetch written written [] []
 prints_first words now fetch written values wide start asked end is =
     ((λ id. []), prints_none, (end, is))
 
 -- All of them were.
-pub prints_all : (words : GetWords) (before now : Traffic) (old new : SeveralFetch)
-    (written written_now : Option (List ℕ)) (ids : List ℕ)
-    (results : List (Result Fetched StreamError)) → old.ids.items ≡ ids → AllGoOn results
+pub prints_all : (words : GetWords) (before now : Traffic) (old new : ClientConnection)
+    (written written_now : Option (List ℕ)) (all ids : List ℕ)
+    (results : List (Result Fetched StreamError)) → all ≡ ids → AllGoOn results
     → PrintsFirst words before now old new written written_now ids results
-    → StreamsSeveral words before now old new written written_now results
-prints_all words before now old new written written_now ids results all good first values wide start
-    asked end is =
+    → StreamsSeveral words all before now old new written written_now results
+prints_all words before now old new written written_now all ids results same good first values wide
+    start asked end streams is =
     let so = first values wide start asked end is in (
       ids,
       [],
       so.0,
-      sym is.streams ∙ all ∙ sym (append-nil ids),
+      streams ∙ same ∙ sym (append-nil ids),
       so.1,
       all_printed results good refl so.2,
     )
 
 -- What went over a link went over some link.
-pub over_some_link : {E : Type 0} (words : GetWords) (before now : Traffic)
-    (old new : SeveralFetch) (written written_now : Option (List ℕ))
+pub over_some_link : {E : Type 0} (words : GetWords) (ids : List ℕ) (before now : Traffic)
+    (old new : ClientConnection) (written written_now : Option (List ℕ))
     (result : Result (Vec (Result Fetched StreamError) Global) E)
-    → IfOk result (λ results. StreamsSeveral words before now old new written written_now
+    → IfOk result (λ results. StreamsSeveral words ids before now old new written written_now
     results.items)
-    → IfOk result (λ results. SeveralOver words old new written written_now results.items)
-over_some_link words before now old new written written_now (Ok results) so = (before, now, so)
-over_some_link words before now old new written written_now (Err error) so = tt
+    → IfOk result (λ results. SeveralOver words ids old new written written_now results.items)
+over_some_link words ids before now old new written written_now (Ok results) so = (before, now, so)
+over_some_link words ids before now old new written written_now (Err error) so = tt
 
 -- After a response that doesn't end all the client fetches still.
 goes_after : {values : Values} {wide : ℕ} {start now : Traffic} {asked : List AskedOn}
-    {fetch : SeveralFetch} (answered : AnsweredOn) (id : ℕ) (came : List Handed)
+    {fetch : ClientConnection} (answered : AnsweredOn) (id : ℕ) (came : List Handed)
     (result : Result Fetched StreamError)
     → ends_all result ≡ false
     → StandsAfter values wide start now asked fetch id
@@ -90,7 +88,7 @@ goes_after answered id came (Err error) goes stands = absurd (cc)
 
 -- After one that does, it stands so.
 ends_after : (values : Values) (wide : ℕ) (start now : Traffic) (asked : List AskedOn)
-    (fetch : SeveralFetch) (answered : AnsweredOn) (id : ℕ) (came : List Handed)
+    (fetch : ClientConnection) (answered : AnsweredOn) (id : ℕ) (came : List Handed)
     (result : Result Fetched StreamError)
     → ends_all result ≡ true
     → StandsAfter values wide start now asked fetch id
@@ -106,53 +104,49 @@ ends_after values wide start now asked fetch answered id came (Err (streams.Link
     (one_is_dropped after code is coming dropped) = absurd (cc)
 ends_after values wide start now asked fetch answered id came (Err error) ends stands = stands
 
-module _ (words : GetWords) (before middle now : Traffic) (old self new : SeveralFetch)
-    (written printed written_now : Option (List ℕ)) (place : ℕ)
+module _ (words : GetWords) (before middle now : Traffic) (old self new : ClientConnection)
+    (written printed written_now : Option (List ℕ)) (ids : List ℕ) (place : ℕ)
     (results : List (Result Fetched StreamError))
-    (first : PrintsFirst words before middle old self written printed (take place old.ids.items)
-    results) (good : AllGoOn results) (count : length results ≡ place) (ids : self.ids ≡ old.ids)
-    (within : place < length old.ids.items) (read : List ℕ) (same : read ≡ old.ids.items)
+    (first : PrintsFirst words before middle old self written printed (take place ids) results)
+    (good : AllGoOn results) (count : length results ≡ place) (within : place < length ids)
     (result : Result Fetched StreamError)
-    (streams_on : StreamsOn words (place == 0) middle now self new (get_or read place 0) printed
+    (streams_on : StreamsOn words (place == 0) middle now self new (get_or ids place 0) printed
     written_now result) where
   -- The next was printed, or has ended early.
   prints_next : (values : Values) (wide : ℕ) (start : Traffic) (asked : List AskedOn) (end : EndLog)
       → AreComing values wide start before asked old end (λ id. [])
       → (answered : AnsweredOn) × (came : List Handed)
-      × PrintsSeveral words written (take (place + 1) old.ids.items) written_now
-      (answered_more answered (get_or read place 0) (answered_for came result))
+      × PrintsSeveral words written (take (place + 1) ids) written_now
+      (answered_more answered (get_or ids place 0) (answered_for came result))
       (results ++ result ∷ [])
-      × StandsAfter values wide start now asked new (get_or read place 0)
-      (answered_more answered (get_or read place 0) (parts_came came)) result
+      × StandsAfter values wide start now asked new (get_or ids place 0)
+      (answered_more answered (get_or ids place 0) (parts_came came)) result
   prints_next values wide start asked end is =
-      let id = get_or read place 0 in
+      let id = get_or ids place 0 in
       let so = first values wide start asked end is in
-      let there : Contains self.ids.items id =
-      rw (ids, same) (Contains-get_or old.ids.items place 0 within) in
-      let next = streams_on values wide start asked so.2.0 so.0 there so.2.1 in
+      let next = streams_on values wide start asked so.2.0 so.0 so.2.1 in
       let after = answered_more so.0 id (answered_for next.0 result) in
       let prints : PrintsParts words (opening_of (length results == 0)) id next.0 printed
       written_now result =
       subst (λ (n : ℕ). PrintsParts words (opening_of (n == 0)) id next.0 printed written_now
       result) (sym count) next.1 in
-      let more : take place old.ids.items ++ id ∷ [] ≡ take (place + 1) old.ids.items =
-      ap (λ (xs : List ℕ). take place old.ids.items ++ get_or xs place 0 ∷ []) same
-      ∙ sym (take_more old.ids.items place 0 within) in (
+      let more : take place ids ++ id ∷ [] ≡ take (place + 1) ids =
+      sym (take_more ids place 0 within) in (
         so.0,
         next.0,
         subst (λ (xs : List ℕ). PrintsSeveral words written xs written_now after
             (results ++ result ∷ [])) more
-            (prints_one (take place old.ids.items) id results result printed written_now so.0
+            (prints_one (take place ids) id results result printed written_now so.0
             next.0 so.1 good prints),
         next.2,
       )
 
   -- It goes on,
   pub prints_more : ends_all result ≡ false
-      → PrintsFirst words before now old new written written_now (take (place + 1) old.ids.items)
+      → PrintsFirst words before now old new written written_now (take (place + 1) ids)
       (results ++ result ∷ [])
   prints_more goes values wide start asked end is =
-      let id = get_or read place 0 in
+      let id = get_or ids place 0 in
       let so = prints_next values wide start asked end is in (
         answered_more so.0 id (answered_for so.1 result),
         so.2,
@@ -164,14 +158,14 @@ module _ (words : GetWords) (before middle now : Traffic) (old self new : Severa
 
   -- or no more are printed.
   pub prints_last : ends_all result ≡ true
-      → StreamsSeveral words before now old new written written_now (results ++ result ∷ [])
-  prints_last ends values wide start asked end is =
-      let id = get_or read place 0 in
+      → StreamsSeveral words ids before now old new written written_now (results ++ result ∷ [])
+  prints_last ends values wide start asked end streams is =
+      let id = get_or ids place 0 in
       let so = prints_next values wide start asked end is in (
-        take (place + 1) old.ids.items,
-        drop (place + 1) old.ids.items,
+        take (place + 1) ids,
+        drop (place + 1) ids,
         answered_more so.0 id (answered_for so.1 result),
-        sym is.streams ∙ sym (take-append-drop (place + 1) old.ids.items),
+        streams ∙ sym (take-append-drop (place + 1) ids),
         so.2,
         last_ends results result ends (ends_after values wide start now asked new so.0 id so.1
             result ends so.3),

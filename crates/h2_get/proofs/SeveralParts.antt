@@ -8,7 +8,6 @@ use Rattle.std.proofs.Math.Seq.{take-append-add}
 use Rattle.std.proofs.lemmas.Bool.{eq-eqb}
 use Rattle.std.proofs.lemmas.List.{length-map, map-append}
 use Rattle.std.specs.Io.KnownBytes.{Appends}
-use Rattle.std.specs.List.{Contains}
 use Rattle.hpack.specs.declared.types.field.Field.{Field}
 use Rattle.h2_spec_log.specs.Acts.{Values, Number, PutOut, Release, Widen}
 use Rattle.h2_spec_log.specs.Events.{ResetEvent, UnprocessedEvent}
@@ -25,14 +24,14 @@ use Rattle.h2_engines.proofs.MachineViews.{all_in_part}
 use Rattle.h2_engines.proofs.TakeMessages.{taken_says}
 use Rattle.h2_engines.proofs.TurnsPassed.{turns_of_answer, turns_of_call, turns_of_take}
 use Rattle.h2_fetch.specs.declared.part.ResponsePart.{ResponsePart}
-use Rattle.h2_fetch.specs.declared.several.Came.TheVariants.{Dropped, Part}
-use Rattle.h2_fetch.specs.declared.several.SeveralFetch.{SeveralFetch}
+use Rattle.h2_fetch.specs.declared.connection.Came.TheVariants.{Dropped, Part}
+use Rattle.h2_fetch.specs.declared.connection.ClientConnection.{ClientConnection}
 use Rattle.h2_fetch.specs.Parts.{handed_of, is_on}
 use Rattle.h2_fetch.specs.Several.{AnsweredOn, AnswersNextOn, AreComing, AskedOn, CameSo, DropOn}
 use Rattle.h2_fetch.specs.Several.{HaveStopped, IsFetchingSeveral, OnStream, PartOn, all_on, as_on}
-use Rattle.h2_fetch.specs.Several.{begins, gives_out, kept_on, pumps, releases, releases_on}
-use Rattle.h2_fetch.specs.Several.{widens}
-use Rattle.h2_fetch.specs.Several.{requests, takes}
+use Rattle.h2_fetch.specs.Several.{begins, gives_out, kept_on, pumps, refuses, releases}
+use Rattle.h2_fetch.specs.Several.{releases_on, requests, takes, widens}
+use Rattle.h2_fetch.proofs.RefusedRequests.{refused_keeps}
 use Rattle.h2_get.specs.declared.pass_error.PassError.{PassError}
 use Rattle.h2_get.specs.declared.pass_error.PassError.TheVariants as passes
 use Rattle.h2_get.specs.declared.pass_error.Passed.TheVariants.{Whole}
@@ -51,25 +50,24 @@ IsSame one two = (i : ℕ) → one i ≡ two i
 
 -- A client fetches still where the same was answered.
 pub coming_same : {values : Values} {wide : ℕ} {start now : Traffic} {asked : List AskedOn}
-    {fetch : SeveralFetch} {end : EndLog} {one : AnsweredOn} (two : AnsweredOn) → IsSame one two
+    {fetch : ClientConnection} {end : EndLog} {one : AnsweredOn} (two : AnsweredOn) → IsSame one two
     → AreComing values wide start now asked fetch end one
     → AreComing values wide start now asked fetch end two
 coming_same {fetch = fetch} two same is =
     record {
       fetching = is.fetching;
       represents = is.represents;
-      streams = is.streams;
       accepted = is.accepted;
       up = is.up;
       linked = is.linked;
-      parts = λ i there. is.parts i there
-          ∙ ap (λ (first : List OnStream). first ++ kept_on i fetch.kept.items) (same i);
+      parts = λ i. is.parts i
+          ∙ ap (λ (first : List OnStream). first ++ kept_on i fetch.kept.entries) (same i);
       dropped = is.dropped;
     }
 
 -- So it is where the fetch has ended early.
 pub stopped_same : {values : Values} {wide : ℕ} {start now : Traffic} {asked : List AskedOn}
-    {fetch : SeveralFetch} {end : EndLog} {one : AnsweredOn} {error : LinkError}
+    {fetch : ClientConnection} {end : EndLog} {one : AnsweredOn} {error : LinkError}
     (two : AnsweredOn) → IsSame one two
     → HaveStopped values wide start now asked fetch end one error
     → HaveStopped values wide start now asked fetch end two error
@@ -79,8 +77,8 @@ stopped_same {fetch = fetch} two same is =
       represents = is.represents;
       linked = is.linked;
       lost = is.lost;
-      parts = λ i there. is.parts i there
-          ∙ ap (λ (first : List OnStream). first ++ (kept_on i fetch.kept.items ++ is.lost i))
+      parts = λ i. is.parts i
+          ∙ ap (λ (first : List OnStream). first ++ (kept_on i fetch.kept.entries ++ is.lost i))
           (same i);
       all = is.all;
       so = is.so;
@@ -93,7 +91,7 @@ more_same two same id more i =
     ap (λ (first : List OnStream). first ++ (if id == i then more else [])) (same i)
 
 pub stops_same : {values : Values} {wide : ℕ} {start now : Traffic} {asked : List AskedOn}
-    {fetch : SeveralFetch} {id : ℕ} {one : AnsweredOn} {error : LinkError}
+    {fetch : ClientConnection} {id : ℕ} {one : AnsweredOn} {error : LinkError}
     (two : AnsweredOn) → IsSame one two → StopsOn values wide start now asked fetch id one error
     → StopsOn values wide start now asked fetch id two error
 stops_same two same (all_stop after stopped) = all_stop after (stopped_same two same stopped)
@@ -124,7 +122,7 @@ parts_joined answered id first second i =
     (sym (map-append PartOn first second))
 
 pub coming_joined : {values : Values} {wide : ℕ} {start now : Traffic} {asked : List AskedOn}
-    {fetch : SeveralFetch} {end : EndLog} (answered : AnsweredOn) (id : ℕ)
+    {fetch : ClientConnection} {end : EndLog} (answered : AnsweredOn) (id : ℕ)
     (first second : List Handed)
     → AreComing values wide start now asked fetch end
     (answered_more (answered_more answered id (parts_came first)) id (parts_came second))
@@ -175,6 +173,8 @@ handed_within (requests {end = before} was id message may) =
       handed_within was,
       turns_of_call before.log (opened_with (at_once message)) (Number id),
     ))
+handed_within (refuses {end = before} {after = after} was message refusal may) =
+    refused_keeps IsWithinTurns calls_within before message refusal after may (handed_within was)
 handed_within (takes was piece answer may) = take_within answer may (handed_within was)
 handed_within (releases {end = before} {after = after} was result may) =
     released_keeps IsWithinTurns calls_within before result after may (handed_within was)
@@ -217,14 +217,13 @@ on_at_most id (one ∷ handed) =
 
 -- No more was answered of a stream than turns have passed.
 answered_within : {values : Values} {wide : ℕ} {start now : Traffic} {asked : List AskedOn}
-    {fetch : SeveralFetch} {end : EndLog} (answered : AnsweredOn) (id : ℕ) (came : List Handed)
-    → Contains fetch.ids.items id
+    {fetch : ClientConnection} {end : EndLog} (answered : AnsweredOn) (id : ℕ) (came : List Handed)
     → AreComing values wide start now asked fetch end (answered_more answered id (parts_came came))
     → length came ≤ length end.log.turns
-answered_within {fetch = fetch} {end} answered id came there is =
-    let kept = kept_on id fetch.kept.items in
+answered_within {fetch = fetch} {end} answered id came is =
+    let kept = kept_on id fetch.kept.entries in
     let parts : all_on id end.handed ≡ (answered id ++ parts_came came) ++ kept =
-    is.parts id there
+    is.parts id
     ∙ ap (λ (first : List OnStream). first ++ kept)
     (here_answered answered id (parts_came came)) in
     omega (
@@ -238,32 +237,32 @@ answered_within {fetch = fetch} {end} answered id came there is =
     )
 
 -- The next part, or how the stream or the fetch has ended.
-pub part_comes : (before now : Traffic) (old new : SeveralFetch) (id : ℕ) (part : ResponsePart)
+pub part_comes : (before now : Traffic) (old new : ClientConnection) (id : ℕ) (part : ResponsePart)
     → AnswersNextOn before now old new id (Ok (Part part))
     → AnswersPartOn before now old new id (Ok part)
 unfolding CameSo PartOnSo
-part_comes before now old new id part answers values wide start asked end answered there is =
-    let so = answers values wide start asked end answered there is in (so.0, so.1)
+part_comes before now old new id part answers values wide start asked end answered is =
+    let so = answers values wide start asked end answered is in (so.0, so.1)
 
-pub part_dropped : (before now : Traffic) (old new : SeveralFetch) (id code : ℕ)
+pub part_dropped : (before now : Traffic) (old new : ClientConnection) (id code : ℕ)
     → AnswersNextOn before now old new id (Ok (Dropped code))
     → AnswersPartOn before now old new id (Err (errors.Reset code))
 unfolding CameSo PartOnSo
-part_dropped before now old new id code answers values wide start asked end answered there is =
-    let so = answers values wide start asked end answered there is in
+part_dropped before now old new id code answers values wide start asked end answered is =
+    let so = answers values wide start asked end answered is in
     one_is_dropped so.0 code refl so.1 (so.2 code refl)
 
-pub part_stops : (before now : Traffic) (old new : SeveralFetch) (id : ℕ) (error : LinkError)
+pub part_stops : (before now : Traffic) (old new : ClientConnection) (id : ℕ) (error : LinkError)
     → AnswersNextOn before now old new id (Err error)
     → AnswersPartOn before now old new id (Err error)
 unfolding CameSo PartOnSo
-part_stops before now old new id error answers values wide start asked end answered there is =
-    let so = answers values wide start asked end answered there is in all_stop so.0 so.1
+part_stops before now old new id error answers values wide start asked end answered is =
+    let so = answers values wide start asked end answered is in all_stop so.0 so.1
 
 -- The client fetches still, and these parts, one in each round, have come of a stream, for which
 -- something holds.
 pub record IsPassingOn (P : List Handed → Type 0) (values : Values) (wide : ℕ) (start now : Traffic)
-    (asked : List AskedOn) (fetch : SeveralFetch) (id : ℕ) (answered : AnsweredOn) (rounds : ℕ)
+    (asked : List AskedOn) (fetch : ClientConnection) (id : ℕ) (answered : AnsweredOn) (rounds : ℕ)
     : Type 0 where
   pub after : EndLog
   pub came : List Handed
@@ -274,16 +273,16 @@ pub record IsPassingOn (P : List Handed → Type 0) (values : Values) (wide : �
 
 -- Whatever had happened at first, it is so now.
 abbrev pub PartsOn : (P : List Handed → Type 0) → (before now : Traffic)
-    → (old new : SeveralFetch) → (id rounds : ℕ) → Type 0
+    → (old new : ClientConnection) → (id rounds : ℕ) → Type 0
 PartsOn P before now old new id rounds =
     (values : Values) (wide : ℕ) (start : Traffic) (asked : List AskedOn) (end : EndLog)
-    (answered : AnsweredOn) → Contains old.ids.items id
-    → AreComing values wide start before asked old end answered
+    (answered : AnsweredOn) → AreComing values wide start before asked old end answered
     → IsPassingOn P values wide start now asked new id answered rounds
 
-pub parts_first : (P : List Handed → Type 0) (now : Traffic) (fetch : SeveralFetch) (id : ℕ) → P []
+pub parts_first : (P : List Handed → Type 0) (now : Traffic) (fetch : ClientConnection) (id : ℕ) →
+    P []
     → PartsOn P now now fetch fetch id 0
-parts_first P now fetch id holds values wide start asked end answered there is =
+parts_first P now fetch id holds values wide start asked end answered is =
     record {
       after = end;
       came = [];
@@ -294,67 +293,65 @@ parts_first P now fetch id holds values wide start asked end answered there is =
 
 -- Parts came, something holds for them, and then the response has ended early.
 abbrev pub PartsStop : (P : List Handed → Type 0) → (before now : Traffic)
-    → (old new : SeveralFetch) → (id : ℕ) → LinkError → Type 0
+    → (old new : ClientConnection) → (id : ℕ) → LinkError → Type 0
 PartsStop P before now old new id error =
     (values : Values) (wide : ℕ) (start : Traffic) (asked : List AskedOn) (end : EndLog)
-    (answered : AnsweredOn) → Contains old.ids.items id
-    → AreComing values wide start before asked old end answered
+    (answered : AnsweredOn) → AreComing values wide start before asked old end answered
     → (came : List Handed)
     × StopsOn values wide start now asked new id (answered_more answered id (parts_came came)) error
     × P came
 
-module _ (P : List Handed → Type 0) (before middle now : Traffic) (old self new : SeveralFetch)
-    (id rounds : ℕ) (on : PartsOn P before middle old self id rounds) (ids : self.ids ≡ old.ids)
-  where
-    -- One part more has come,
-    pub parts_one : (Q : List Handed → Type 0) (part : ResponsePart)
-        → ((came : List Handed) → P came → Q (came ++ handed_of id part ∷ []))
-        → AnswersPartOn middle now self new id (Ok part)
-        → PartsOn Q before now old new id (rounds + 1)
-    unfolding PartOnSo
-    parts_one Q part holds answers values wide start asked end answered there is =
-        let go = on values wide start asked end answered there is in
-        let one = handed_of id part in
-        let next = answers values wide start asked go.after
-        (answered_more answered id (parts_came go.came)) (rw ids there) go.coming in
-        record {
-          after = next.0;
-          came = go.came ++ one ∷ [];
-          coming = coming_joined answered id go.came (one ∷ []) next.1;
-          holds = holds go.came go.holds;
-          count = omega (arith, go.count, length-append go.came (one ∷ []));
-        }
+module _ (P : List Handed → Type 0) (before middle now : Traffic) (old self new : ClientConnection)
+    (id rounds : ℕ) (on : PartsOn P before middle old self id rounds) where
+  -- One part more has come,
+  pub parts_one : (Q : List Handed → Type 0) (part : ResponsePart)
+      → ((came : List Handed) → P came → Q (came ++ handed_of id part ∷ []))
+      → AnswersPartOn middle now self new id (Ok part)
+      → PartsOn Q before now old new id (rounds + 1)
+  unfolding PartOnSo
+  parts_one Q part holds answers values wide start asked end answered is =
+      let go = on values wide start asked end answered is in
+      let one = handed_of id part in
+      let next = answers values wide start asked go.after
+      (answered_more answered id (parts_came go.came)) go.coming in
+      record {
+        after = next.0;
+        came = go.came ++ one ∷ [];
+        coming = coming_joined answered id go.came (one ∷ []) next.1;
+        holds = holds go.came go.holds;
+        count = omega (arith, go.count, length-append go.came (one ∷ []));
+      }
 
-    -- or the response has ended early.
-    pub parts_stop : (error : LinkError) → AnswersPartOn middle now self new id (Err error)
-        → PartsStop P before now old new id error
-    unfolding PartOnSo
-    parts_stop error answers values wide start asked end answered there is =
-        let go = on values wide start asked end answered there is in (
-          go.came,
-          answers values wide start asked go.after (answered_more answered id (parts_came go.came))
-              (rw ids there) go.coming,
-          go.holds,
-        )
+  -- or the response has ended early.
+  pub parts_stop : (error : LinkError) → AnswersPartOn middle now self new id (Err error)
+      → PartsStop P before now old new id error
+  unfolding PartOnSo
+  parts_stop error answers values wide start asked end answered is =
+      let go = on values wide start asked end answered is in (
+        go.came,
+        answers values wide start asked go.after (answered_more answered id (parts_came go.came))
+            go.coming,
+        go.holds,
+      )
 
 -- There were as many rounds as may be.
-pub no_part_left : (P : List Handed → Type 0) (before now : Traffic) (old new : SeveralFetch)
-    (id rounds : ℕ) → 2 ^ 64 - 1 ≤ rounds → new.ids ≡ old.ids
+pub no_part_left : (P : List Handed → Type 0) (before now : Traffic) (old new : ClientConnection)
+    (id rounds : ℕ) → 2 ^ 64 - 1 ≤ rounds
     → PartsOn P before now old new id rounds → PartsStop P before now old new id errors.NoProgress
-no_part_left P before now old new id rounds all ids on values wide start asked end answered there
+no_part_left P before now old new id rounds all on values wide start asked end answered
     is =
-    let go = on values wide start asked end answered there is in
-    let within = answered_within answered id go.came (rw ids there) go.coming in (
+    let go = on values wide start asked end answered is in
+    let within = answered_within answered id go.came go.coming in (
       go.came,
       all_stop go.after (record {
         fetching = go.coming.fetching;
         represents = go.coming.represents;
         linked = all_in_part go.coming.linked;
         lost = λ i. [];
-        parts = λ i one. go.coming.parts i one
+        parts = λ i. go.coming.parts i
             ∙ ap (λ (rest : List OnStream). answered_more answered id (parts_came go.came) i
             ++ rest)
-            (sym (append-nil (kept_on i new.kept.items)));
+            (sym (append-nil (kept_on i new.kept.entries)));
         all = λ other i. refl;
         so = inr (omega (arith, all, go.count, within));
       }),
@@ -362,13 +359,13 @@ no_part_left P before now old new id rounds all ids on values wide start asked e
     )
 
 -- The head has come,
-pub head_comes_on : (before now : Traffic) (old new : SeveralFetch) (id rounds : ℕ)
+pub head_comes_on : (before now : Traffic) (old new : ClientConnection) (id rounds : ℕ)
     (head : ResponseHead)
     → PartsOn (λ came. HeadCame id came head) before now old new id rounds
     → HeadComesOn before now old new id (Ok head)
 unfolding HeadOnSo
-head_comes_on before now old new id rounds head on values wide start asked end answered there is =
-    let go = on values wide start asked end answered there is in
+head_comes_on before now old new id rounds head on values wide start asked end answered is =
+    let go = on values wide start asked end answered is in
     (go.came, ((go.after, go.coming), go.holds))
 
 pub head_came : (id : ℕ) (part : ResponsePart) (head : ResponseHead) → head_in part ≡ Some head
@@ -381,12 +378,12 @@ head_came id part head is came none =
     }
 
 -- or the response has ended early.
-pub head_stops_on : (before now : Traffic) (old new : SeveralFetch) (id : ℕ) (error : LinkError)
+pub head_stops_on : (before now : Traffic) (old new : ClientConnection) (id : ℕ) (error : LinkError)
     → PartsStop HasNoHead before now old new id error
     → HeadComesOn before now old new id (Err error)
 unfolding HeadOnSo
-head_stops_on before now old new id error stops values wide start asked end answered there is =
-    let so = stops values wide start asked end answered there is in (so.0, (so.1, so.2))
+head_stops_on before now old new id error stops values wide start asked end answered is =
+    let so = stops values wide start asked end answered is in (so.0, (so.1, so.2))
 
 -- The body has ended, and all of it was written;
 abbrev pub EndsWritten : (id : ℕ) → (written now : Option (List ℕ)) → Option (Vec Field Global)
@@ -404,14 +401,14 @@ ends_written id start written written_now part trailers passes came all = (
   writes_one id start written written_now part passes.0 came all,
 )
 
-pub body_whole_on : (before now : Traffic) (old new : SeveralFetch) (id rounds : ℕ)
+pub body_whole_on : (before now : Traffic) (old new : ClientConnection) (id rounds : ℕ)
     (written written_now : Option (List ℕ)) (trailers : Option (Vec Field Global))
     → PartsOn (EndsWritten id written written_now trailers) before now old new id rounds
     → PassesBodyOn before now old new id written written_now (Ok trailers)
 unfolding PassedOnSo
 body_whole_on before now old new id rounds written written_now trailers on values wide start asked
-    end answered there is =
-    let go = on values wide start asked end answered there is in
+    end answered is =
+    let go = on values wide start asked end answered is in
     (go.came, ((go.after, go.coming), go.holds.0, go.holds.1))
 
 -- or only its first octets were written, and then a write has failed,
@@ -436,22 +433,22 @@ writes_first id start written written_now part error passes came all =
           (Appends-trans start written written_now _ _ all passes.1.2)),
     )
 
-pub body_first_on : (before now : Traffic) (old new : SeveralFetch) (id rounds : ℕ)
+pub body_first_on : (before now : Traffic) (old new : ClientConnection) (id rounds : ℕ)
     (written written_now : Option (List ℕ))
     → PartsOn (WritesFirst written written_now) before now old new id rounds
     → PassesBodyOn before now old new id written written_now (Err passes.Output)
 unfolding PassedOnSo
 body_first_on before now old new id rounds written written_now on values wide start asked end
-    answered there is =
-    let go = on values wide start asked end answered there is in
+    answered is =
+    let go = on values wide start asked end answered is in
     (go.came, ((go.after, go.coming), go.holds))
 
 -- or the response has ended early.
-pub body_stops_on : (before now : Traffic) (old new : SeveralFetch) (id : ℕ)
+pub body_stops_on : (before now : Traffic) (old new : ClientConnection) (id : ℕ)
     (start written : Option (List ℕ)) (error : LinkError)
     → PartsStop (Written start written) before now old new id error
     → PassesBodyOn before now old new id start written (Err (passes.Link error))
 unfolding PassedOnSo
 body_stops_on before now old new id start written error stops values wide first asked end answered
-    there is =
-    let so = stops values wide first asked end answered there is in (so.0, (so.1, so.2))
+    is =
+    let so = stops values wide first asked end answered is in (so.0, (so.1, so.2))

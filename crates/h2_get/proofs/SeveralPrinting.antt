@@ -9,7 +9,7 @@ use Rattle.h2_link.specs.declared.error.LinkError.TheVariants as errors
 use Rattle.h2_engines.specs.Failures.{failures_by}
 use Rattle.h2_engines.specs.Linked.{Traffic}
 use Rattle.h2_engines.specs.declared.fetcher.Fetched.{Fetched}
-use Rattle.h2_fetch.specs.declared.several.SeveralFetch.{SeveralFetch}
+use Rattle.h2_fetch.specs.declared.connection.ClientConnection.{ClientConnection}
 use Rattle.h2_args.specs.Words.{GetWords}
 use Rattle.h2_get.specs.declared.pass_error.PassError.TheVariants as passes
 use Rattle.h2_get.specs.declared.pass_error.ResponseHead.{ResponseHead}
@@ -29,11 +29,11 @@ failed_never failures errors.Device goes = absurd (cc)
 failed_never failures error goes = refl
 
 -- What a response begins with could not be printed.
-pub unopened : (words : GetWords) (is_first : Bool) (now : Traffic) (fetch : SeveralFetch) (id : ℕ)
+pub unopened : (words : GetWords) (is_first : Bool) (now : Traffic) (fetch : ClientConnection)
+    (id : ℕ)
     (written written_now : Option (List ℕ))
     → StreamsOn words is_first now now fetch fetch id written written_now (Err streams.Output)
-unopened words is_first now fetch id written written_now values wide start asked end answered there
-    is =
+unopened words is_first now fetch id written written_now values wide start asked end answered is =
     ([], tt, (end, coming_same (answered_more answered id []) (none_answered answered id) is))
 
 -- Of a response that is whole with its head nothing follows that.
@@ -46,7 +46,8 @@ none_follows true false written = Appends-nil written
 none_follows false true written = Appends-nil written
 none_follows false false written = Appends-nil written
 
-module _ (words : GetWords) (is_first : Bool) (before middle : Traffic) (old self : SeveralFetch)
+module _ (words : GetWords) (is_first : Bool) (before middle : Traffic)
+    (old self : ClientConnection)
     (id : ℕ) (written opened : Option (List ℕ))
     (opens : Appends written opened (opening_of is_first)) where
   -- The response has ended early before its head came.
@@ -54,8 +55,8 @@ module _ (words : GetWords) (is_first : Bool) (before middle : Traffic) (old sel
       → StreamsOn words is_first before middle old self id written opened
       (Err (streams.Link error))
   unfolding HeadOnSo
-  printed_nothing error comes values wide start asked end answered there is =
-      let so = comes values wide start asked end answered there is in
+  printed_nothing error comes values wide start asked end answered is =
+      let so = comes values wide start asked end answered is in
       (so.0, (opened, opens, shows_nothing so.0 so.1.1 (Appends-nil opened)), so.1.0)
 
   module _ (head : ResponseHead) (comes : HeadComesOn before middle old self id (Ok head)) where
@@ -64,8 +65,8 @@ module _ (words : GetWords) (is_first : Bool) (before middle : Traffic) (old sel
         → StreamsOn words is_first before middle old self id written written_now
         (Err streams.Output)
     unfolding HeadOnSo
-    head_unprinted written_now values wide start asked end answered there is =
-        let so = comes values wide start asked end answered there is in (so.0, tt, so.1.0)
+    head_unprinted written_now values wide start asked end answered is =
+        let so = comes values wide start asked end answered is in (so.0, tt, so.1.0)
 
     module _ (fetched : Fetched) (is : fetched.head ≡ head.list) (printed : Option (List ℕ))
         (prints : PrintsHead words opened printed fetched.head.items) where
@@ -73,8 +74,8 @@ module _ (words : GetWords) (is_first : Bool) (before middle : Traffic) (old sel
       pub head_alone : fails_as_asked words fetched ≡ true
           → StreamsOn words is_first before middle old self id written printed (Ok fetched)
       unfolding HeadOnSo
-      head_alone fails values wide start asked end answered there coming =
-          let so = comes values wide start asked end answered there coming in (
+      head_alone fails values wide start asked end answered coming =
+          let so = comes values wide start asked end answered coming in (
             so.0,
             (
               opened,
@@ -89,8 +90,8 @@ module _ (words : GetWords) (is_first : Bool) (before middle : Traffic) (old sel
       pub whole_with_head : fails_as_asked words fetched ≡ false → head.end ≡ true
           → StreamsOn words is_first before middle old self id written printed (Ok fetched)
       unfolding HeadOnSo
-      whole_with_head good ends values wide start asked end answered there coming =
-          let so = comes values wide start asked end answered there coming in (
+      whole_with_head good ends values wide start asked end answered coming =
+          let so = comes values wide start asked end answered coming in (
             so.0,
             (
               opened,
@@ -111,7 +112,7 @@ module _ (words : GetWords) (is_first : Bool) (before middle : Traffic) (old sel
             so.1.0,
           )
 
-      module _ (now : Traffic) (new : SeveralFetch) (ids : self.ids ≡ old.ids)
+      module _ (now : Traffic) (new : ClientConnection)
           (no_file : words.output ≡ None) (written_now : Option (List ℕ)) where
         -- All of it was printed.
         pub printed_whole : (last : Option (List ℕ)) (trailers : Option (Vec Field Global))
@@ -121,10 +122,10 @@ module _ (words : GetWords) (is_first : Bool) (before middle : Traffic) (old sel
             → StreamsOn words is_first before now old new id written last (Ok fetched)
         unfolding HeadOnSo PassedOnSo
         printed_whole last trailers good goes passes trailing values wide start asked end answered
-            there coming =
-            let so = comes values wide start asked end answered there coming in
+            coming =
+            let so = comes values wide start asked end answered coming in
             let next = passes values wide start asked so.1.0.0
-            (answered_more answered id (parts_came so.0)) (rw ids there) so.1.0.1 in (
+            (answered_more answered id (parts_came so.0)) so.1.0.1 in (
               so.0 ++ next.0,
               (
                 opened,
@@ -152,10 +153,10 @@ module _ (words : GetWords) (is_first : Bool) (before middle : Traffic) (old sel
             → StreamsOn words is_first before now old new id written written_now
             (Err (streams.Link error))
         unfolding HeadOnSo PassedOnSo
-        printed_first error passes values wide start asked end answered there coming =
-            let so = comes values wide start asked end answered there coming in
+        printed_first error passes values wide start asked end answered coming =
+            let so = comes values wide start asked end answered coming in
             let next = passes values wide start asked so.1.0.0
-            (answered_more answered id (parts_came so.0)) (rw ids there) so.1.0.1 in (
+            (answered_more answered id (parts_came so.0)) so.1.0.1 in (
               so.0 ++ next.0,
               (
                 opened,
@@ -172,10 +173,10 @@ module _ (words : GetWords) (is_first : Bool) (before middle : Traffic) (old sel
             → PassesBodyOn middle now self new id printed written_now (Ok trailers)
             → StreamsOn words is_first before now old new id written last (Err streams.Output)
         unfolding HeadOnSo PassedOnSo
-        trailers_unprinted last trailers passes values wide start asked end answered there coming =
-            let so = comes values wide start asked end answered there coming in
+        trailers_unprinted last trailers passes values wide start asked end answered coming =
+            let so = comes values wide start asked end answered coming in
             let next = passes values wide start asked so.1.0.0
-            (answered_more answered id (parts_came so.0)) (rw ids there) so.1.0.1 in (
+            (answered_more answered id (parts_came so.0)) so.1.0.1 in (
               so.0 ++ next.0,
               tt,
               (next.1.0.0, coming_joined answered id so.0 next.0 next.1.0.1),
@@ -187,10 +188,10 @@ module _ (words : GetWords) (is_first : Bool) (before middle : Traffic) (old sel
             → StreamsOn words is_first before now old new id written written_now
             (Err streams.Output)
         unfolding HeadOnSo PassedOnSo
-        body_unprinted passes values wide start asked end answered there coming =
-            let so = comes values wide start asked end answered there coming in
+        body_unprinted passes values wide start asked end answered coming =
+            let so = comes values wide start asked end answered coming in
             let next = passes values wide start asked so.1.0.0
-            (answered_more answered id (parts_came so.0)) (rw ids there) so.1.0.1 in (
+            (answered_more answered id (parts_came so.0)) so.1.0.1 in (
               so.0 ++ next.0,
               tt,
               (next.1.0.0, coming_joined answered id so.0 next.0 next.1.0.1),

@@ -1,3 +1,4 @@
+pub mod Asking
 pub mod Gathers
 pub mod Ports
 pub mod Receives

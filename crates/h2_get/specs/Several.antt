@@ -1,9 +1,9 @@
 -- What is printed of several responses that come over one connection, one after another.
-use Rattle.std.specs.Prelude.{◌≡◌, ◌⊎◌, ◌<◌, ◌==◌, ◌/◌, ℕ, Bool, true, false, List, [], ◌∷◌, ◌++◌}
-use Rattle.std.specs.Prelude.{if◌then◌else◌, length, max, take, map, codes, Option, Result, Ok}
+use Rattle.std.specs.Prelude.{◌≡◌, ◌⊎◌, ◌<◌, ◌==◌, ℕ, Bool, true, false, List, [], ◌∷◌, ◌++◌}
+use Rattle.std.specs.Prelude.{if◌then◌else◌, length, take, map, codes, Option, Result, Ok}
 use Rattle.std.specs.Prelude.{Err, Vec, MatchBool}
 use Rattle.std.specs.Global.{Global}
-use Rattle.std.specs.List.{AllByRecursion, Contains}
+use Rattle.std.specs.List.{AllByRecursion}
 use Rattle.std.specs.Io.KnownBytes.{Appends}
 use Rattle.hpack.specs.declared.types.field.Field.{Field}
 use Rattle.h2_spec_log.specs.Acts.{Values}
@@ -15,11 +15,12 @@ use Rattle.h2_engines.specs.Fetches.{WasDropped}
 use Rattle.h2_engines.specs.Linked.{Traffic}
 use Rattle.h2_engines.specs.declared.fetcher.Fetched.{Fetched}
 use Rattle.h2_fetch.specs.declared.part.ResponsePart.{ResponsePart}
-use Rattle.h2_fetch.specs.declared.several.SeveralFetch.{SeveralFetch}
+use Rattle.h2_fetch.specs.declared.connection.ClientConnection.{ClientConnection}
 use Rattle.h2_fetch.specs.Parts.{handed_of}
 use Rattle.h2_fetch.specs.Several.{AnsweredOn, AreComing, AskedOn, DropOn, HaveStopped, OnStream}
-use Rattle.h2_fetch.specs.Several.{PartOn, RefusesOne}
+use Rattle.h2_fetch.specs.Several.{PartOn}
 use Rattle.h2_args.specs.Words.{GetWords}
+use Rattle.h2_get.specs.Asking.{RefusesOne}
 use Rattle.h2_get.specs.declared.pass_error.PassError.{PassError}
 use Rattle.h2_get.specs.declared.pass_error.PassError.TheVariants as passes
 use Rattle.h2_get.specs.declared.pass_error.ResponseHead.{ResponseHead}
@@ -41,7 +42,8 @@ abbrev pub parts_came : (came : List Handed) → List OnStream
 parts_came came = map PartOn came
 
 -- The fetch goes on, and this was answered of each stream.
-abbrev pub GoesOnWith : Values → (wide : ℕ) → (start now : Traffic) → List AskedOn → SeveralFetch
+abbrev pub GoesOnWith : Values → (wide : ℕ) → (start now : Traffic) → List AskedOn →
+    ClientConnection
     → AnsweredOn → Type 0
 GoesOnWith values wide start now asked fetch answered =
     (after : EndLog) × AreComing values wide start now asked fetch after answered
@@ -50,7 +52,7 @@ GoesOnWith values wide start now asked fetch answered =
 -- this code, while the fetch goes on, and that was answered too.
 -- rule: engines (own) Several responses are printed in the order of their URLs
 pub data StopsOn (values : Values) (wide : ℕ) (start now : Traffic) (asked : List AskedOn)
-    (fetch : SeveralFetch) (id : ℕ) (answered : AnsweredOn) (error : LinkError) : Type 0 where
+    (fetch : ClientConnection) (id : ℕ) (answered : AnsweredOn) (error : LinkError) : Type 0 where
   all_stop : (after : EndLog) → HaveStopped values wide start now asked fetch after answered error
       → StopsOn values wide start now asked fetch id answered error
   one_is_dropped : (after : EndLog) (code : ℕ) → error ≡ errors.Reset code
@@ -59,7 +61,8 @@ pub data StopsOn (values : Values) (wide : ℕ) (start now : Traffic) (asked : L
       → WasDropped after id code → StopsOn values wide start now asked fetch id answered error
 
 -- the next part of the response on a stream, or how it has ended early
-unfoldable pub PartOnSo : Values → (wide : ℕ) → (start now : Traffic) → List AskedOn → SeveralFetch
+unfoldable pub PartOnSo : Values → (wide : ℕ) → (start now : Traffic) → List AskedOn →
+    ClientConnection
     → (id : ℕ) → AnsweredOn → Result ResponsePart LinkError → Type 0
 PartOnSo values wide start now asked fetch id answered (Ok part) =
     GoesOnWith values wide start now asked fetch
@@ -67,16 +70,16 @@ PartOnSo values wide start now asked fetch id answered (Ok part) =
 PartOnSo values wide start now asked fetch id answered (Err error) =
     StopsOn values wide start now asked fetch id answered error
 
-abbrev pub AnswersPartOn : (before now : Traffic) → (old new : SeveralFetch) → (id : ℕ)
+abbrev pub AnswersPartOn : (before now : Traffic) → (old new : ClientConnection) → (id : ℕ)
     → Result ResponsePart LinkError → Type 0
 AnswersPartOn before now old new id result =
     (values : Values) (wide : ℕ) (start : Traffic) (asked : List AskedOn) (end : EndLog)
-    (answered : AnsweredOn) → Contains old.ids.items id
-    → AreComing values wide start before asked old end answered
+    (answered : AnsweredOn) → AreComing values wide start before asked old end answered
     → PartOnSo values wide start now asked new id answered result
 
 -- the head of the response on a stream, which comes after these parts
-unfoldable pub HeadOnSo : Values → (wide : ℕ) → (start now : Traffic) → List AskedOn → SeveralFetch
+unfoldable pub HeadOnSo : Values → (wide : ℕ) → (start now : Traffic) → List AskedOn →
+    ClientConnection
     → (id : ℕ) → AnsweredOn → (came : List Handed) → Result ResponseHead LinkError → Type 0
 HeadOnSo values wide start now asked fetch id answered came (Ok head) =
     GoesOnWith values wide start now asked fetch (answered_more answered id (parts_came came))
@@ -85,18 +88,17 @@ HeadOnSo values wide start now asked fetch id answered came (Err error) =
     StopsOn values wide start now asked fetch id (answered_more answered id (parts_came came)) error
     × HasNoHead came
 
-abbrev pub HeadComesOn : (before now : Traffic) → (old new : SeveralFetch) → (id : ℕ)
+abbrev pub HeadComesOn : (before now : Traffic) → (old new : ClientConnection) → (id : ℕ)
     → Result ResponseHead LinkError → Type 0
 HeadComesOn before now old new id result =
     (values : Values) (wide : ℕ) (start : Traffic) (asked : List AskedOn) (end : EndLog)
-    (answered : AnsweredOn) → Contains old.ids.items id
-    → AreComing values wide start before asked old end answered
+    (answered : AnsweredOn) → AreComing values wide start before asked old end answered
     → (came : List Handed) × HeadOnSo values wide start now asked new id answered came result
 
 -- What was written of the body that has come on a stream since: all of it, where the response is
 -- whole, and where it has ended early; or only its first octets, where a write has failed.
 unfoldable pub PassedOnSo : Values → (wide : ℕ) → (start now : Traffic) → List AskedOn
-    → SeveralFetch → (id : ℕ) → AnsweredOn → (came : List Handed)
+    → ClientConnection → (id : ℕ) → AnsweredOn → (came : List Handed)
     → (written written_now : Option (List ℕ)) → Result (Option (Vec Field Global)) PassError
     → Type 0
 PassedOnSo values wide start now asked fetch id answered came written written_now (Ok trailers) =
@@ -113,13 +115,12 @@ PassedOnSo values wide start now asked fetch id answered came written written_no
     × ((count : ℕ) × (count < length (body_handed came))
     × Appends written written_now (take count (body_handed came)))
 
-abbrev pub PassesBodyOn : (before now : Traffic) → (old new : SeveralFetch) → (id : ℕ)
+abbrev pub PassesBodyOn : (before now : Traffic) → (old new : ClientConnection) → (id : ℕ)
     → (written written_now : Option (List ℕ)) → Result (Option (Vec Field Global)) PassError
     → Type 0
 PassesBodyOn before now old new id written written_now result =
     (values : Values) (wide : ℕ) (start : Traffic) (asked : List AskedOn) (end : EndLog)
-    (answered : AnsweredOn) → Contains old.ids.items id
-    → AreComing values wide start before asked old end answered
+    (answered : AnsweredOn) → AreComing values wide start before asked old end answered
     → (came : List Handed)
     × PassedOnSo values wide start now asked new id answered came written written_now result
 
@@ -139,7 +140,8 @@ PrintsParts words opening id came before after (Err (streams.Link error)) =
 PrintsParts words opening id came before after (Err error) = Unit {0}
 
 -- how a fetch stands once a response was printed, or has ended early
-abbrev pub StandsAfter : Values → (wide : ℕ) → (start now : Traffic) → List AskedOn → SeveralFetch
+abbrev pub StandsAfter : Values → (wide : ℕ) → (start now : Traffic) → List AskedOn →
+    ClientConnection
     → (id : ℕ) → AnsweredOn → Result Fetched StreamError → Type 0
 StandsAfter values wide start now asked fetch id answered (Err (streams.Link error)) =
     StopsOn values wide start now asked fetch id answered error
@@ -155,12 +157,11 @@ opening_of is_first = if is_first then [] else codes "\n"
 -- printed as it comes.
 -- rule: engines (own) Several responses are printed in the order of their URLs
 abbrev pub StreamsOn : GetWords → (is_first : Bool) → (before now : Traffic)
-    → (old new : SeveralFetch) → (id : ℕ) → (written written_now : Option (List ℕ))
+    → (old new : ClientConnection) → (id : ℕ) → (written written_now : Option (List ℕ))
     → Result Fetched StreamError → Type 0
 StreamsOn words is_first before now old new id written written_now result =
     (values : Values) (wide : ℕ) (start : Traffic) (asked : List AskedOn) (end : EndLog)
-    (answered : AnsweredOn) → Contains old.ids.items id
-    → AreComing values wide start before asked old end answered
+    (answered : AnsweredOn) → AreComing values wide start before asked old end answered
     → (came : List Handed)
     × PrintsParts words (opening_of is_first) id came written written_now result
     × StandsAfter values wide start now asked new id
@@ -203,7 +204,8 @@ pub data PrintsSeveral (words : GetWords) (before : Option (List ℕ))
 
 -- how a fetch stands after a response that ends all
 -- rule: engines (own) Several responses are printed in the order of their URLs
-abbrev pub StandsAtEnd : Values → (wide : ℕ) → (start now : Traffic) → List AskedOn → SeveralFetch
+abbrev pub StandsAtEnd : Values → (wide : ℕ) → (start now : Traffic) → List AskedOn →
+    ClientConnection
     → AnsweredOn → Result Fetched StreamError → Type 0
 StandsAtEnd values wide start now asked fetch answered (Err (streams.Link error)) =
     (after : EndLog) × HaveStopped values wide start now asked fetch after answered error
@@ -214,7 +216,7 @@ StandsAtEnd values wide start now asked fetch answered result =
 -- it goes on; or the last of them has ended all.
 -- rule: engines (own) Several responses are printed in the order of their URLs
 pub data StandSo (values : Values) (wide : ℕ) (start now : Traffic) (asked : List AskedOn)
-    (fetch : SeveralFetch) (more : List ℕ) (answered : AnsweredOn)
+    (fetch : ClientConnection) (more : List ℕ) (answered : AnsweredOn)
     : List (Result Fetched StreamError) → Type 0 where
   all_printed : (results : List (Result Fetched StreamError)) → AllGoOn results → more ≡ []
       → GoesOnWith values wide start now asked fetch answered
@@ -227,27 +229,30 @@ pub data StandSo (values : Values) (wide : ℕ) (start now : Traffic) (asked : L
 -- that ends all.
 -- rule: engines (own) Several responses are printed in the order of their URLs
 abbrev pub StreamedSeveral : GetWords → Values → (wide : ℕ) → (start now : Traffic) → List AskedOn
-    → SeveralFetch → (before after : Option (List ℕ)) → List (Result Fetched StreamError) → Type 0
+    → ClientConnection → (before after : Option (List ℕ)) → List (Result Fetched StreamError) →
+    Type 0
 StreamedSeveral words values wide start now asked fetch before after results =
     (ids more : List ℕ) × (answered : AnsweredOn) × (map (λ one. one.0) asked ≡ ids ++ more)
     × PrintsSeveral words before ids after answered results
     × StandSo values wide start now asked fetch more answered results
 
--- Of a client that has made several requests, of whose responses nothing came before, they were
--- printed.
+-- Of a client that has made several requests, on these streams, of whose responses nothing came
+-- before, they were printed.
 -- rule: engines (own) Several responses are printed in the order of their URLs
-abbrev pub StreamsSeveral : GetWords → (before now : Traffic) → (old new : SeveralFetch)
-    → (written written_now : Option (List ℕ)) → List (Result Fetched StreamError) → Type 0
-StreamsSeveral words before now old new written written_now results =
+abbrev pub StreamsSeveral : GetWords → (ids : List ℕ) → (before now : Traffic)
+    → (old new : ClientConnection) → (written written_now : Option (List ℕ))
+    → List (Result Fetched StreamError) → Type 0
+StreamsSeveral words ids before now old new written written_now results =
     (values : Values) (wide : ℕ) (start : Traffic) (asked : List AskedOn) (end : EndLog)
+    → map (λ one. one.0) asked ≡ ids
     → AreComing values wide start before asked old end (λ id. [])
     → StreamedSeveral words values wide start now asked new written written_now results
 
 -- This went over some link.
-abbrev pub SeveralOver : GetWords → (old new : SeveralFetch)
+abbrev pub SeveralOver : GetWords → (ids : List ℕ) → (old new : ClientConnection)
     → (written written_now : Option (List ℕ)) → List (Result Fetched StreamError) → Type 0
-SeveralOver words old new written written_now results = (before now : Traffic)
-    × StreamsSeveral words before now old new written written_now results
+SeveralOver words ids old new written written_now results = (before now : Traffic)
+    × StreamsSeveral words ids before now old new written written_now results
 
 -- what came of each of several responses, without hints; or why none was asked for
 abbrev pub results_of : Result SeveralStreamed StreamEnding
@@ -271,9 +276,10 @@ pub data StreamsRequests (words : GetWords) (messages : List SentMessage)
       → RefusesOne (several_values (window_of words) (length messages)) messages error
       ⊎ IsNotWidened error
       → after ≡ before → StreamsRequests words messages before after (Err (streams.Link error))
-  are_streamed : (begun fetch : SeveralFetch) (results : List (Result Fetched StreamError))
-      → BeginsSeveralWithWindow (window_of words) messages begun
-      → SeveralOver words begun fetch before after results
+  are_streamed : (ids : List ℕ) (begun fetch : ClientConnection)
+      (results : List (Result Fetched StreamError))
+      → BeginsSeveralWithWindow (window_of words) messages ids begun
+      → SeveralOver words ids begun fetch before after results
       → StreamsRequests words messages before after (Ok results)
   results_lost : StreamsRequests words messages before after
       (Err (streams.Link errors.Memory))

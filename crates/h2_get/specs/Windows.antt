@@ -6,13 +6,13 @@ use Rattle.h2_message.specs.Messages.{SentMessage}
 use Rattle.h2_link.specs.declared.error.LinkError.{LinkError}
 use Rattle.h2_link.specs.declared.error.LinkError.TheVariants as errors
 use Rattle.h2_fetch.specs.declared.fetch.PartFetch.{PartFetch}
-use Rattle.h2_fetch.specs.declared.several.SeveralFetch.{SeveralFetch}
+use Rattle.h2_fetch.specs.declared.connection.ClientConnection.{ClientConnection}
 use Rattle.h2_fetch.specs.Comings.{BeginsFetch}
-use Rattle.h2_fetch.specs.Several.{BeginsSeveral}
 use Rattle.h2_fetch.specs.Widening.{WidensFetch, WidensSeveral}
 use Rattle.h2_net.specs.Fetching.{default_values}
 use Rattle.h2_args.specs.Windows.{window_or}
 use Rattle.h2_args.specs.Words.{GetWords}
+use Rattle.h2_get.specs.Asking.{BeginsSeveral}
 
 -- the window that words ask for: 4 MiB, where they say nothing; none, where they don't give a size
 -- rule: engines (own) get has the window of --window, for the connection and for each stream
@@ -39,9 +39,10 @@ pub data WidensTo (window : ℕ) (old : PartFetch) : (new : PartFetch) → Type 
 
 -- The same of a client that fetches several responses.
 -- rule: engines (own) get has the window of --window, for the connection and for each stream
-pub data WidensSeveralTo (window : ℕ) (old : SeveralFetch) : (new : SeveralFetch) → Type 0 where
+pub data WidensSeveralTo (window : ℕ) (old : ClientConnection) : (new : ClientConnection) →
+    Type 0 where
   have_window : window ≤ 65535 → WidensSeveralTo window old old
-  ask_more : (new : SeveralFetch) → 65535 < window → WidensSeveral (window - 65535) Done old new
+  ask_more : (new : ClientConnection) → 65535 < window → WidensSeveral (window - 65535) Done old new
       → WidensSeveralTo window old new
 
 -- A fetch whose connection can't be widened is not begun: memory was refused, or so many octets of
@@ -69,10 +70,11 @@ window_among window streams = if streams == 0 then window else max 1 (window / s
 abbrev pub several_values : (window requests : ℕ) → Values
 several_values window requests = fetch_values (window_among window requests)
 
--- A new client has made its requests, and nothing has come; the connection has this window.
+-- A new client has made its requests, on these streams, and nothing has come; the connection has
+-- this window.
 -- rule: engines (own) get has the window of --window, for the connection and for each stream
-pub record BeginsSeveralWithWindow (window : ℕ) (messages : List SentMessage) (fetch : SeveralFetch)
-    : Type 0 where
-  pub begun : SeveralFetch
-  pub begins : BeginsSeveral (several_values window (length messages)) messages begun
+pub record BeginsSeveralWithWindow (window : ℕ) (messages : List SentMessage) (ids : List ℕ)
+    (fetch : ClientConnection) : Type 0 where
+  pub begun : ClientConnection
+  pub begins : BeginsSeveral (several_values window (length messages)) messages ids begun
   pub widened : WidensSeveralTo window begun fetch

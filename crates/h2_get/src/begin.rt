@@ -4,16 +4,17 @@ ghost use Rattle.std.specs.Prelude.{◌≡◌, ◌⊎◌, Err, IfErr, IfOk, OnOk
 ghost use Rattle.h2_message.specs.Values.{message_value};
 ghost use Rattle.h2_args.specs.Words.{asked_by};
 ghost use Rattle.h2_engines.specs.Fetches.{IsNotAccepted};
-ghost use Rattle.h2_fetch.specs.Several.{RefusesOne};
+ghost use Rattle.h2_flow.specs.ConfigValues.{values_of};
+ghost use Rattle.h2_get.specs.Asking.{BeginsSeveral, MakesNext, RefusesOne, error_of_request};
 ghost use Rattle.h2_get.specs.Windows.{BeginsSeveralWithWindow, BeginsWithWindow, WidensSeveralTo};
 ghost use Rattle.h2_get.specs.Windows.{IsNotWidened, WidensTo};
 ghost use Rattle.h2_get.specs.Windows.{fetch_values, several_values, window_among, window_asked};
 ghost use Rattle.h2_get.specs.Windows.{window_of};
 
 use h2_args::{GetOptions, window_or};
-use h2_ends::Refusal;
+use h2_ends::{EndRefusal, Refusal};
 use h2_engines::{Config, Message};
-use h2_fetch::{PartFetch, SeveralFetch};
+use h2_fetch::{ClientConnection, PartFetch};
 use h2_frame::limits::{FIRST_TABLE, FIRST_WINDOW, LEAST_MAX_STREAMS};
 use h2_net::LinkError;
 use std::alloc::Global;
@@ -63,16 +64,26 @@ pub(crate) fn begin_fetch(
     }
 }
 
+/// Requests that were made at once on a new connection.
+#[derive(Drop)]
+pub(crate) struct BegunRequests {
+    /// The connection.
+    pub(crate) fetch: ClientConnection,
+    /// The streams of the requests, in their order.
+    pub(crate) ids: Vec<u32>,
+}
+
 // rule: engines (own) A response that is waited for has its window, and no other
 // rule: engines (own) get has the window of --window, for the connection and for each stream
-/// Begins a fetch of several responses. The connection has this window, and each stream its share
-/// of it.
+/// Makes several requests at once on a new connection, which has this window, and each stream its
+/// share of it.
 pub(crate) fn begin_several(
     alloc: Global,
     window: u32,
     messages: Vec<Message>,
-) -> Result<SeveralFetch, LinkError>
-    ensures ok { IfOk result (BeginsSeveralWithWindow window (map message_value messages.items)) }
+) -> Result<BegunRequests, LinkError>
+    ensures ok { IfOk result (λ begun. BeginsSeveralWithWindow window
+        (map message_value messages.items) begun.ids.items begun.fetch) }
     ensures refused { IfErr result (λ error. RefusesOne
         (several_values window (length messages.items)) (map message_value messages.items) error
         ⊎ IsNotWidened error) }
@@ -81,13 +92,66 @@ pub(crate) fn begin_several(
     let Ok(config) = Config::new(FIRST_TABLE, share, LEAST_MAX_STREAMS) else {
         return Err(LinkError::Memory);
     };
-    let mut fetch = match SeveralFetch::new(alloc, config, messages) {
-        Ok(fetch) => fetch,
+    let mut begun = match request_all(alloc, config, messages) {
+        Ok(begun) => begun,
         Err(error) => return Err(error),
     };
-    match widen_several(&mut fetch, window) {
-        Ok(()) => Ok(fetch),
+    match widen_several(&mut begun.fetch, window) {
+        Ok(()) => Ok(begun),
         Err(error) => Err(error),
+    }
+}
+
+/// Makes requests on a new connection, in their order.
+///
+/// # Errors
+///
+/// - [`LinkError::Memory`] (N3) where an allocation was refused.
+/// - [`LinkError::NoProgress`] (N5) where the client refuses a request for a reason that is
+///   neither N3 nor N7: there are more than 100 requests (C4), or 65,536 octets or more of
+///   output wait already (C7).
+/// - [`LinkError::Refused`] (N7) where a message breaks a rule, or its head or its trailers
+///   are larger than 65,536 octets, with 32 counted for each field.
+fn request_all(
+    alloc: Global,
+    config: Config,
+    messages: Vec<Message>,
+) -> Result<BegunRequests, LinkError>
+    ensures ok { IfOk result (λ begun. BeginsSeveral (values_of config)
+        (map message_value messages.items) begun.ids.items begun.fetch) }
+    ensures err { IfErr result (RefusesOne (values_of config) (map message_value messages.items)) }
+{
+    let Ok(mut fetch) = ClientConnection::new(alloc, config) else {
+        return Err(LinkError::Memory);
+    };
+    let mut ids = Vec::new(alloc);
+    for message in messages {
+        let id = request_next(&mut fetch, message)?;
+        if ids.push(id).is_err() {
+            return Err(LinkError::Memory);
+        }
+    }
+    Ok(BegunRequests { fetch, ids })
+}
+
+/// Makes a request, and returns its stream; or returns how the fetch ends, if it was refused.
+fn request_next(fetch: &mut ClientConnection, message: Message) -> Result<u32, LinkError>
+    ensures { MakesNext (message_value message) result fetch.old fetch.new }
+{
+    match fetch.request(message) {
+        Ok(id) => Ok(id),
+        Err((_, refusal)) => Err(error_of_request(refusal)),
+    }
+}
+
+/// Returns how a fetch ends whose request was refused.
+fn error_of_request(refusal: EndRefusal) -> LinkError
+    ensures { result ≡ error_of_request refusal }
+{
+    match refusal {
+        EndRefusal::BadMessage(_) | EndRefusal::Conn(Refusal::ListTooLarge) => LinkError::Refused,
+        EndRefusal::Conn(Refusal::Memory) => LinkError::Memory,
+        _ => LinkError::NoProgress,
     }
 }
 
@@ -126,7 +190,7 @@ fn widen_fetch(fetch: &mut PartFetch, window: u32) -> Result<(), LinkError>
 }
 
 /// As [`widen_fetch`], for several responses.
-fn widen_several(fetch: &mut SeveralFetch, window: u32) -> Result<(), LinkError>
+fn widen_several(fetch: &mut ClientConnection, window: u32) -> Result<(), LinkError>
     ensures ok { OnOk result (WidensSeveralTo window fetch.old fetch.new) }
     ensures err { IfErr result IsNotWidened }
 {

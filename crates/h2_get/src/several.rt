@@ -15,7 +15,7 @@ use crate::response::is_failure;
 use crate::stream::{fetched_with, print_head, print_last};
 use h2_args::GetOptions;
 use h2_engines::Link;
-use h2_fetch::{Came, ResponsePart, SeveralFetch};
+use h2_fetch::{Came, ClientConnection, ResponsePart};
 use h2_message::Field;
 use h2_net::{Fetched, LinkError};
 use std::alloc::{AllocError, Global};
@@ -23,8 +23,8 @@ use std::io::Write;
 
 // contract: engines (own) Several responses are printed in the order of their URLs
 // rule: engines (own) Several responses are printed in the order of their URLs
-/// Prints the responses of several requests: each as [`crate::stream_response`] does, in the
-/// order of the requests, with a newline between them. The current one is printed as it arrives;
+/// Prints the responses on these streams: each as [`crate::stream_response`] does, in this order,
+/// with a newline between them. The current one is printed as it arrives;
 /// what arrives of later ones is kept. A reset stream does not end the others; any other error
 /// ends all. Returns the results up to that. Of a response that `--fail` makes a failure, as much
 /// of the body as its window allows still arrives. `options` must not name a file.
@@ -35,20 +35,21 @@ use std::io::Write;
 pub fn stream_several<L: Link, W: Write>(
     alloc: Global,
     options: &GetOptions<'_>,
-    fetch: &mut SeveralFetch,
+    fetch: &mut ClientConnection,
+    ids: &[u32],
     link: &mut L,
     out: &mut W,
 ) -> Result<Vec<Result<Fetched, StreamError>>, AllocError>
     requires faults { L.faults link.old < 2 ^ 64 - 1 }
     requires no_file { (asked_by options.now).output ≡ None }
-    ensures { IfOk result (λ results. StreamsSeveral (asked_by options.now)
+    ensures { IfOk result (λ results. StreamsSeveral (asked_by options.now) ids.now
         (traffic (L.given link.old) (L.taken link.old) (L.stalled link.old))
         (traffic (L.given link.new) (L.taken link.new) (L.stalled link.new))
         fetch.old fetch.new (W.contents out.old) (W.contents out.new) results.items) }
 {
     let mut results = Vec::new(alloc);
-    for place in 0..fetch.streams().len() {
-        let id = fetch.streams()[place];
+    for place in 0..ids.len() {
+        let id = ids[place];
         let result = stream_on(alloc, options, place == 0, fetch, id, link, out);
         let is_last = ends_all(&result);
         results.push(result)?;
@@ -72,7 +73,7 @@ fn stream_on<L: Link, W: Write>(
     alloc: Global,
     options: &GetOptions<'_>,
     is_first: bool,
-    fetch: &mut SeveralFetch,
+    fetch: &mut ClientConnection,
     id: u32,
     link: &mut L,
     out: &mut W,
@@ -84,7 +85,6 @@ fn stream_on<L: Link, W: Write>(
         (traffic (L.given link.new) (L.taken link.new) (L.stalled link.new))
         fetch.old fetch.new id (W.contents out.old) (W.contents out.new) result }
     ensures failures { ends_all result ≡ false → L.faults link.new ≡ L.faults link.old }
-    ensures ids { fetch.new.ids ≡ fetch.old.ids }
 {
     print_opening(is_first, out)?;
     let head = match head_on(fetch, id, link) {
@@ -121,7 +121,7 @@ fn print_opening<W: Write>(is_first: bool, out: &mut W) -> Result<(), StreamErro
 
 /// The head of the response on a stream. Interim responses before it are dropped.
 fn head_on<L: Link>(
-    fetch: &mut SeveralFetch,
+    fetch: &mut ClientConnection,
     id: u32,
     link: &mut L,
 ) -> Result<ResponseHead, LinkError>
@@ -131,7 +131,6 @@ fn head_on<L: Link>(
         (traffic (L.given link.new) (L.taken link.new) (L.stalled link.new))
         fetch.old fetch.new id result }
     ensures failures { L.faults link.new ≡ failures_at_end (L.faults link.old) result }
-    ensures ids { fetch.new.ids ≡ fetch.old.ids }
 {
     for _ in 0..u64::MAX {
         let part = part_on(fetch, id, link)?;
@@ -145,7 +144,7 @@ fn head_on<L: Link>(
 /// Writes the octets of the body on a stream as they arrive, until the response is complete, and
 /// returns its trailers, if any.
 fn body_on<L: Link, W: Write>(
-    fetch: &mut SeveralFetch,
+    fetch: &mut ClientConnection,
     id: u32,
     link: &mut L,
     out: &mut W,
@@ -156,7 +155,6 @@ fn body_on<L: Link, W: Write>(
         (traffic (L.given link.new) (L.taken link.new) (L.stalled link.new))
         fetch.old fetch.new id (W.contents out.old) (W.contents out.new) result }
     ensures failures { L.faults link.new ≡ failures_after_pass (L.faults link.old) result }
-    ensures ids { fetch.new.ids ≡ fetch.old.ids }
 {
     for _ in 0..u64::MAX {
         let part = part_on(fetch, id, link)?;
@@ -170,7 +168,7 @@ fn body_on<L: Link, W: Write>(
 
 /// Returns the next part of the response on a stream; N6 if the stream was reset.
 fn part_on<L: Link>(
-    fetch: &mut SeveralFetch,
+    fetch: &mut ClientConnection,
     id: u32,
     link: &mut L,
 ) -> Result<ResponsePart, LinkError>
@@ -180,7 +178,6 @@ fn part_on<L: Link>(
         (traffic (L.given link.new) (L.taken link.new) (L.stalled link.new))
         fetch.old fetch.new id result }
     ensures failures { L.faults link.new ≡ failures_at_end (L.faults link.old) result }
-    ensures ids { fetch.new.ids ≡ fetch.old.ids }
 {
     match fetch.next_on(id, link)? {
         Came::Part(part) => Ok(part),

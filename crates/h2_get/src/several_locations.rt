@@ -10,13 +10,13 @@ ghost use Rattle.h2_message.specs.Values.{message_value};
 ghost use Rattle.h2_args.specs.Words.{asked_by};
 ghost use Rattle.h2_get.specs.Several.{SeveralOver, StreamsRequests, results_of};
 
-use crate::begin::{begin_several, window_of};
+use crate::begin::{BegunRequests, begin_several, window_of};
 use crate::connect::{connect_to, end_fetch, send_held};
 use crate::pass_error::{SeveralStreamed, StreamEnding, StreamError};
 use crate::several::stream_several;
 use h2_args::GetOptions;
 use h2_engines::Message;
-use h2_fetch::SeveralFetch;
+use h2_fetch::ClientConnection;
 use h2_net::{Fetched, LinkError, Location, StreamLink, WriteParts};
 use h2_watch::WatchedLink;
 use std::alloc::{AllocError, Global};
@@ -55,43 +55,44 @@ where
         Ok(link) => link,
         Err(ending) => return Err(StreamEnding::of_link(ending)),
     };
-    let mut fetch = match begin_several(alloc, window_of(options), messages) {
-        Ok(fetch) => fetch,
+    let mut begun = match begin_several(alloc, window_of(options), messages) {
+        Ok(begun) => begun,
         Err(error) => return Err(StreamEnding::of_error(StreamError::Link(error))),
     };
-    match several_over(alloc, options, &mut fetch, &mut link, out, err) {
-        Ok(results) => Ok(end_several(&fetch, &mut link, results)),
+    match several_over(alloc, options, &mut begun, &mut link, out, err) {
+        Ok(results) => Ok(end_several(&begun.fetch, &mut link, results)),
         Err(_) => Err(StreamEnding::of_error(StreamError::Link(LinkError::Memory))),
     }
 }
 
 // rule: engines (own) get -v shows the frames of both sides as they come
-/// Prints the responses of a fetch one after another, and with `--verbose` the frames of both
+/// Prints the responses of requests one after another, and with `--verbose` the frames of both
 /// sides on `err`.
 fn several_over<S: Read + WriteParts + OpenStream, W: Write, E: Write>(
     alloc: Global,
     options: &GetOptions<'_>,
-    fetch: &mut SeveralFetch,
+    begun: &mut BegunRequests,
     link: &mut StreamLink<S>,
     out: &mut W,
     err: &mut E,
 ) -> Result<Vec<Result<Fetched, StreamError>>, AllocError>
     requires new { link.old.failures ≡ 0 }
     requires no_file { (asked_by options.now).output ≡ None }
-    ensures { IfOk result (λ results. SeveralOver (asked_by options.now) fetch.old fetch.new
-        (W.contents out.old) (W.contents out.new) results.items) }
+    ensures { IfOk result (λ results. SeveralOver (asked_by options.now) begun.old.ids.items
+        begun.old.fetch begun.new.fetch (W.contents out.old) (W.contents out.new) results.items) }
 {
+    let BegunRequests { fetch, ids } = begun;
     if !options.verbose {
-        return stream_several(alloc, options, fetch, link, out);
+        return stream_several(alloc, options, fetch, ids, link, out);
     }
     let mut watched = WatchedLink::new(alloc, link, err);
-    stream_several(alloc, options, fetch, &mut watched, out)
+    stream_several(alloc, options, fetch, ids, &mut watched, out)
 }
 
 /// Returns the results of several requests, and flushes the link. If the fetch ended early, they
 /// have the likely cause and why the connection failed.
 fn end_several<S: Read + WriteParts + OpenStream>(
-    fetch: &SeveralFetch,
+    fetch: &ClientConnection,
     link: &mut StreamLink<S>,
     results: Vec<Result<Fetched, StreamError>>,
 ) -> SeveralStreamed

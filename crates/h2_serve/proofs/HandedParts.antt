@@ -111,7 +111,7 @@ module _ {H W : Type 0} {rel : Relations H W} {loses : Bool} {used given : List 
       → length end.log.turns ≤ length after.log.turns
   steps_turns {end} {after} made =
       steps_keep (λ (log : Log) (handed : List Handed). length end.log.turns ≤ length log.turns)
-      (λ log handed act answer so. omega (arith, so, turns_of_call log act answer))
+      (λ log handed act answer puts so. omega (arith, so, turns_of_call log act answer))
       (λ before piece answer next may so. omega (arith, so, turns_of_answer may)) made
       (omega arith)
 
@@ -121,7 +121,7 @@ module _ {H W : Type 0} {rel : Relations H W} {loses : Bool} {used given : List 
       → (after.log.role ≡ Server) × AreHeard after.handed
   steps_heard values {after} made =
       let is = steps_keep IsServer
-      (λ log handed act answer was. record {
+      (λ log handed act answer puts was. record {
         role = role_by_call log act answer ∙ was.role;
         heard = was.heard;
       })

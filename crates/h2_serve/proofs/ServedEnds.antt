@@ -1,39 +1,54 @@
 -- How a connection is served at its beginning and at its end.
 use Rattle.h2_engines.proofs.Names
-use Names.{◌≡◌, ◌<◌, ◌≤◌, ◌≢◌, ℕ, [], Ok, Err, Option, None, Some, refl, sym, ◌∙◌}
-use Names.{Appends-nil, Bool, true, false, Server, EndRepresents, LinkError, Traffic, Code}
-use Names.{CutsOffAtEnd, EndsServing, error_with, failures_at_end, new_end_log, reader_held}
-use Names.{◌==◌, reader_next_live, Values, ConnRepresents, Log, ap, nat_lt, or_left, and_from}
+use Names.{◌≡◌, ◌<◌, ◌≤◌, ◌≢◌, ℕ, [], List, Ok, Err, Option, None, Result, refl, sym, ◌∙◌, inl}
+use Names.{Appends-nil, Bool, true, false, Server, EndLog, EndRepresents, LinkError, Traffic}
+use Names.{CutsOffAtEnd, EndsServing, IfErr, OnOk, failures_at_end, new_end_log, reader_held, ◌==◌}
+use Names.{reader_next_live, ConnRepresents, Log, ap, nat_lt, or_left, and_from, subst}
 use Rattle.std.proofs.Common.{is_some}
+use Rattle.std.specs.Prelude.{MatchBool}
 use Rattle.std.proofs.lemmas.Bool.{lt-ltb}
+use Rattle.h2_host.specs.declared.party.Own.TheVariants as owns
 use Rattle.h2_link.specs.Links.{ended_after, is_none_of}
+use Rattle.h2_engines.specs.Serves.{IsAtRest, IsCutOff}
 use Rattle.h2_engines.specs.ServerSteps.{FinishedSo}
 use Rattle.h2_engines.proofs.MachineViews.{not_cut}
-use Rattle.h2_engines.proofs.ResponderFinishes.{finishes_active, finishes_at_rest, finishes_held}
+use Rattle.h2_engines.proofs.ResponderFinishes.{finishes_active, finishes_at_rest}
 use Rattle.h2_link.specs.declared.error.LinkError.TheVariants as errors
-use Rattle.h2_frame.specs.declared.code.Code.TheVariants.{InternalError}
-use Rattle.h2_serve.specs.declared.handled.Handled.{Handled}
+use Rattle.h2_server.specs.declared.connection.Connection.{Connection}
+use Rattle.h2_server.specs.declared.connection.Phase.TheVariants.{Open}
+use Rattle.h2_server.specs.Connections.{Calls, input_kept}
 use Rattle.h2_server.specs.Exchanges.{IsEmptied, Relations, handling_of}
+use Rattle.h2_server.specs.Phases.{is_phase_down, is_phase_over}
 use Rattle.h2_server.specs.Steps.{none}
-use Rattle.h2_serve.specs.Endings.{IsOfDriving}
-use Rattle.h2_serve.specs.Serving.{Beginning, HasServed, HasWritten, IsServing, has_stopped}
-use Rattle.h2_serve.specs.Serving.{handling_first, is_cut_off, is_served}
+use Rattle.h2_serve.specs.Endings.{CountsServed, IsErrorOf, IsOfDriving}
+use Rattle.h2_serve.specs.Serving.{Beginning, HasServed, HasWritten, IsLost, IsServing}
+use Rattle.h2_serve.specs.Serving.{StopsServingFor, handling_first, has_stopped, is_cut_off}
+use Rattle.h2_serve.specs.Serving.{is_served}
 use Rattle.h2_serve.proofs.AskedStreams.{answers_each}
+use Rattle.h2_serve.proofs.CallsMade.{over_down}
 use Rattle.h2_serve.proofs.HandedParts.{steps_heard}
-use Rattle.h2_serve.proofs.Serving.{stops_failed}
+use Rattle.h2_serve.proofs.Serving.{error_so, stops_so}
+use Rattle.h2_serve.proofs.TurnsGiven.{none_queued}
 
 -- It is served at first, with nothing read.
 pub serving_first : {H W : Type 0} {rel : Relations H W} (begin : Beginning H)
-    (handled : Handled H W)
-    → EndRepresents begin.values handled.server.end (new_end_log Server begin.values)
-    → handling_of handled.exchanges ≡ handling_first begin.handler
-    → IsServing rel begin false begin.start [] handled
-serving_first begin handled represents first = record {
+    (connection : Connection H W)
+    → EndRepresents begin.values connection.server.end (new_end_log Server begin.values)
+    → handling_of connection.exchanges ≡ handling_first begin.handler
+    → input_kept connection ≡ [] → connection.phase ≡ Open
+    → IsServing rel begin begin.start connection
+serving_first begin connection represents first kept phase = record {
   after = new_end_log Server begin.values;
   used = [];
+  rest = [];
   given = [];
+  loses = false;
   has = record { steps = rw first none };
   represents = represents;
+  kept = inl (sym kept);
+  closed = λ lost. absurd (cc);
+  failing = rw phase (λ fails. absurd (cc));
+  told = rw phase (λ down. absurd (cc));
   input = Appends-nil _;
   output = Appends-nil _;
 }
@@ -67,75 +82,87 @@ driving_ends errors.NoProgress is = tt
 driving_ends (errors.Stream number) is = tt
 driving_ends other is = absurd is
 
--- No call of the link fails by the code with which the connection has failed.
-pub code_fails_none : (A : Type 0) (failures : ℕ) (code : Code)
-    → failures_at_end {A = A} failures (Err (error_with code)) ≡ failures
-code_fails_none A failures InternalError = refl
-code_fails_none A failures code = refl
+-- Where it ends well, the input has ended.
+pub ends_well : (result : Result ℕ LinkError) (ended : Bool) → ended ≡ true
+    → OnOk result (ended ≡ true)
+ends_well (Ok count) ended at = at
+ends_well (Err error) ended at = tt
 
--- It has failed with no code.
-pub none_failed : (failed : Option Code) → ((code : Code) → failed ≡ Some code → ⊥)
-    → failed ≡ None
-none_failed None never = refl
-none_failed (Some code) never = absurd (never code refl)
+-- So may the error of a connection that has ended, and N4, which ends the input early.
+pub counted_cut : {H W : Type 0} (connection : Connection H W) (result : Result ℕ LinkError)
+    (ended : Bool) → CountsServed connection result → ended ≡ true → CutsOffAtEnd result ended
+counted_cut connection (Err errors.CutOff) ended is at = at
+counted_cut connection result ended is at = tt
+
+pub counted_ends : {H W : Type 0} (connection : Connection H W) (result : Result ℕ LinkError)
+    → CountsServed connection result → IfErr result EndsServing
+counted_ends connection (Ok count) is = tt
+counted_ends connection (Err errors.CutOff) is = tt
+counted_ends connection (Err errors.Memory) is = tt
+counted_ends connection (Err (errors.Stream number)) is = tt
+counted_ends connection (Err other) is = absurd is
+
+-- No call of the link has failed by them.
+pub counted_none : {H W : Type 0} (connection : Connection H W) (result : Result ℕ LinkError)
+    (failures : ℕ) → CountsServed connection result → failures_at_end failures result ≡ failures
+counted_none connection (Err errors.Device) failures is = absurd is
+counted_none connection result failures is = refl
+
+-- an end with a log
+abbrev one_with : Log → EndLog
+one_with log = record {
+  log = log;
+  accepted = [];
+  handed = [];
+  turn = record { id = 0; rest = 0 };
+  malformed = None;
+}
+
+-- Whether the input of an end that is up has ended where it may not, by what it answers of itself.
+pub cut_off_so : (log : Log) (held : ℕ) (next : Option ℕ) (some : Bool) → held ≡ reader_held log
+    → held ≤ 0 → next ≡ reader_next_live log 0 → some ≡ is_some next → log.failed ≡ None
+    → MatchBool some (IsCutOff log) (IsAtRest log)
+unfolding FinishedSo
+cut_off_so log held next true holds few lives is up =
+    (finishes_active (one_with log) 0 lives (sym is)).1 up
+cut_off_so log held next false holds few lives is up =
+    (finishes_at_rest (one_with log) 0 holds lives few (sym is)).1 up
 
 module _ {H W : Type 0} {rel : Relations H W} {begin : Beginning H} {now : Traffic}
-    (handled : Handled H W) (is : HasWritten rel begin false now [] handled)
-    (emptied : IsEmptied (handling_of handled.exchanges)) where
+    (connection lost : Connection H W) (is : HasWritten rel begin now connection)
+    (ends : IsLost rel connection lost) where
   -- What the connection answers of itself is so of what has happened at it.
-  conn_is : ConnRepresents begin.values handled.server.end.conn is.serving.after.log
+  conn_is : ConnRepresents begin.values connection.server.end.conn is.serving.after.log
   conn_is = is.serving.represents.streams.conn
 
-  -- The connection has failed;
-  pub served_failed : (failed : Option Code) (code : Code)
-      → ((values : Values) (log : Log) → ConnRepresents values handled.server.end.conn log
-      → failed ≡ log.failed) → failed ≡ Some code
-      → HasServed rel begin now (Err (error_with code))
-  served_failed failed code answers some =
-      has_stopped handled (error_with code)
-      (stops_failed code is (sym (answers begin.values is.serving.after.log conn_is) ∙ some))
-      emptied
+  -- It has ended with an error,
+  served_stops : (error : LinkError) → IsErrorOf connection error
+      → HasServed rel begin now (Err error)
+  served_stops error so =
+      has_stopped connection lost error
+      (stops_so error is.serving
+      (subst (λ (untaken : List ℕ). StopsServingFor now is.serving.after connection untaken error)
+      (sym (none_queued connection.server.end.conn conn_is is.all))
+      (error_so begin.values now connection error so is.serving.after is.serving.represents)))
+      ends
 
-  module _ (failed : Option Code)
-      (answers : (values : Values) (log : Log)
-      → ConnRepresents values handled.server.end.conn log → failed ≡ log.failed)
-      (up : failed ≡ None) where
-    -- The connection is up.
-    up_is : is.serving.after.log.failed ≡ None
-    up_is = sym (answers begin.values is.serving.after.log conn_is) ∙ up
+  -- or its input has.
+  pub has_served : (result : Result ℕ LinkError) → CountsServed connection result
+      → HasServed rel begin now result
+  has_served (Ok count) (counted, rests) =
+      let after = is.serving.after in
+      let at_rest = rests begin.values after.log conn_is in
+      let (role, heard) = steps_heard begin.values is.serving.has.steps in
+      rw counted (is_served connection lost is ends at_rest
+      (answers_each is.serving.represents role at_rest.up at_rest.none_active heard))
+  has_served (Err errors.CutOff) cut =
+      is_cut_off connection lost is ends (cut begin.values is.serving.after.log conn_is)
+  has_served (Err error) so = served_stops error so
 
-    -- or a part of the preface or of a frame is held;
-    pub served_held : (held : ℕ)
-        → ((values : Values) (log : Log) → ConnRepresents values handled.server.end.conn log
-        → held ≡ reader_held log) → 0 < held → HasServed rel begin now (Err errors.CutOff)
-    unfolding FinishedSo
-    served_held held reads some =
-        is_cut_off handled is emptied
-        ((finishes_held is.serving.after 0 (reads begin.values is.serving.after.log conn_is)
-        some).1 up_is)
-
-    module _ (next : Option ℕ)
-        (lives : (values : Values) (log : Log)
-        → ConnRepresents values handled.server.end.conn log → next ≡ reader_next_live log 0)
-      where
-        -- or a stream is active;
-        pub served_active : is_some next ≡ true → HasServed rel begin now (Err errors.CutOff)
-        unfolding FinishedSo
-        served_active some =
-            is_cut_off handled is emptied
-            ((finishes_active is.serving.after 0
-            (lives begin.values is.serving.after.log conn_is) some).1 up_is)
-
-        -- or all has come to rest.
-        pub served_all : (count held : ℕ) → count ≡ handled.exchanges.totals.requests
-            → ((values : Values) (log : Log) → ConnRepresents values handled.server.end.conn log
-            → held ≡ reader_held log) → held ≤ 0 → is_some next ≡ false
-            → HasServed rel begin now (Ok count)
-        unfolding FinishedSo
-        served_all count held counted reads few rest =
-            let after = is.serving.after in
-            let at_rest = (finishes_at_rest after 0 (reads begin.values after.log conn_is)
-            (lives begin.values after.log conn_is) few rest).1 up_is in
-            let (role, heard) = steps_heard begin.values is.serving.has.steps in
-            is_served count handled is emptied at_rest
-            (answers_each is.serving.represents role at_rest.up at_rest.none_active heard) counted
+-- It was lost, so each of its exchanges is over.
+pub is_lost : {H W : Type 0} {rel : Relations H W} (connection lost : Connection H W)
+    → Calls rel owns.Lost [] connection lost → is_phase_over lost.phase ≡ true
+    → (is_phase_down connection.phase ≡ true → IsEmptied (handling_of connection.exchanges))
+    → IsLost rel connection lost
+is_lost connection lost calls over told =
+    record { calls = calls; told = calls.told told (over_down lost.phase over) }

@@ -5,10 +5,11 @@ use Names.{true, false}
 use Names.{◌≡◌, ℕ, Bool, List, [], Option, Some, None, Ok, Err, Result, inl, inr, Act, Answer}
 use Names.{SendData, SendFields, ResetStream, PutOut, Count, Done, Refused, Log, EndLog, Handed}
 use Names.{EndAnswer, EndMayTake, EndRefusal, MayReply, Malformed, Said, with_call, take}
+use Names.{MayAnswer, OutOfMemory, length}
 use Rattle.std.specs.Global.{Global}
 use Rattle.std.specs.Prelude.{Vec}
 use Rattle.hpack.specs.declared.types.field.Field.{Field}
-use Rattle.h2_ends.specs.EndCalls.{IsUnchanged, MaySendBody, MaySendTrailers}
+use Rattle.h2_ends.specs.EndCalls.{IsHeadCall, IsUnchanged, MaySendBody, MaySendTrailers}
 use Rattle.h2_ends.specs.Passes.{Halt, Shares, PassesOver, Passes, MayPumpSome, shares_octets}
 use Rattle.h2_ends.specs.Passes.{shares_some, share_is_cut, shares_rest, shares_trailers}
 use Rattle.h2_ends.specs.Passes.{octets_refused, list_refused, passes_no_more, passes_on}
@@ -16,7 +17,7 @@ use Rattle.h2_ends.specs.Passes.{passes_halt, passes_part, passes_round, share_a
 use Rattle.h2_ends.specs.declared.refusal.EndRefusal.TheVariants as refusals
 use Rattle.h2_spec_log.specs.declared.refusal.Refusal.TheVariants as reasons
 use Rattle.h2_frame.specs.Codes.{code_number}
-use Rattle.h2_engines.proofs.LinkInvariants.{CallsKeep, released_keeps}
+use Rattle.h2_engines.proofs.LinkInvariants.{CallsKeep, SendsOrReleases, released_keeps}
 use Rattle.h2_server.specs.declared.exchange.Stage.{Stage}
 use Rattle.h2_server.specs.declared.exchange.Stage.TheVariants as stages
 use Rattle.h2_server.specs.declared.handler.HandlerFault.{HandlerFault}
@@ -25,14 +26,34 @@ use Rattle.h2_server.specs.declared.handler.Part.TheVariants as parts
 use Rattle.h2_server.specs.declared.stop.Stop.{Stop}
 use Rattle.h2_server.specs.Exchanges.{Handling, Relations}
 use Rattle.h2_server.specs.Giving.{GivesHead, GivesStageSo}
-use Rattle.h2_server.specs.Steps.{HandledStep, SendsPart, Steps}
+use Rattle.h2_server.specs.Steps.{HandledStep, IsOwnCall, SendsPart, Steps}
 use Rattle.h2_server.specs.Steps as steps
+
+-- A call that puts output out may have this answer.
+abbrev pub PutsSo : Log → Act → Answer → Type 0
+PutsSo log (PutOut count) answer = MayAnswer log (PutOut count) answer
+PutsSo log act answer = Unit {0}
+
+-- A call that sends, releases, or is the connection's own, puts none out.
+sends_puts : (log : Log) (act : Act) (answer : Answer) → SendsOrReleases act answer
+    → PutsSo log act answer
+sends_puts log act OutOfMemory sends = absurd sends
+sends_puts log (PutOut count) answer sends = absurd sends
+sends_puts log act answer sends = tt
+
+head_puts : (log : Log) (act : Act) (answer : Answer) → IsHeadCall act → PutsSo log act answer
+head_puts log (PutOut count) answer head = absurd head
+head_puts log act answer head = tt
+
+own_puts : (log : Log) (act : Act) (answer : Answer) → IsOwnCall act → PutsSo log act answer
+own_puts log (PutOut count) answer own = absurd own
+own_puts log act answer own = tt
 
 -- Each call keeps this of a log and of what was handed out,
 abbrev pub CallsKeepLog : (Log → List Handed → Type 0) → Type 0
 CallsKeepLog P =
-    (log : Log) (handed : List Handed) (act : Act) (answer : Answer) → P log handed
-    → P (with_call log act answer) handed
+    (log : Log) (handed : List Handed) (act : Act) (answer : Answer) → PutsSo log act answer
+    → P log handed → P (with_call log act answer) handed
 
 -- and so does each call of `take`.
 abbrev pub TakesKeepLog : (Log → List Handed → Type 0) → Type 0
@@ -48,25 +69,27 @@ module _ (P : Log → List Handed → Type 0) (call : CallsKeepLog P) (take_one 
     At end = P end.log end.handed
 
     calls_keep : CallsKeep At
-    calls_keep end act answer sends holds = call end.log end.handed act answer holds
+    calls_keep end act answer sends holds =
+        call end.log end.handed act answer (sends_puts end.log act answer sends) holds
 
     -- A share and a pass are calls,
     share_keeps : {most id : ℕ} {before : EndLog} {count : ℕ} {halt : Option Halt}
         {after : EndLog} → Shares most id before count halt after → At before → At after
     share_keeps {most} {id} (shares_octets end octets ends sent typed waits may all more) holds =
-        call end.log end.handed (share_act most id octets ends) (Count sent) holds
+        call end.log end.handed (share_act most id octets ends) (Count sent) tt holds
     share_keeps {most} {id} (shares_some end octets ends sent typed waits may fewer over) holds =
-        call end.log end.handed (share_act most id octets ends) (Count sent) holds
+        call end.log end.handed (share_act most id octets ends) (Count sent) tt holds
     share_keeps {most} {id} (share_is_cut end octets ends sent typed waits may fewer over) holds =
-        call end.log end.handed (share_act most id octets ends) (Count sent) holds
+        call end.log end.handed (share_act most id octets ends) (Count sent) tt holds
     share_keeps {most} {id} (shares_rest end octets halt after typed waits may few rest) holds =
-        share_keeps rest (call end.log end.handed _ _ holds)
+        share_keeps rest
+        (call end.log end.handed (share_act most id octets false) (Count (length octets)) tt holds)
     share_keeps {most} {id} (shares_trailers end list typed wait may) holds =
-        call end.log end.handed (SendFields id list true) Done holds
+        call end.log end.handed (SendFields id list true) Done tt holds
     share_keeps {most} {id} (octets_refused end octets ends refusal typed waits may) holds =
-        call end.log end.handed (share_act most id octets ends) (Refused refusal) holds
+        call end.log end.handed (share_act most id octets ends) (Refused refusal) tt holds
     share_keeps {most} {id} (list_refused end list refusal typed wait may) holds =
-        call end.log end.handed (SendFields id list true) (Refused refusal) holds
+        call end.log end.handed (SendFields id list true) (Refused refusal) tt holds
 
     span_keeps : {sizes : ℕ → ℕ} {before : EndLog} {low high count : ℕ}
         {halt : Option (ℕ × Halt)} {after : EndLog}
@@ -99,14 +122,15 @@ module _ (P : Log → List Handed → Type 0) (call : CallsKeepLog P) (take_one 
     unfolding IsUnchanged
     unchanged_keeps before after (inl same) holds = rw same holds
     unchanged_keeps before after (inr called) holds =
-        rw called.5 (call before.log before.handed called.0 (Refused called.1) holds)
+        rw called.5 (call before.log before.handed called.0 (Refused called.1)
+        (head_puts before.log called.0 (Refused called.1) called.3) holds)
 
     reply_keeps : (broken : Option Malformed) (before : EndLog) (id : ℕ) (said : Said)
         (result : Result (Unit {0}) EndRefusal) (after : EndLog)
         → MayReply broken before id said result after → At before → At after
     unfolding MayReply
     reply_keeps broken before id said (Ok done) after may holds =
-        rw may.5 (call before.log before.handed _ _ holds)
+        rw may.5 (call before.log before.handed _ _ tt holds)
     reply_keeps broken before id said (Err refusals.NotAsked) after may holds = rw may.1 holds
     reply_keeps broken before id said (Err refusals.Answered) after may holds = rw may.2 holds
     reply_keeps broken before id said (Err (refusals.BadMessage rule)) after may holds =
@@ -119,26 +143,28 @@ module _ (P : Log → List Handed → Type 0) (call : CallsKeepLog P) (take_one 
         → MaySendBody before id octets ends result after → At before → At after
     unfolding MaySendBody
     body_keeps before id octets ends (Ok count) after may holds =
-        rw may.5 (call before.log before.handed (SendData id octets ends) (Count count) holds)
+        rw may.5 (call before.log before.handed (SendData id octets ends) (Count count) tt holds)
     body_keeps before id octets ends (Err refusals.NotAsked) after may holds = rw may.1 holds
     body_keeps before id octets ends (Err refusals.Answered) after may holds = absurd may
     body_keeps before id octets ends (Err (refusals.BadMessage rule)) after may holds =
         rw may.5 holds
     body_keeps before id octets ends (Err (refusals.Conn refusal)) after may holds =
-        rw may.5 (call before.log before.handed (SendData id octets ends) (Refused refusal) holds)
+        rw may.5
+        (call before.log before.handed (SendData id octets ends) (Refused refusal) tt holds)
 
     trailers_keep : (before : EndLog) (id : ℕ) (list : List Field)
         (result : Result (Unit {0}) EndRefusal) (after : EndLog)
         → MaySendTrailers before id list result after → At before → At after
     unfolding MaySendTrailers
     trailers_keep before id list (Ok done) after may holds =
-        rw may.5 (call before.log before.handed (SendFields id list true) Done holds)
+        rw may.5 (call before.log before.handed (SendFields id list true) Done tt holds)
     trailers_keep before id list (Err refusals.NotAsked) after may holds = rw may.1 holds
     trailers_keep before id list (Err refusals.Answered) after may holds = absurd may
     trailers_keep before id list (Err (refusals.BadMessage rule)) after may holds =
         rw may.4 holds
     trailers_keep before id list (Err (refusals.Conn refusal)) after may holds =
-        rw may.5 (call before.log before.handed (SendFields id list true) (Refused refusal) holds)
+        rw may.5
+        (call before.log before.handed (SendFields id list true) (Refused refusal) tt holds)
 
     -- So the head of a response in parts is given,
     head_keeps : (before : EndLog) (id : ℕ) (to_head : Bool) (head : Vec Field Global)
@@ -165,7 +191,7 @@ module _ (P : Log → List Handed → Type 0) (call : CallsKeepLog P) (take_one 
         trailers_keep before id list.items gives.0 after gives.1 holds
     stage_keeps before id to_head refused (stages.Resets code) result after gives holds =
         rw gives.3
-        (call before.log before.handed (ResetStream id (code_number code)) gives.0 holds)
+        (call before.log before.handed (ResetStream id (code_number code)) gives.0 tt holds)
     stage_keeps before id to_head refused stage result after gives holds = rw gives.1 holds
 
     -- and a part is sent.
@@ -209,9 +235,10 @@ module _ (P : Log → List Handed → Type 0) (call : CallsKeepLog P) (take_one 
       step_keeps {end = before} {after = last} (steps.pumps most answer may so) holds =
           pumped_keeps most before answer last may holds
       step_keeps {end = before} (steps.calls act answer own may is so) holds =
-          rw is (call before.log before.handed act answer holds)
+          rw is
+          (call before.log before.handed act answer (own_puts before.log act answer own) holds)
       step_keeps {end = before} (steps.puts_out count answer may is so) holds =
-          rw is (call before.log before.handed (PutOut count) answer holds)
+          rw is (call before.log before.handed (PutOut count) answer may holds)
 
       -- and so are steps, one after another.
       pub steps_keep : {loses : Bool} {after : EndLog} {new : Handling H W}

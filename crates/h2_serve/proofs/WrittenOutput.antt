@@ -1,257 +1,171 @@
 -- What writing to a link what waits makes of how a connection is served.
 use Rattle.h2_engines.proofs.Names
-use Names.{Bool, true, ◌≡◌, ◌<◌, ℕ, ◌+◌, List, [], ◌++◌, length, take, drop, Ok, Err, Result, refl}
-use Names.{sym, ap, ◌∙◌, subst, append-nil, append_assoc, arith, take-append-drop, drop-take}
-use Names.{drop-append_seam, Appends, Appends-nil, Appends-trans, Answer, Count, PutOut, Refusal}
-use Names.{Refused, Values, Log, End, EndLog, EndAnswers, EndRepresents, LinkError, Traffic}
-use Names.{answer_by, end_with_log, error_after, given_out, with_call, ConnRepresents, Conn, false}
-use Names.{log_view, returns_before_put_out, waiting, IsOk}
-use Rattle.h2_engines.proofs.ResponderEnds.{given_within}
-use Rattle.h2_engines.proofs.ResponderOutput.{given_more}
-use Rattle.h2_engines.proofs.ResponderWrites.{LendsAll, most}
-use Rattle.h2_engines.proofs.TurnsPassed.{turns_of_call}
-use Rattle.h2_engines.proofs.WithoutLinkOutput.{consumes_all, no_credit_due}
-use Rattle.h2_serve.specs.declared.handled.Handled.{Handled}
-use Rattle.h2_server.specs.Exchanges.{IsSameHandling, Relations, handling_of}
-use Rattle.h2_server.specs.Steps.{given_between, puts_out}
-use Rattle.h2_server.proofs.StepsMade.{one_step}
-use Rattle.h2_server.proofs.StepsMade.{same as same_handling}
-use Rattle.h2_serve.specs.Serving.{Beginning, HasHandled, HasStoppedServing, HasWritten, IsServing}
-use Rattle.h2_serve.specs.Serving.{StopsServingFor}
-use Rattle.h2_serve.proofs.Serving.{ServesOn, has_lost, has_more, refused_so, stops_so}
+use Names.{◌≡◌, ◌+◌, ℕ, Bool, true, false, List, [], ◌++◌, length, take, drop, refl, sym, ap, ◌∙◌}
+use Names.{inl, inr, arith, subst, append-nil, append_assoc, take-append-drop, Appends}
+use Names.{Appends-trans, EndLog, LinkError, Traffic, log_view, returns_before_put_out, cases_Bool}
+use Names.{Err, EndsWriting, IfErr, Ok, Option, Result, StallsAtNoProgress, failures_at_end}
+use Rattle.std.specs.Prelude.{MatchBool}
+use Rattle.std.proofs.lemmas.List.{take_all}
+use Rattle.h2_conn.specs.Conn.{octets_queued}
+use Rattle.h2_link.specs.Links.{WritesAll}
+use Rattle.h2_engines.proofs.ResponderFaults.{written_ends, written_failures, written_known}
+use Rattle.h2_engines.proofs.ResponderFaults.{written_some}
+use Rattle.h2_engines.proofs.ResponderWrites.{most}
+use Rattle.h2_laws_machine.proofs.BoundedLogs.{few_wait}
+use Rattle.h2_server.specs.declared.connection.Connection.{Connection}
+use Rattle.h2_server.specs.Connections.{KeepsTold}
+use Rattle.h2_server.specs.Exchanges.{Relations, handling_of}
+use Rattle.h2_server.specs.Phases.{is_phase_down}
+use Rattle.h2_server.specs.Turns.{WroteSo}
+use Rattle.h2_server.proofs.StepsMade.{steps_may_lose}
+use Rattle.h2_serve.specs.Serving.{Beginning, HasHandled, HasStoppedServing, HasWrittenLast}
+use Rattle.h2_serve.specs.Serving.{IsServing, StopsServingFor, WrittenSo}
+use Rattle.h2_serve.proofs.CallsMade.{own_so, up_open}
+use Rattle.h2_serve.proofs.Serving.{ServesOn, appends_none, has_lost, has_more, link_so}
+use Rattle.h2_serve.proofs.Serving.{serves_made}
+use Rattle.h2_serve.proofs.TurnsGiven.{queue_waits}
 
--- A call that puts output out was made, and so these octets are given out next.
-pub record PutsOut (old new : End) (octets : List ℕ) : Type 0 where
-  pub count : ℕ
-  pub answer : Answer
-  pub answers : EndAnswers old (PutOut count) answer new
-  pub next : (values : Values) (end : EndLog) → EndRepresents values old end
-      → given_out (with_call end.log (PutOut count) answer) ≡ given_out end.log ++ octets
+-- How often the link has failed, where writing to it has ended,
+pub wrote_failures : (before after : Option (List ℕ)) (failures now : ℕ)
+    (result : Result (Unit {0}) LinkError) (octets : List ℕ)
+    → WritesAll before after failures now result octets → now ≡ failures_at_end failures result
+unfolding WritesAll
+wrote_failures before after failures now (Ok done) octets so = so.1
+wrote_failures before after failures now (Err error) octets so =
+    written_failures (Unit {0}) before after now error octets refl so
 
--- Output is made ready, by which none is put out,
-puts_ready : {old new : End} → EndAnswers old (PutOut 0) (Count 0) new → PutsOut old new []
-puts_ready answers = record {
-  count = 0;
-  answer = Count 0;
-  answers = answers;
-  next = λ values end is. given_more end.log 0 0 (given_within is)
-      ∙ ap (λ (more : List ℕ). given_out end.log ++ more)
-      (drop-take end.log.given 0 (with_call end.log (PutOut 0) (Count 0)).written);
-}
+-- and how it may.
+pub wrote_ends : (before after : Option (List ℕ)) (failures now : ℕ)
+    (result : Result (Unit {0}) LinkError) (octets : List ℕ)
+    → WritesAll before after failures now result octets → IfErr result EndsWriting
+wrote_ends before after failures now (Ok done) octets so = tt
+wrote_ends before after failures now (Err error) octets so =
+    written_ends before after failures now error octets so
 
--- nor is it where that was refused,
-puts_refused : {old new : End} (count : ℕ) (refusal : Refusal)
-    → EndAnswers old (PutOut count) (Refused refusal) new → PutsOut old new []
-unfolding with_call
-puts_refused count refusal answers = record {
-  count = count;
-  answer = Refused refusal;
-  answers = answers;
-  next = λ values end is. sym (append-nil (given_out end.log));
-}
+match_both : (b : Bool) {P Q : Type 0} → (b ≡ true → P) → (b ≡ false → Q) → MatchBool b P Q
+match_both true one other = one refl
+match_both false one other = other refl
 
--- and what was lent then is put out once it is consumed.
-puts_lent : {ready new : End} {octets : List ℕ} {waits : ℕ} (result : Result ℕ Refusal)
-    → LendsAll ready octets waits
-    → EndAnswers ready (PutOut most) (answer_by (λ given. Count given) result) new
-    → ((values : Values) (log : Log) → ConnRepresents values ready.conn log
-    → returns_before_put_out (log_view log) ≡ false → IsOk result) → PutsOut ready new octets
-puts_lent {octets} (Ok given) lends answers free = record {
-  count = most;
-  answer = Count given;
-  answers = answers;
-  next = λ values end is.
-      let conn = is.streams.conn in
-      let few = lends.few values end.log conn in
-      let all = lends.all values end.log conn in
-      let next = consumes_all octets (given_within is) (lends.lent values end.log conn)
-      (omega (arith, few, all)) (lends.returned values end.log conn) (answers values end is).0 in
-      given_more end.log most given (given_within is)
-      ∙ ap (λ (more : List ℕ). given_out end.log ++ more) (sym next);
-}
-puts_lent (Err refusal) lends answers free = record {
-  count = most;
-  answer = answer_by (λ given. Count given) (Err refusal);
-  answers = answers;
-  next = λ values end is.
-      let conn = is.streams.conn in
-      let wrong = free values end.log conn (lends.returned values end.log conn) in
-      absurd (cc);
-}
+module _ {H W : Type 0} {rel : Relations H W} {begin : Beginning H} {before : Traffic}
+    (now : Traffic) (old new : Connection H W) (is : IsServing rel begin before old)
+    (wrote : WroteSo rel most begin.values is.after old new) (told : KeepsTold old new)
+    (none : Appends before.given now.given []) where
+  -- the octets that waited, and those that wait now
+  abbrev queued : List ℕ
+  queued = octets_queued old.server.end.conn
 
-module _ {H W : Type 0} {rel : Relations H W} {begin : Beginning H} {loses : Bool}
-    (middle now : Traffic)
-    (old new : Handled H W) {octets unused : List ℕ} {turns : ℕ}
-    (puts : PutsOut old.server.end new.server.end octets) (same : new.exchanges ≡ old.exchanges)
-    (none : Appends middle.given now.given [])
-    (on : ServesOn rel begin loses middle unused old turns) where
-  -- how it was served, and the log then
-  abbrev is : IsServing rel begin loses middle unused old
-  is = on.serving
+  abbrev queued_now : List ℕ
+  queued_now = octets_queued new.server.end.conn
 
-  abbrev after_put : EndLog
-  after_put = end_with_log is.after (with_call is.after.log (PutOut puts.count) puts.answer)
-
-  -- These octets were given out since.
-  given_put : given_between is.after after_put ≡ octets
-  given_put =
-      ap (λ (all : List ℕ). drop (length (given_out is.after.log)) all)
-      (puts.next begin.values is.after is.represents)
-      ∙ drop-append_seam (given_out is.after.log) octets
-
-  -- Of exchanges nothing has changed.
-  same_put : IsSameHandling (handling_of old.exchanges) (handling_of new.exchanges)
-  same_put = rw same (same_handling (handling_of old.exchanges))
-
-  -- That is one of the steps of the server.
-  has_put : HasHandled rel begin loses is.used (is.given ++ octets) after_put
-      (handling_of new.exchanges)
-  has_put =
-      let answered = puts.answers begin.values is.after is.represents in
-      let more = has_more is.has
-      (one_step (puts_out puts.count puts.answer answered.0 refl same_put)) in
-      subst (λ (used : List ℕ). HasHandled rel begin loses used (is.given ++ octets) after_put
-      (handling_of new.exchanges)) (append-nil is.used)
-      (subst (λ (given : List ℕ). HasHandled rel begin loses (is.used ++ []) (is.given ++ given)
-      after_put (handling_of new.exchanges)) given_put more)
-
-  -- The link gives nothing where octets are written to it.
-  input_put : Appends begin.start.given now.given (is.used ++ unused)
-  input_put =
-      subst (Appends begin.start.given now.given) (append-nil (is.used ++ unused))
-      (Appends-trans begin.start.given middle.given now.given _ [] is.input none)
-
-  -- It has taken all that was given out, a turn later,
-  serving_put : Appends middle.taken now.taken octets → IsServing rel begin loses now unused new
-  serving_put took = record {
-    after = after_put;
-    used = is.used;
-    given = is.given ++ octets;
-    has = has_put;
-    represents = (puts.answers begin.values is.after is.represents).1;
-    input = input_put;
-    output = Appends-trans begin.start.taken middle.taken now.taken is.given octets is.output took;
-  }
-
-  serves_put : Appends middle.taken now.taken octets
-      → ServesOn rel begin loses now unused new (turns + 1)
-  unfolding serving_put
-  serves_put took = record {
-    serving = serving_put took;
-    passed = omega (
-      arith,
-      on.passed,
-      turns_of_call is.after.log (PutOut puts.count) puts.answer,
-    );
-  }
-
-  -- or only the first of it.
-  stops_put : (some : ℕ) → Appends middle.taken now.taken (take some octets)
-      → (error : LinkError)
-      → ((end : EndLog) → StopsServingFor now end (drop some octets) error)
-      → HasStoppedServing rel begin now new error
-  stops_put some took error so = record {
-    after = after_put;
-    used = is.used;
-    unused = unused;
-    taken = is.given ++ take some octets;
-    untaken = drop some octets;
-    has = subst (λ (given : List ℕ). HasHandled rel begin true is.used given after_put
-        (handling_of new.exchanges))
-        (ap (λ (more : List ℕ). is.given ++ more) (sym (take-append-drop some octets))
-        ∙ sym (append_assoc is.given (take some octets) (drop some octets))) (has_lost has_put);
-    represents = (puts.answers begin.values is.after is.represents).1;
-    input = input_put;
-    output = Appends-trans begin.start.taken middle.taken now.taken is.given (take some octets)
-        is.output took;
-    so = so after_put;
-  }
-
-module _ {H W : Type 0} {rel : Relations H W} {begin : Beginning H} {loses : Bool} (now : Traffic)
-    (old new : Handled H W) {unused : List ℕ} {turns : ℕ} (same : new.exchanges ≡ old.exchanges)
-    (on : ServesOn rel begin loses now unused old turns) where
-  -- Output was made ready,
-  pub serves_ready : EndAnswers old.server.end (PutOut 0) (Count 0) new.server.end
-      → ServesOn rel begin loses now unused new (turns + 1)
-  serves_ready answers =
-      serves_put now now old new (puts_ready answers) same (Appends-nil _) on (Appends-nil _)
-
-  -- or there was no memory for that.
-  pub stops_ready : (count : ℕ) (refusal : Refusal) {error : LinkError}
-      → EndAnswers old.server.end (PutOut count) (Refused refusal) new.server.end
-      → error ≡ error_after (Conn refusal) → HasStoppedServing rel begin now new error
-  unfolding serving_put puts_refused
-  stops_ready count refusal {error} answers made =
-      let is = on.serving in
-      stops_so error
-      (serving_put now now old new (puts_refused count refusal answers) same (Appends-nil _) on
-      (Appends-nil _))
-      (refused_so now is.after count refusal
-      (answers begin.values is.after is.represents).0 made)
-
--- Nothing is returned before output is put out, whatever has happened at an end,
-abbrev pub ReturnsNone : End → Type 0
-ReturnsNone ready =
-    (values : Values) (log : Log) → ConnRepresents values ready.conn log
-    → returns_before_put_out (log_view log) ≡ false
-
-module _ {H W : Type 0} {rel : Relations H W} {begin : Beginning H} {loses : Bool} {now : Traffic}
-    {handled : Handled H W} {unused : List ℕ} (kept : ReturnsNone handled.server.end) where
-  -- so where nothing waits, all was written, and no credit waits;
-  pub written_ready : (rounds count : ℕ)
-      → ServesOn rel begin loses now unused handled ((rounds + count) + 1)
-      → ((values : Values) (log : Log) → ConnRepresents values handled.server.end.conn log
-      → 0 ≡ waiting log)
-      → (written : HasWritten rel begin loses now unused handled)
-      × (count < length written.serving.after.log.turns)
-  written_ready rounds count on none =
-      let is = on.serving in
+  -- They are fewer than can be asked for.
+  all_asked : take most queued ≡ queued
+  all_asked =
       let conn = is.represents.streams.conn in
-      let empty = sym (none begin.values is.after.log conn) in (
-        record {
-          serving = is;
-          all = empty;
-          returned = λ up. no_credit_due is.after.log up empty
-              (kept begin.values is.after.log conn);
-        },
-        omega (arith, on.passed),
-      )
+      let few = few_wait _ begin.values is.after.log conn.machine.came in
+      take_all most queued (omega (arith, few, queue_waits old.server.end.conn conn))
 
-  -- and no memory is refused for what is consumed.
-  pub never_refused : {A : Type 0} {turns : ℕ} {result : Result ℕ Refusal} {refusal : Refusal}
-      → ServesOn rel begin loses now unused handled turns → result ≡ Err refusal
-      → ((values : Values) (log : Log) → ConnRepresents values handled.server.end.conn log
-      → returns_before_put_out (log_view log) ≡ false → IsOk result) → A
-  never_refused on is room =
-      let serving = on.serving in
-      let conn = serving.represents.streams.conn in
-      let wrong = rw is at (room begin.values serving.after.log conn
-      (kept begin.values serving.after.log conn)) in
-      absurd (cc)
+  -- Where it was up, and ready, all of them were given out.
+  all_gone : is_phase_down old.phase ≡ false
+      → returns_before_put_out (log_view is.after.log) ≡ false → wrote.gone ≡ queued
+  all_gone up ready =
+      wrote.all (up_open old.phase up) ready ∙ all_asked
 
--- What was lent once output was made ready was written, and consumed, in a round more;
-module _ {H W : Type 0} {rel : Relations H W} {begin : Beginning H} {loses : Bool}
-    (middle now : Traffic) (ready new : Handled H W) {octets unused : List ℕ} {waits : ℕ}
-    (result : Result ℕ Refusal) (lends : LendsAll ready.server.end octets waits)
-    (answers : EndAnswers ready.server.end (PutOut most)
-    (answer_by (λ given. Count given) result) new.server.end)
-    (free : (values : Values) (log : Log) → ConnRepresents values ready.server.end.conn log
-    → returns_before_put_out (log_view log) ≡ false → IsOk result)
-    (same : new.exchanges ≡ ready.exchanges) (none : Appends middle.given now.given []) where
-  pub serves_lent : (rounds count : ℕ)
-      → ServesOn rel begin loses middle unused ready ((rounds + count) + 1)
-      → Appends middle.taken now.taken octets
-      → ServesOn rel begin loses now unused new ((rounds + 1) + count)
-  serves_lent rounds count on took =
-      let next = serves_put middle now ready new (puts_lent result lends answers free) same none on
-      took in
-      record { serving = next.serving; passed = omega (arith, next.passed) }
+  -- So it is served on, where the link took all of them,
+  serves_wrote : is_phase_down old.phase ≡ false
+      → returns_before_put_out (log_view is.after.log) ≡ false
+      → Appends before.taken now.taken queued
+      → ServesOn rel begin now new (length is.after.log.turns)
+  serves_wrote up ready took =
+      serves_made old new is up (own_so wrote.made) told none
+      (subst (Appends before.taken now.taken) (sym (all_gone up ready)) took)
 
-  -- or only the first of it was written.
-  pub stops_lent : {turns : ℕ} → ServesOn rel begin loses middle unused ready turns → (some : ℕ)
-      → Appends middle.taken now.taken (take some octets) → (error : LinkError)
-      → ((end : EndLog) → StopsServingFor now end (drop some octets) error)
+  -- The steps of that, where something may be lost.
+  has_wrote : HasHandled rel begin true is.used (is.given ++ wrote.gone) wrote.made.after
+      (handling_of new.exchanges)
+  has_wrote =
+      subst (λ (used : List ℕ). HasHandled rel begin true used (is.given ++ wrote.gone)
+      wrote.made.after (handling_of new.exchanges)) (append-nil is.used)
+      (has_more (has_lost is.has) (steps_may_lose wrote.made.steps))
+
+  -- The link gives nothing meanwhile.
+  input_wrote : Appends begin.start.given now.given (is.used ++ is.rest)
+  input_wrote =
+      appends_none begin.start.given before.given now.given (is.used ++ is.rest) is.input none
+
+  -- or, where it was down, its last output was taken;
+  taken_last : is_phase_down old.phase ≡ true → Appends before.taken now.taken queued
+      → HasWrittenLast rel begin now new
+  taken_last down took = record {
+    after = wrote.made.after;
+    used = is.used;
+    unused = is.rest;
+    given = is.given ++ wrote.gone;
+    has = has_wrote;
+    represents = wrote.made.represents;
+    told = told is.told;
+    input = input_wrote;
+    output = subst (Appends begin.start.taken now.taken)
+        (ap (λ (octets : List ℕ). is.given ++ octets) (wrote.split down is.failing)
+        ∙ sym (append_assoc is.given wrote.gone queued_now))
+        (Appends-trans begin.start.taken before.taken now.taken is.given queued is.output took);
+  }
+
+  -- or the link took only the first of them, where what was given out and what waits are these and
+  -- others.
+  stops_with : (some : ℕ) (others : List ℕ) → wrote.gone ++ queued_now ≡ queued ++ others
+      → Appends before.taken now.taken (take some queued) → (error : LinkError)
+      → ((end : EndLog) (untaken : List ℕ) → StopsServingFor now end new untaken error)
       → HasStoppedServing rel begin now new error
-  stops_lent on some took error so =
-      stops_put middle now ready new (puts_lent result lends answers free) same none on some took
-      error so
+  stops_with some others split took error so =
+      let first = take some queued in
+      let rest = drop some queued in record {
+        after = wrote.made.after;
+        used = is.used;
+        unused = is.rest;
+        given = is.given ++ wrote.gone;
+        taken = is.given ++ first;
+        untaken = rest ++ others;
+        has = has_wrote;
+        represents = wrote.made.represents;
+        told = told is.told;
+        input = input_wrote;
+        split = append_assoc is.given wrote.gone queued_now
+            ∙ ap (λ (octets : List ℕ). is.given ++ octets)
+            (split ∙ ap (λ (octets : List ℕ). octets ++ others) (sym (take-append-drop some queued))
+            ∙ append_assoc first rest others)
+            ∙ sym (append_assoc is.given first (rest ++ others));
+        output = Appends-trans begin.start.taken before.taken now.taken is.given first is.output
+            took;
+        so = so wrote.made.after (rest ++ others);
+      }
+
+  stops_wrote : (is_phase_down old.phase ≡ false
+      → returns_before_put_out (log_view is.after.log) ≡ false) → (some : ℕ)
+      → Appends before.taken now.taken (take some queued) → (error : LinkError)
+      → ((end : EndLog) (untaken : List ℕ) → StopsServingFor now end new untaken error)
+      → HasStoppedServing rel begin now new error
+  stops_wrote ready some took error so = elim (cases_Bool (is_phase_down old.phase)) [
+    | inl down ↦ stops_with some [] (sym (append-nil queued ∙ wrote.split down is.failing)) took
+        error so
+    | inr up ↦ stops_with some queued_now
+        (ap (λ (octets : List ℕ). octets ++ queued_now) (all_gone up (ready up))) took error so
+  ]
+
+  -- So it is written, or is not.
+  pub written_so : (failures failures_now : ℕ) (result : Result (Unit {0}) LinkError)
+      → WritesAll before.taken now.taken failures failures_now result queued
+      → StallsAtNoProgress result now.stalled
+      → (is_phase_down old.phase ≡ false
+      → returns_before_put_out (log_view is.after.log) ≡ false)
+      → WrittenSo rel begin now is.after old new result
+  unfolding WritesAll
+  written_so failures failures_now (Ok done) so stalled ready =
+      match_both (is_phase_down old.phase) (λ down. taken_last down so.0)
+      (λ up. let on = serves_wrote up (ready up) so.0 in (on.serving, on.passed))
+  written_so failures failures_now (Err error) so stalled ready =
+      let (some, first) =
+      written_some before.taken now.taken failures failures_now error queued so in
+      stops_wrote ready some first.took error (λ end untaken.
+      link_so now new untaken error
+      (written_ends before.taken now.taken failures failures_now error queued so)
+      (written_known before.taken now.taken failures failures_now error queued so) stalled end)

@@ -5,10 +5,8 @@
 //! the link. For many connections use `h2_hosting`.
 #![tactic(auto)]
 
-mod errors;
-mod handled;
+mod ending;
 mod serve;
-mod writing;
 
 pub use h2_link::{Link, LinkError};
 pub use h2_server::{

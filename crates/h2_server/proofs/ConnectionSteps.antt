@@ -3,6 +3,7 @@ use Rattle.std.proofs.Common.{◌≡◌, ◌⊎◌, ◌∙◌, inl, inr, refl, s
 use Rattle.std.proofs.lemmas.List.{drop-append-le}
 use Rattle.std.specs.Prelude.{ℕ, Bool, true, false, List, [], ◌++◌, ◌||◌, ◌≤◌, length}
 use Rattle.std.specs.Prelude.{Err}
+use Rattle.h2_spec_log.specs.Acts.{Values}
 use Rattle.h2_ends.specs.declared.roles.EndAs.{EndAs}
 use Rattle.h2_ends.specs.Ends.{EndLog}
 use Rattle.h2_ends.specs.Represents.{EndRepresents}
@@ -145,13 +146,12 @@ module _ {H W : Type 0} {rel : Relations H W} where
       }
 
   -- One thing was made of it, and then another.
-  pub own_then : {gone : List ℕ} (one two three : Connection H W) → MakesOwn rel gone one two
-      → MakesOwn rel [] two three
+  pub made_then : {gone : List ℕ} {values : Values} {end : EndLog} (one two three : Connection H W)
+      → MadeOwn rel gone values end one two → MakesOwn rel [] two three
       → (is_phase_over two.phase ≡ true → is_phase_over three.phase ≡ true)
       → (is_phase_down two.phase ≡ true → is_phase_down three.phase ≡ true)
-      → MakesOwn rel gone one three
-  own_then {gone} one two three first second overs downs values end is =
-      let a = first values end is in
+      → MadeOwn rel gone values end one three
+  made_then {gone} {values} {end} one two three a second overs downs =
       let b = second values a.after a.represents in record {
         kept = kept_both a.kept b.kept downs;
         loses = a.loses || b.loses;
@@ -164,6 +164,14 @@ module _ {H W : Type 0} {rel : Relations H W} where
         represents = b.represents;
         failing = λ so. b.failing (a.failing so);
       }
+
+  pub own_then : {gone : List ℕ} (one two three : Connection H W) → MakesOwn rel gone one two
+      → MakesOwn rel [] two three
+      → (is_phase_over two.phase ≡ true → is_phase_over three.phase ≡ true)
+      → (is_phase_down two.phase ≡ true → is_phase_down three.phase ≡ true)
+      → MakesOwn rel gone one three
+  own_then one two three first second overs downs values end is =
+      made_then one two three (first values end is) second overs downs
 
   -- Nothing more than counting has changed it.
   pub own_counted : {gone : List ℕ} (one two three : Connection H W)

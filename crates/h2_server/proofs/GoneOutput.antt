@@ -22,7 +22,7 @@ use Rattle.h2_server.specs.Steps.{Steps, given_between, puts_out}
 use Rattle.h2_server.proofs.StepsMade.{one_step, same}
 
 -- As many octets are put out as were asked for, where so many wait.
-as_many : {log : Log} {count given : ℕ} → MayAnswer log (PutOut count) (Count given)
+pub as_many : {log : Log} {count given : ℕ} → MayAnswer log (PutOut count) (Count given)
     → count ≤ waiting log → given ≡ count
 as_many {log} {count} {given} (accepts none is) few =
     let same : given ≡ min count

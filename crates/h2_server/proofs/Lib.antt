@@ -14,3 +14,4 @@ mod StatusAlone
 pub mod StepsMade
 mod TakesFirst
 mod Turned
+mod TurnsMade

@@ -2,10 +2,11 @@
 
 ghost use Rattle.std.specs.Prelude.{◌≡◌, [], OnErr, OnOk, length, true};
 ghost use Rattle.h2_host.specs.declared.party.Own.TheVariants as owns;
-ghost use Rattle.h2_server.specs.Connections.{Calls, ConnectionLeaves, ConnectionWidens};
-ghost use Rattle.h2_server.specs.Connections.{ChangesExchanges, Expires, IsCounted, Ticks};
+ghost use Rattle.h2_server.specs.ConnectionSteps.{ChangesExchanges, Expires, Ticks};
+ghost use Rattle.h2_server.specs.Connections.{Calls, ConnectionLeaves, ConnectionWidens, IsCounted};
 ghost use Rattle.h2_server.specs.Deferring.{ResetsBy, RespondsBy};
 ghost use Rattle.h2_server.specs.Phases.{is_phase_over};
+ghost use Rattle.h2_server.specs.Turns.{Turns, Wrote};
 
 use crate::connection::Connection;
 use crate::deferring::ExchangeRefusal;
@@ -62,12 +63,22 @@ impl<H: Handler> Connection<H> {
         self.note();
     }
 
-    /// The connection's turn: takes input that was kept, and queues what can be sent. `room` is
-    /// scratch space for a part of a response, of which at most the first 65,536 octets are used.
-    /// If it is empty, the handler is asked for no part, and the connection stays ready while
-    /// there is a part to ask for.
+    /// The connection's turn: takes input that was kept, and queues what can be sent, in this
+    /// order: credit; the responses that waited because the output was full; up to 16,384 octets of
+    /// each complete body; one part of one response, for which it asks the handler; and RST_STREAM
+    /// with NO_ERROR for refused requests that are incomplete and whose response is in the output.
+    ///
+    /// If the transport has no more input for now (the last [`Connection::receive`] got fewer than
+    /// 16,384 octets, or [`Connection::receive_none`] was called), credit is returned for all that
+    /// the handler has used, unless 65,536 octets or more of output wait; otherwise only if it is
+    /// due.
+    ///
+    /// `room` is scratch space for a part of a response, of which at most the first 65,536 octets
+    /// are used. If it is empty, the handler is asked for no part, and the connection stays ready
+    /// while there is a part to ask for.
     pub fn advance(&mut self, room: &mut [u8])
         ensures calls { Calls H.Handler owns.Turn [] self.old self.new }
+        ensures turns { Turns H.Handler self.old self.new }
         ensures room { length room.new ≡ length room.old }
     {
         self.turn(room);
@@ -78,7 +89,8 @@ impl<H: Handler> Connection<H> {
     /// Removes `count` octets of the output, which were written; at most as many as are queued. A
     /// closed connection keeps its output.
     pub fn written(&mut self, count: usize)
-        ensures { Calls H.Handler (owns.Went count) [] self.old self.new }
+        ensures calls { Calls H.Handler (owns.Went count) [] self.old self.new }
+        ensures wrote { Wrote H.Handler count self.old self.new }
     {
         self.take_away(count);
         self.note();

@@ -64,7 +64,7 @@ pub(crate) struct Totals {
 /// The open exchanges of a server, by stream, with the handler of its requests. A
 /// [`Connection`](crate::Connection) is made of a server and these, and adds deadlines and budgets.
 #[derive(Drop)]
-pub struct Exchanges<H: Handler> {
+pub(crate) struct Exchanges<H: Handler> {
     pub(crate) alloc: Global,
     pub(crate) handler: H,
     pub(crate) kept: NumberMap<Exchange<H::Work>>,

@@ -16,10 +16,10 @@ ghost use Rattle.h2_laws_log.specs.Sums.{sum_below};
 ghost use Rattle.h2_server.specs.Credit.{OwesAtMost};
 
 // contract: 6.9 (own) Before a read that may wait credit is returned for all that is used
-/// Once [`send_some`](crate::Exchanges::send_some) has returned credit before a read that may
-/// wait, and fewer than 65,536 octets of output wait, a client is kept from sending only by what
-/// handlers have not used and, on the connection, by what is unreturned: octets of discarded DATA
-/// and of closed streams that are still to be returned by WINDOW_UPDATE (RFC 9113, section 6.9).
+/// Once [`advance`](crate::Connection::advance) has returned credit before a read that may wait,
+/// and fewer than 65,536 octets of output wait, a client is kept from sending only by what handlers
+/// have not used and, on the connection, by what is unreturned: octets of discarded DATA and of
+/// closed streams that are still to be returned by WINDOW_UPDATE (RFC 9113, section 6.9).
 /// On a stream that the client has not ended, what it may send plus what is unused is at least the
 /// initial window in force. On the connection, the sum of what it may send, what is unused on all
 /// streams and what is unreturned is at least 65,535 octets plus what the window was widened by.

@@ -54,7 +54,6 @@ pub use buffered::{Buffered, BufferedRequest, Echo, Request, Service};
 pub use connection::Connection;
 pub use deadlines::{Activity, Deadlines, Timeout};
 pub use deferring::ExchangeRefusal;
-pub use exchanges::Exchanges;
 pub use floods::{Flood, FloodBudget, FloodCounts};
 pub use h2_ends::{Code, Config, Conn, Field, FieldList, Message};
 pub use h2_host::Bound;

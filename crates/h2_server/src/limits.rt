@@ -104,3 +104,36 @@ impl Default for ConnectionLimits {
         }
     }
 }
+
+impl ConnectionLimits {
+    ghost use Rattle.std.specs.Prelude.{◌≡◌};
+    ghost use Rattle.h2_server.specs.Limits.{no_floods, no_times};
+
+    /// No limits: nothing takes too long, and nothing is a flood. `closing` and `least_closing` are
+    /// the defaults; they count only if [`Connection::tick`](crate::Connection::tick) is called.
+    pub fn unlimited() -> ConnectionLimits
+        ensures times { result.times ≡ no_times }
+        ensures floods { result.floods ≡ no_floods }
+    {
+        ConnectionLimits {
+            times: TimeLimits {
+                opening: 0,
+                frame: 0,
+                body: 0,
+                least_body: 0,
+                writing: 0,
+                answering: 0,
+                idle: 0,
+                deferred: 0,
+            },
+            floods: FloodLimits {
+                stretch: u64::MAX,
+                resets: u32::MAX,
+                empty: u32::MAX,
+                refused: u32::MAX,
+                replies: u64::MAX,
+            },
+            ..ConnectionLimits::default()
+        }
+    }
+}

@@ -6,7 +6,8 @@ use h2_host::{Answer, Own, Party};
 
 impl<H: Handler> Party for Connection<H> {
     ghost use Rattle.h2_conn.specs.Conn.{octets_queued};
-    ghost use Rattle.h2_server.specs.Connections.{ConnectionSteps, TakesNow};
+    ghost use Rattle.h2_server.specs.ConnectionSteps.{ConnectionSteps};
+    ghost use Rattle.h2_server.specs.Connections.{TakesNow};
 
     ghost steps = { λ old own octets answer new.
         ConnectionSteps H.Handler old own octets answer new };
@@ -48,7 +49,8 @@ impl<H: Handler> Connection<H> {
     ghost use Rattle.std.specs.Prelude.{◌≡◌, length, true};
     ghost use Rattle.h2_host.specs.Parties.{IsRefusal};
     ghost use Rattle.h2_host.specs.declared.party.Own.TheVariants as owns;
-    ghost use Rattle.h2_server.specs.Connections.{CallsThen, octets_with};
+    ghost use Rattle.h2_server.specs.ConnectionSteps.{CallsThen};
+    ghost use Rattle.h2_server.specs.Connections.{octets_with};
     ghost use Rattle.h2_server.specs.Phases.{is_phase_over};
 
     /// Makes the call that a host asks for.

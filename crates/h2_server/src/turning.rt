@@ -11,6 +11,7 @@ ghost use Rattle.h2_server.specs.Connections.{keeps_none};
 ghost use Rattle.h2_server.specs.Watching.{readiness_after};
 ghost use Rattle.h2_server.specs.Exchanges.{handling_of};
 ghost use Rattle.h2_server.specs.Steps.{HandlesPiece};
+ghost use Rattle.h2_server.specs.Turns.{Turns, Wrote};
 ghost use Rattle.h2_server.specs.Phases.{is_phase_down};
 
 use crate::connection::Connection;
@@ -102,6 +103,7 @@ impl<H: Handler> Connection<H> {
     /// Takes input that was kept, and sends what can go.
     pub(crate) fn turn(&mut self, room: &mut [u8])
         ensures makes { Makes H.Handler [] [] self.old self.new }
+        ensures turns { Turns H.Handler self.old self.new }
         ensures told { KeepsTold self.old self.new }
         ensures room { length room.new ≡ length room.old }
         ensures phase { IsSameOrStopped self.old.phase self.old.watch.time self.new.phase }
@@ -158,6 +160,7 @@ impl<H: Handler> Connection<H> {
     /// Queues what can be sent, if the connection is not down.
     fn send(&mut self, room: &mut [u8])
         ensures makes { MakesOwn H.Handler [] self.old self.new }
+        ensures turns { Turns H.Handler self.old self.new }
         ensures told { KeepsTold self.old self.new }
         ensures room { length room.new ≡ length room.old }
         ensures phase { IsSameOrStopped self.old.phase self.old.watch.time self.new.phase }
@@ -183,6 +186,7 @@ impl<H: Handler> Connection<H> {
         ensures makes { (gone : List ℕ) × MakesOwn H.Handler gone self.old self.new
             × GivesGone (owns.Went count) self.old gone self.new
             × WatchesBy (owns.Went count) gone self.old self.new.watch }
+        ensures wrote { Wrote H.Handler count self.old self.new }
         ensures told { KeepsTold self.old self.new }
         ensures phase { IsSameOrRefused self.old.phase self.new.phase }
         ensures readiness { self.new.readiness ≡ self.old.readiness }
@@ -197,6 +201,7 @@ impl<H: Handler> Connection<H> {
     fn remove(&mut self, count: usize) -> usize
         ensures makes { (gone : List ℕ) × MakesOwn H.Handler gone self.old self.new
             × GivesGone (owns.Went count) self.old gone self.new × (result ≡ length gone) }
+        ensures wrote { Wrote H.Handler count self.old self.new }
         ensures told { KeepsTold self.old self.new }
         ensures phase { IsSameOrRefused self.old.phase self.new.phase }
         ensures readiness { self.new.readiness ≡ self.old.readiness }

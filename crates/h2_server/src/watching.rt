@@ -11,6 +11,7 @@ ghost use Rattle.h2_server.specs.Connections.{WatchesBy, phase_late, phase_passe
 ghost use Rattle.h2_server.specs.Connections.{since_moved, watch_moved};
 ghost use Rattle.h2_server.specs.Deadlines.{overdue_of};
 ghost use Rattle.h2_server.specs.Phases.{is_phase_failing};
+ghost use Rattle.h2_server.specs.Turns.{KeepsDown, KeepsUp};
 ghost use Rattle.h2_server.specs.declared.connection.Phase.TheVariants as phases;
 ghost use Rattle.h2_server.specs.declared.deadlines.Timeout.TheVariants as timeouts;
 
@@ -134,6 +135,8 @@ impl<H: Handler> Connection<H> {
     pub(crate) fn note(&mut self)
         ensures makes { MakesOwn H.Handler [] self.old self.new }
         ensures told { KeepsTold self.old self.new }
+        ensures up { KeepsUp self.old self.new }
+        ensures down { KeepsDown self.old self.new }
         ensures phase { NotesPhase self.old self.new.phase }
         ensures readiness { self.new.readiness ≡ self.old.readiness }
         ensures watch { NotesWatch self.old.phase self.old self.new.watch }
@@ -148,6 +151,8 @@ impl<H: Handler> Connection<H> {
     fn note_phase(&mut self)
         ensures makes { MakesOwn H.Handler [] self.old self.new }
         ensures told { KeepsTold self.old self.new }
+        ensures up { KeepsUp self.old self.new }
+        ensures down { KeepsDown self.old self.new }
         ensures phase { NotesPhase self.old self.new.phase }
         ensures readiness { self.new.readiness ≡ self.old.readiness }
         ensures watch { NotesWatch self.old.phase self.old self.new.watch }
@@ -172,6 +177,7 @@ impl<H: Handler> Connection<H> {
     fn note_open(&mut self)
         ensures makes { MakesOwn H.Handler [] self.old self.new }
         ensures told { KeepsTold self.old self.new }
+        ensures up { KeepsUp self.old self.new }
         ensures phase { self.old.phase ≡ phases.Open → NotesPhase self.old self.new.phase }
         ensures readiness { self.new.readiness ≡ self.old.readiness }
         ensures watch { NotesWatch phases.Open self.old self.new.watch }
@@ -193,6 +199,7 @@ impl<H: Handler> Connection<H> {
     fn note_ending(&mut self, why: CloseReason, since: u64)
         ensures makes { MakesOwn H.Handler [] self.old self.new }
         ensures told { KeepsTold self.old self.new }
+        ensures up { KeepsUp self.old self.new }
         ensures phase { NotesEnding self.old why since self.new.phase }
         ensures readiness { self.new.readiness ≡ self.old.readiness }
         ensures watch { self.new.watch ≡ self.old.watch }
@@ -212,6 +219,8 @@ impl<H: Handler> Connection<H> {
         requires { is_phase_failing self.old.phase ≡ true }
         ensures makes { MakesOwn H.Handler [] self.old self.new }
         ensures told { KeepsTold self.old self.new }
+        ensures up { KeepsUp self.old self.new }
+        ensures server { self.new.server ≡ self.old.server }
         ensures phase { NotesFailing self.old why since self.new.phase }
         ensures readiness { self.new.readiness ≡ self.old.readiness }
         ensures watch { self.new.watch ≡ self.old.watch }

@@ -8,6 +8,6 @@ mod links;
 mod response;
 
 pub use devices::{Failing, Faulty, Full, Halves, Pieces};
-pub use fetches::{fetch_of, fetch_of_two};
+pub use fetches::{ask_for, client_of, fetch_of, fetch_of_two, is_handed_back};
 pub use links::link_of;
 pub use response::RESPONSE;

@@ -2,5 +2,6 @@
 //!
 //! Tests are proved as well: small functions return whether a case holds.
 
+mod later;
 mod printing;
 pub(crate) mod windows;

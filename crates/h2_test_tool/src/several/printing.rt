@@ -5,7 +5,7 @@ ghost use Rattle.h2_args.specs.Words.{asked_by};
 
 use h2_args::{GetOptions, get_args};
 use h2_engines::MemoryLink;
-use h2_fetch::SeveralFetch;
+use h2_fetch::ClientConnection;
 use h2_get::{StreamError, stream_several};
 use h2_net::{Fetched, LinkError};
 use h2_test_kit::{fetch_of_two, link_of};
@@ -63,7 +63,7 @@ struct Wanted<'a> {
 fn prints_over(
     alloc: Global,
     options: &GetOptions<'_>,
-    fetch: &mut SeveralFetch,
+    fetch: &mut ClientConnection,
     link: &mut MemoryLink,
     wanted: Wanted<'_>,
 ) -> bool
@@ -71,7 +71,7 @@ fn prints_over(
     requires no_file { (asked_by options.now).output ≡ None }
 {
     let mut out = Vec::new(alloc);
-    match stream_several(alloc, options, fetch, link, &mut out) {
+    match stream_several(alloc, options, fetch, &[1, 3], link, &mut out) {
         Ok(results) => {
             out.as_slice() == wanted.text.as_bytes() && have_ended(&results, wanted.errors)
         }

@@ -3,7 +3,7 @@
 ghost use Rattle.std.specs.Prelude.{◌≡◌};
 
 use h2_engines::{Link, MemoryLink};
-use h2_fetch::{Came, ResponsePart, SeveralFetch};
+use h2_fetch::{Came, ClientConnection, ResponsePart};
 use h2_test_kit::{fetch_of_two, link_of};
 use std::alloc::Global;
 
@@ -31,7 +31,7 @@ pub(crate) fn contains(octets: &[u8], some: &[u8]) -> bool {
 
 /// Whether the window of the stream that is asked for last was opened again, and the other wasn't,
 /// where the streams are asked for in this order.
-fn opens_over(fetch: &mut SeveralFetch, link: &mut MemoryLink, asked: &[u32]) -> bool {
+fn opens_over(fetch: &mut ClientConnection, link: &mut MemoryLink, asked: &[u32]) -> bool {
     for id in asked {
         if link.failures() > 0 {
             return false;
@@ -74,7 +74,7 @@ const EMPTY: &[u8] = b"\x00\x00\x00\x04\x00\x00\x00\x00\x00\x00\x00\x00\x04\x01\
     \x00\x00\x00\x00\x00\x00\x00\x00\x03\x00\x00\x01\x00\x01\x00\x00\x00\x03b";
 
 /// Whether the next on stream 3 is the head, and then the body, whatever else has come.
-fn says_all(fetch: &mut SeveralFetch, link: &mut MemoryLink) -> bool
+fn says_all(fetch: &mut ClientConnection, link: &mut MemoryLink) -> bool
     requires { link.old.failures ≡ 0 }
 {
     if !matches!(
@@ -94,7 +94,7 @@ fn says_all(fetch: &mut SeveralFetch, link: &mut MemoryLink) -> bool
 }
 
 /// The same where a first octet of stream 1 is waited for before.
-fn says_all_later(fetch: &mut SeveralFetch, link: &mut MemoryLink) -> bool
+fn says_all_later(fetch: &mut ClientConnection, link: &mut MemoryLink) -> bool
     requires { link.old.failures ≡ 0 }
 {
     fetch.next_on(1, link).is_err() && link.failures() == 0 && says_all(fetch, link)
@@ -111,7 +111,7 @@ fn drops_empty(alloc: Global, waits_first: bool) -> bool {
     }
 }
 
-fn drops_empty_over(fetch: &mut SeveralFetch, link: &mut MemoryLink, waits_first: bool) -> bool
+fn drops_empty_over(fetch: &mut ClientConnection, link: &mut MemoryLink, waits_first: bool) -> bool
     requires { link.old.failures ≡ 0 }
 {
     if waits_first {

@@ -1,20 +1,15 @@
--- By the lemmas on what is kept.
-use Rattle.std.proofs.Common.{refl, sym, ◌∙◌}
-use Rattle.h2_fetch.specs.Kept.{TakesKept}
-use Rattle.h2_fetch.proofs.KeptParts.{first_kept, none_kept}
+-- By the lemmas on the queue of a stream.
+use Rattle.h2_fetch.proofs.KeptQueues.{empty_removed, taken_then}
+use Rattle.h2_fetch.proofs.kept.take_kept.Goals.{else-is_empty_at, then-is_empty_at}
 use Rattle.h2_fetch.proofs.kept.take_kept.Goals as goal
 
-pub returns-in_err-at : goal.returns-in_err-at
-unfolding TakesKept
-returns-in_err-at c =
-    rw c.from_residual.ensures (
-      none_kept c.args.id c.args.kept.now.items (sym c.place_of.ensures ∙ c.in_err-at.was),
-      refl,
-    )
-
 pub returns : goal.returns
-unfolding TakesKept
 returns c =
-    rw c.in_ok-came.ensures.items (first_kept c.args.id c.args.kept.now.items c.in_ok-at.at
-    (c.in_ok-came.field-0-0, c.in_ok-came.came) (sym c.place_of.ensures ∙ c.in_ok-at.was)
-    c.in_ok-came.ensures.value)
+    elim c.if-is_empty_at.branch [
+      | then-is_empty_at w ↦ rw w.kept-is (taken_then c.args.id c.in_ok-came.came
+          c.args.kept.now.entries c.take_first.new.kept.entries w.remove.new.self.entries
+          c.in_ok-came.ensures (empty_removed c.args.id c.take_first.new.kept.entries
+          w.remove.new.self.entries (c.is_empty_at.ensures w.if-is_empty_at.true)
+          w.remove.ensures.updates))
+      | else-is_empty_at w ↦ rw w.kept-is c.in_ok-came.ensures
+    ]

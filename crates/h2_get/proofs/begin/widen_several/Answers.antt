@@ -11,4 +11,4 @@ pub returns-in-Ok-clause-ok : goal.returns-in-Ok-clause-ok
 returns-in-Ok-clause-ok c =
     ask_more c.widen.new.self
     (omega (arith, c.if-count-eq0.false, c.saturating_sub-count.ensures))
-    (rw c.saturating_sub-count.ensures at c.in-Ok.ensures.widens)
+    (rw c.saturating_sub-count.ensures at c.in-Ok.ensures)

@@ -11,7 +11,6 @@ pub loop-init : goal.loop-init
 loop-init g c =
     record {
       failures = refl;
-      ids = refl;
       parts = parts_first (Written _ _) _ c.args.fetch.now c.args.id (writes_none _);
     }
 
@@ -20,7 +19,7 @@ returns-in_err-part-clause-passes g c =
     let answer = err_from_is_err_and c.from_residual.result c.from_residual.ensures.1 in
     rw (answer.1, answer.2) (body_stops_on _ _ c.args.fetch.now _ _ _ _ _
     (parts_stop (Written _ _) _ _ _ c.args.fetch.now c.loop.fetch _ c.args.id c.loop.counter
-    c.loop.invariant.parts c.loop.invariant.ids _ c.in_err-part.ensures.part))
+    c.loop.invariant.parts _ c.in_err-part.ensures.part))
 
 pub returns-in_err-trailers-clause-passes : goal.returns-in_err-trailers-clause-passes
 returns-in_err-trailers-clause-passes g c =
@@ -28,7 +27,7 @@ returns-in_err-trailers-clause-passes g c =
     c.from_residual-in_err-trailers.ensures.1 in
     rw (answer.1, answer.2, c.in_err-trailers.ensures.0) (body_first_on _ _ c.args.fetch.now _
     c.args.id _ _ _ (parts_one (Written _ _) _ _ _ c.args.fetch.now c.loop.fetch _ c.args.id
-    c.loop.counter c.loop.invariant.parts c.loop.invariant.ids (WritesFirst _ _) c.in_ok-part.part
+    c.loop.counter c.loop.invariant.parts (WritesFirst _ _) c.in_ok-part.part
     (writes_first c.args.id _ _ _ c.in_ok-part.part _ c.in_err-trailers.ensures)
     c.in_ok-part.ensures.part))
 
@@ -36,7 +35,7 @@ pub returns-in-Whole-clause-passes : goal.returns-in-Whole-clause-passes
 returns-in-Whole-clause-passes g c =
     body_whole_on _ _ c.args.fetch.now _ c.args.id _ _ _ c.in-Whole.trailers
     (parts_one (Written _ _) _ _ _ c.args.fetch.now c.loop.fetch _ c.args.id c.loop.counter
-    c.loop.invariant.parts c.loop.invariant.ids (EndsWritten c.args.id _ _ c.in-Whole.trailers)
+    c.loop.invariant.parts (EndsWritten c.args.id _ _ c.in-Whole.trailers)
     c.in_ok-part.part
     (ends_written c.args.id _ _ _ c.in_ok-part.part c.in-Whole.trailers
     (rw c.in-Whole.is at c.in_ok-trailers.ensures)) c.in_ok-part.ensures.part)
@@ -45,9 +44,8 @@ pub loop-preserved : goal.loop-preserved
 loop-preserved g c =
     record {
       failures = c.in_ok-part.ensures.failures ∙ c.loop.invariant.failures;
-      ids = c.in_ok-part.ensures.ids ∙ c.loop.invariant.ids;
       parts = parts_one (Written _ _) _ _ _ c.args.fetch.now c.loop.fetch _ c.args.id
-          c.loop.counter c.loop.invariant.parts c.loop.invariant.ids (Written _ _)
+          c.loop.counter c.loop.invariant.parts (Written _ _)
           c.in_ok-part.part
           (writes_one _ _ _ _ c.in_ok-part.part (rw c.in-GoesOn.is at c.in_ok-trailers.ensures))
           c.in_ok-part.ensures.part;
@@ -57,4 +55,4 @@ pub returns-clause-passes : goal.returns-clause-passes
 returns-clause-passes g c =
     body_stops_on _ _ c.args.fetch.now _ _ _ _ _
     (no_part_left (Written _ _) _ _ c.args.fetch.now c.loop.fetch c.args.id c.loop.counter
-    (omega arith) c.loop.invariant.ids c.loop.invariant.parts)
+    (omega arith) c.loop.invariant.parts)

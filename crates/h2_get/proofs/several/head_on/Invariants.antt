@@ -9,7 +9,6 @@ abbrev pub invariant-loop : goal.invariant-loop
 invariant-loop g l =
     record {
       failures : g.L.Link.faults l.link ≡ g.L.Link.faults l.initial.link;
-      ids : l.fetch.ids ≡ l.initial.fetch.ids;
       parts : PartsOn HasNoHead
           (traffic (g.L.Link.given l.initial.link) (g.L.Link.taken l.initial.link)
           (g.L.Link.stalled l.initial.link))

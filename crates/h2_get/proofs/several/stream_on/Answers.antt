@@ -50,7 +50,7 @@ returns-in-Err-Link-clause-streams g c =
     printed_first (asked_by c.args.options.now) c.args.is_first _ _ c.args.fetch.now
     c.head_on.new.fetch c.args.id _ _ c.in_ok-print_opening.ensures.opens c.in-Ok.head
     c.in-Ok.ensures.head c.fetched_with-fetched.result c.fetched_with-fetched.ensures.head _
-    c.in_ok-print_head.ensures.head _ c.body_on.new.fetch c.in-Ok.ensures.ids c.requires.no_file _
+    c.in_ok-print_head.ensures.head _ c.body_on.new.fetch c.requires.no_file _
     c.in-Err-Link.error (rw c.in-Err-Link.field-0-is at c.in-Err-Link.ensures.passes)
 
 pub returns-in-Err-Link-clause-failures : goal.returns-in-Err-Link-clause-failures
@@ -63,7 +63,7 @@ returns-in-Err-Output-clause-streams g c =
     body_unprinted (asked_by c.args.options.now) c.args.is_first _ _ c.args.fetch.now
     c.head_on.new.fetch c.args.id _ _ c.in_ok-print_opening.ensures.opens c.in-Ok.head
     c.in-Ok.ensures.head c.fetched_with-fetched.result c.fetched_with-fetched.ensures.head _
-    c.in_ok-print_head.ensures.head _ c.body_on.new.fetch c.in-Ok.ensures.ids c.requires.no_file _
+    c.in_ok-print_head.ensures.head _ c.body_on.new.fetch c.requires.no_file _
     (rw c.in-Err-Output.field-0-is at c.in-Err-Output.ensures.passes)
 
 pub returns-in_err-print_last-clause-streams : goal.returns-in_err-print_last-clause-streams
@@ -74,7 +74,7 @@ returns-in_err-print_last-clause-streams g c =
     (trailers_unprinted (asked_by c.args.options.now) c.args.is_first _ _ c.args.fetch.now
     c.head_on.new.fetch c.args.id _ _ c.in_ok-print_opening.ensures.opens c.in-Ok.head
     c.in-Ok.ensures.head c.fetched_with-fetched.result c.fetched_with-fetched.ensures.head _
-    c.in_ok-print_head.ensures.head _ c.body_on.new.fetch c.in-Ok.ensures.ids c.requires.no_file _
+    c.in_ok-print_head.ensures.head _ c.body_on.new.fetch c.requires.no_file _
     (g.W.Write.contents c.print_last.new.out) c.in-Ok-body_on.trailers
     c.in-Ok-body_on.ensures.passes)
 
@@ -83,6 +83,6 @@ returns-clause-streams g c =
     printed_whole (asked_by c.args.options.now) c.args.is_first _ _ c.args.fetch.now
     c.head_on.new.fetch c.args.id _ _ c.in_ok-print_opening.ensures.opens c.in-Ok.head
     c.in-Ok.ensures.head c.fetched_with-fetched.result c.fetched_with-fetched.ensures.head _
-    c.in_ok-print_head.ensures.head _ c.body_on.new.fetch c.in-Ok.ensures.ids c.requires.no_file _
+    c.in_ok-print_head.ensures.head _ c.body_on.new.fetch c.requires.no_file _
     _ c.in-Ok-body_on.trailers (sym c.is_failure.ensures ∙ c.if-is_failure.false) c.if-end.false
     c.in-Ok-body_on.ensures.passes c.in_ok-print_last.ensures.trailers

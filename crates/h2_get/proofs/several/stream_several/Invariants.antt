@@ -10,7 +10,6 @@ abbrev pub invariant-loop-place : goal.invariant-loop-place
 invariant-loop-place g l =
     record {
       failures : g.L.Link.faults l.link ≡ g.L.Link.faults l.initial.link;
-      ids : l.fetch.ids ≡ l.initial.fetch.ids;
       count : length l.results.items ≡ l.place;
       good : AllGoOn l.results.items;
       prints : PrintsFirst (asked_by l.fn.options)
@@ -18,5 +17,5 @@ invariant-loop-place g l =
           (g.L.Link.stalled l.initial.link))
           (traffic (g.L.Link.given l.link) (g.L.Link.taken l.link) (g.L.Link.stalled l.link))
           l.initial.fetch l.fetch (g.W.Write.contents l.initial.out) (g.W.Write.contents l.out)
-          (take l.place l.initial.fetch.ids.items) l.results.items;
+          (take l.place l.ids) l.results.items;
     }

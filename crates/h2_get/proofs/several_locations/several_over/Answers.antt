@@ -5,10 +5,12 @@ use Rattle.h2_get.proofs.several_locations.several_over.Goals as goal
 
 pub returns-then-not-options : goal.returns-then-not-options
 returns-then-not-options g c =
-    over_some_link (asked_by c.args.options.now) _ _ c.args.fetch.now _ _ _
-    c.stream_several.result c.stream_several.ensures
+    over_some_link (asked_by c.args.options.now) c.args.begun.now.ids.items _ _
+    c.args.begun.now.fetch _ _ _ c.stream_several.result
+    (rw c.deref.ensures.value at c.stream_several.ensures)
 
 pub returns : goal.returns
 returns g c =
-    over_some_link (asked_by c.args.options.now) _ _ c.args.fetch.now _ _ _
-    c.stream_several-2.result c.stream_several-2.ensures
+    over_some_link (asked_by c.args.options.now) c.args.begun.now.ids.items _ _
+    c.args.begun.now.fetch _ _ _ c.stream_several-2.result
+    (rw c.deref-2.ensures.value at c.stream_several-2.ensures)

@@ -2,7 +2,7 @@
 use Rattle.std.proofs.Common.{◌⊎◌, ℕ, map, refl, subst, sym}
 use Rattle.std.proofs.lemmas.List.{length-map}
 use Rattle.h2_message.specs.Values.{message_value}
-use Rattle.h2_fetch.specs.Several.{RefusesOne}
+use Rattle.h2_get.specs.Asking.{RefusesOne}
 use Rattle.h2_get.specs.Several.{are_streamed, none_connected, one_refused, results_lost}
 use Rattle.h2_args.specs.Words.{asked_by}
 use Rattle.h2_get.specs.Windows.{IsNotWidened, several_values, window_of}
@@ -25,7 +25,7 @@ returns-in-Err-begin_several g c =
 pub returns-in-Ok-several_over : goal.returns-in-Ok-several_over
 returns-in-Ok-several_over g c =
     rw c.end_several.ensures.results
-    (are_streamed c.in-Ok-begin_several.fetch _ _
+    (are_streamed c.in-Ok-begin_several.begun.ids.items c.in-Ok-begin_several.begun.fetch _ _
     (rw c.window_of.ensures at c.in-Ok-begin_several.ensures.ok) c.in-Ok-several_over.ensures)
 
 pub returns : goal.returns

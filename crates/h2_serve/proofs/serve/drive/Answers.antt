@@ -1,11 +1,10 @@
--- In each round what can be sent is written, and a piece is read and taken.
-use Rattle.h2_engines.proofs.Names.{ℕ, false, refl, sym, ◌<◌, ◌∙◌, [], arith, length, take, subst}
+-- In each round what can be sent is written, and octets are read and taken.
+use Rattle.h2_engines.proofs.Names.{ℕ, refl, sym, ◌<◌, ◌∙◌, arith, length, subst}
 use Rattle.h2_engines.proofs.Names.{err_from_is_err_and}
 use Rattle.h2_engines.proofs.MachineDrives.{gives_none}
 use Rattle.h2_link.specs.declared.error.LinkError.TheVariants as errors
 use Rattle.h2_serve.proofs.ServedEnds.{ends_input}
-use Rattle.h2_serve.proofs.Serving.{serves_now, serves_read, serves_taken, serves_written}
-use Rattle.h2_serve.proofs.Serving.{serving_on, stops_out, stops_so, written_read}
+use Rattle.h2_serve.proofs.Serving.{serves_now, serving_still, stops_out, stops_so, written_still}
 use Rattle.h2_serve.proofs.serve.drive.Goals as goal
 
 pub loop-init : goal.loop-init
@@ -14,7 +13,7 @@ loop-init g c = record { failures = refl; room = refl; drives = λ begin was. se
 pub returns-in_err-send_all-clause-drives : goal.returns-in_err-send_all-clause-drives
 returns-in_err-send_all-clause-drives g c =
     let answer = err_from_is_err_and c.from_residual.result c.from_residual.ensures.1 in
-    rw (answer.1, answer.2) (λ begin was. c.in_err-send_all.ensures.sends begin false []
+    rw (answer.1, answer.2) (λ begin was. c.in_err-send_all.ensures.sends begin
     (c.loop.invariant.drives begin was).serving)
 
 pub returns-in_err-count-clause-drives : goal.returns-in_err-count-clause-drives
@@ -22,18 +21,16 @@ returns-in_err-count-clause-drives g c =
     let answer = err_from_is_err_and c.from_residual-in_err-count.result
     c.from_residual-in_err-count.ensures.1 in
     rw (answer.1, answer.2) (λ begin was.
-    let on = c.loop.invariant.drives begin was in
-    let sent = serves_written c.loop.counter (length was.after.log.turns) on
-    (c.in_ok-send_all.ensures.sends begin false [] on.serving) in
-    stops_so errors.Device (serves_read _ [] c.in_err-count.ensures.gives
-    c.in_err-count.ensures.takes_none sent).serving tt)
+    let (written, later) = c.in_ok-send_all.ensures.sends begin
+    (c.loop.invariant.drives begin was).serving in
+    stops_so errors.Device (serving_still written.serving c.in_err-count.ensures.takes_none
+    c.in_err-count.ensures.gives) tt)
 
 pub returns-then-count-eq0-clause-drives : goal.returns-then-count-eq0-clause-drives
 returns-then-count-eq0-clause-drives g c begin was =
-    written_read _ (gives_none _ _ c.read.new.buffer c.in_ok-count.count
+    written_still (gives_none _ _ c.read.new.buffer c.in_ok-count.count
     c.if-count-eq0.true c.in_ok-count.ensures.gives.1) c.in_ok-count.ensures.takes_none
-    (c.in_ok-send_all.ensures.sends begin false []
-    (c.loop.invariant.drives begin was).serving).0
+    (c.in_ok-send_all.ensures.sends begin (c.loop.invariant.drives begin was).serving).0
 
 pub returns-then-count-eq0-clause-ended : goal.returns-then-count-eq0-clause-ended
 returns-then-count-eq0-clause-ended g c =
@@ -41,32 +38,18 @@ returns-then-count-eq0-clause-ended g c =
     c.if-count-eq0.true
     (subst (λ (n : ℕ). 0 < n) (sym c.loop.invariant.room) c.requires.some)
 
-pub returns-in_err-take_all-clause-drives : goal.returns-in_err-take_all-clause-drives
-returns-in_err-take_all-clause-drives g c =
-    let answer = err_from_is_err_and c.from_residual-in_err-take_all.result
-    c.from_residual-in_err-take_all.ensures.1 in
-    rw (answer.1, answer.2) (λ begin was.
-    let on = c.loop.invariant.drives begin was in
-    let sent = serves_written c.loop.counter (length was.after.log.turns) on
-    (c.in_ok-send_all.ensures.sends begin false [] on.serving) in
-    c.in_err-take_all.ensures.takes begin
-    (serving_on c.ask_again.ensures (serves_read _ (take c.in_ok-count.count c.read.new.buffer)
-    c.in_ok-count.ensures.gives.1 c.in_ok-count.ensures.takes_none sent)).serving)
-
 pub loop-preserved : goal.loop-preserved
 loop-preserved g c =
     record {
-      failures = c.in_ok-take_all.ensures.failures ∙ c.in_ok-count.ensures.failures
-          ∙ c.in_ok-send_all.ensures.failures ∙ c.loop.invariant.failures;
+      failures = c.in_ok-count.ensures.failures ∙ c.in_ok-send_all.ensures.failures
+          ∙ c.loop.invariant.failures;
       room = c.in_ok-count.ensures.length ∙ c.loop.invariant.room;
       drives = λ begin was.
           let on = c.loop.invariant.drives begin was in
-          let sent = serves_written c.loop.counter (length was.after.log.turns) on
-          (c.in_ok-send_all.ensures.sends begin false [] on.serving) in
-          let read = serving_on c.ask_again.ensures (serves_read _
-          (take c.in_ok-count.count c.read.new.buffer) c.in_ok-count.ensures.gives.1
-          c.in_ok-count.ensures.takes_none sent) in
-          serves_taken read (c.in_ok-take_all.ensures.takes begin read.serving);
+          let (written, later) = c.in_ok-send_all.ensures.sends begin on.serving in
+          let (serving, kept) = c.take_in.ensures begin _ _ written c.in_ok-count.ensures.gives.1
+          c.in_ok-count.ensures.takes_none in
+          record { serving = serving; passed = omega (arith, on.passed, later, kept) };
     }
 
 pub returns-clause-drives : goal.returns-clause-drives

@@ -1,6 +1,5 @@
--- No call of the link has failed, the room is as long as it was, and it is served, in so many
--- rounds.
-use Rattle.h2_engines.proofs.Names.{◌≡◌, length, traffic}
+-- No call of the link has failed, and it is served, in so many rounds.
+use Rattle.h2_engines.proofs.Names.{◌≡◌, traffic}
 use Rattle.h2_serve.proofs.Serving.{ServesFrom}
 use Rattle.h2_serve.proofs.serve.send_all.Given as goal
 
@@ -8,11 +7,10 @@ abbrev pub invariant-loop : goal.invariant-loop
 invariant-loop g l =
     record {
       failures : g.L.Link.faults l.link ≡ g.L.Link.faults l.initial.link;
-      room : length l.room ≡ length l.initial.room;
       sends : ServesFrom
           g.H.Handler
           (traffic (g.L.Link.given l.initial.link) (g.L.Link.taken l.initial.link)
           (g.L.Link.stalled l.initial.link))
           (traffic (g.L.Link.given l.link) (g.L.Link.taken l.link) (g.L.Link.stalled l.link))
-          l.initial.handled l.handled l.counter;
+          l.initial.connection l.connection l.counter;
     }

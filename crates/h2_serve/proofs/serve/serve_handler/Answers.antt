@@ -3,14 +3,8 @@ use Rattle.h2_engines.proofs.Names.{ℕ, refl, sym, ◌∙◌, err_from_is_err_a
 use Rattle.h2_flow.specs.ConfigValues.{values_of}
 use Rattle.h2_engines.proofs.MachineDrives.{failures_same}
 use Rattle.h2_serve.specs.Serving.{Beginning, has_stopped, lacks_memory}
-use Rattle.h2_serve.proofs.Serving.{stopped_closed, written_closed}
-use Rattle.h2_serve.proofs.ServedEnds.{code_fails_none, driving_cut, driving_ends, none_failed}
-use Rattle.h2_serve.proofs.ServedEnds.{served_active, served_all, served_failed, served_held}
-use Rattle.h2_serve.proofs.ServedEnds.{serving_first}
-use Rattle.h2_serve.proofs.serve.serve_handler.Goals.{then-held-gt0-via-then-held-gt0}
-use Rattle.h2_serve.proofs.serve.serve_handler.Goals.{
-  then-held-gt0-via-else-held-gt0+then-is_some,
-}
+use Rattle.h2_serve.proofs.ServedEnds.{counted_cut, counted_ends, counted_none, driving_cut}
+use Rattle.h2_serve.proofs.ServedEnds.{driving_ends, ends_well, has_served, is_lost, serving_first}
 use Rattle.h2_serve.proofs.serve.serve_handler.Goals as goal
 
 pub returns-in_default-clause-serves : goal.returns-in_default-clause-serves
@@ -70,10 +64,12 @@ returns-in_err-driven-clause-serves g c =
       handler = c.args.handler;
       start = traffic (g.L.Link.given link) (g.L.Link.taken link) (g.L.Link.stalled link);
     } in
-    let stopped = (rw c.in_err-driven.was at c.drive-driven.ensures.drives) begin
-    (serving_first begin c.in-Ok.handled c.in-Ok.ensures.end c.in-Ok.ensures.none) in
-    rw (answer.1, answer.2) (has_stopped c.close.new.self c.in_err-driven.field-0.0
-    (stopped_closed c.close.ensures.server c.close.ensures.ends stopped) c.close.ensures.none)
+    let first = serving_first begin c.in-Ok.connection c.in-Ok.ensures.end c.in-Ok.ensures.none
+    c.in-Ok.ensures.kept c.in-Ok.ensures.phase in
+    let stopped = c.in_err-driven.ensures.drives begin first in
+    rw (answer.1, answer.2) (has_stopped c.drive-driven.new.connection c.lose.new.self
+    c.in_err-driven.field-0.0 stopped (is_lost c.drive-driven.new.connection c.lose.new.self
+    c.lose.ensures.calls c.lose.ensures.over stopped.told))
 
 pub returns-in_err-driven-clause-cut_off : goal.returns-in_err-driven-clause-cut_off
 returns-in_err-driven-clause-cut_off g c =
@@ -95,55 +91,6 @@ returns-in_err-driven-clause-err g c =
     c.from_residual-in_err-driven.ensures.1 in
     rw (answer.1, answer.2) (driving_ends c.in_err-driven.field-0.0 c.in_err-driven.ensures.err)
 
-pub returns-in-Some-clause-serves : goal.returns-in-Some-clause-serves
-returns-in-Some-clause-serves g c =
-    let link = c.args.link.now in
-    let begin : Beginning g.row.H.Denot = record {
-      values = values_of c.args.config;
-      handler = c.args.handler;
-      start = traffic (g.L.Link.given link) (g.L.Link.taken link) (g.L.Link.stalled link);
-    } in
-    let written = c.in_ok-driven.ensures.drives begin
-    (serving_first begin c.in-Ok.handled c.in-Ok.ensures.end c.in-Ok.ensures.none) in
-    rw c.error_of_code.ensures.error (served_failed c.close.new.self
-    (written_closed c.close.ensures.server c.close.ensures.ends written) c.close.ensures.none
-    c.failed.result c.in-Some.code (rw c.conn-conn.ensures at c.failed.ensures) c.in-Some.is)
-
-pub returns-in-Some-clause-cut_off : goal.returns-in-Some-clause-cut_off
-returns-in-Some-clause-cut_off g c =
-    driving_cut ℕ c.error_of_code.result _ c.error_of_code.ensures.kind
-
-pub returns-in-Some-clause-failures : goal.returns-in-Some-clause-failures
-returns-in-Some-clause-failures g c =
-    rw c.error_of_code.ensures.error (c.in_ok-driven.ensures.failures
-    ∙ sym (code_fails_none ℕ (g.L.Link.faults c.args.link.now) c.in-Some.code))
-
-pub returns-in-Some-clause-err : goal.returns-in-Some-clause-err
-returns-in-Some-clause-err g c = driving_ends c.error_of_code.result c.error_of_code.ensures.kind
-
-pub returns-then-held-gt0-clause-serves : goal.returns-then-held-gt0-clause-serves
-returns-then-held-gt0-clause-serves g c =
-    let link = c.args.link.now in
-    let begin : Beginning g.row.H.Denot = record {
-      values = values_of c.args.config;
-      handler = c.args.handler;
-      start = traffic (g.L.Link.given link) (g.L.Link.taken link) (g.L.Link.stalled link);
-    } in
-    let written = written_closed c.close.ensures.server c.close.ensures.ends
-    (c.in_ok-driven.ensures.drives begin
-    (serving_first begin c.in-Ok.handled c.in-Ok.ensures.end c.in-Ok.ensures.none)) in
-    let failed = rw c.conn-conn.ensures at c.failed.ensures in
-    let up = none_failed c.failed.result c.in_default-failed.not-Some in
-    let holds = rw c.conn-conn.ensures at c.held.ensures.value in
-    elim c.then-held-gt0.branch [
-      | then-held-gt0-via-then-held-gt0 w ↦ served_held c.close.new.self written
-          c.close.ensures.none c.failed.result failed up c.held.result holds w.if-held-gt0.true
-      | then-held-gt0-via-else-held-gt0+then-is_some w ↦ served_active c.close.new.self written
-          c.close.ensures.none c.failed.result failed up w.next_live.result
-          (rw c.conn-conn.ensures at w.next_live.ensures.number)
-          (sym w.is_some.ensures ∙ w.if-is_some.true)
-    ]
-
 pub returns-clause-serves : goal.returns-clause-serves
 returns-clause-serves g c =
     let link = c.args.link.now in
@@ -152,13 +99,27 @@ returns-clause-serves g c =
       handler = c.args.handler;
       start = traffic (g.L.Link.given link) (g.L.Link.taken link) (g.L.Link.stalled link);
     } in
-    let written = written_closed c.close.ensures.server c.close.ensures.ends
-    (c.in_ok-driven.ensures.drives begin
-    (serving_first begin c.in-Ok.handled c.in-Ok.ensures.end c.in-Ok.ensures.none)) in
-    let failed = rw c.conn-conn.ensures at c.failed.ensures in
-    let up = none_failed c.failed.result c.in_default-failed.not-Some in
-    let holds = rw c.conn-conn.ensures at c.held.ensures.value in
-    served_all c.close.new.self written c.close.ensures.none c.failed.result failed up
-    c.next_live.result (rw c.conn-conn.ensures at c.next_live.ensures.number) c.requests.result
-    c.held.result c.requests.ensures holds c.if-held-gt0.false
-    (sym c.is_some.ensures ∙ c.if-is_some.false)
+    let first = serving_first begin c.in-Ok.connection c.in-Ok.ensures.end c.in-Ok.ensures.none
+    c.in-Ok.ensures.kept c.in-Ok.ensures.phase in
+    let written = c.in_ok-driven.ensures.drives begin first in
+    has_served c.drive-driven.new.connection c.lose.new.self written
+    (is_lost c.drive-driven.new.connection c.lose.new.self c.lose.ensures.calls c.lose.ensures.over
+    written.serving.told) c.count_of-served.result c.count_of-served.ensures
+
+pub returns-clause-ended : goal.returns-clause-ended
+returns-clause-ended g c = ends_well c.count_of-served.result _ c.in_ok-driven.ensures.ended
+
+pub returns-clause-cut_off : goal.returns-clause-cut_off
+returns-clause-cut_off g c =
+    counted_cut c.drive-driven.new.connection c.count_of-served.result _ c.count_of-served.ensures
+    c.in_ok-driven.ensures.ended
+
+pub returns-clause-failures : goal.returns-clause-failures
+returns-clause-failures g c =
+    c.in_ok-driven.ensures.failures
+    ∙ sym (counted_none c.drive-driven.new.connection c.count_of-served.result _
+    c.count_of-served.ensures)
+
+pub returns-clause-err : goal.returns-clause-err
+returns-clause-err g c =
+    counted_ends c.drive-driven.new.connection c.count_of-served.result c.count_of-served.ensures

@@ -1,5 +1,6 @@
 use Rattle.std.proofs.Common.{[], refl}
 use Rattle.h2_server.proofs.ConnectionSteps.{stopped_over}
+use Rattle.h2_server.proofs.TurnsMade.{turns_noted, was_up}
 use Rattle.h2_server.proofs.connection.Connection.advance.Goals as goal
 
 pub returns-clause-calls : goal.returns-clause-calls
@@ -22,3 +23,9 @@ returns-clause-calls g c = record {
   watched = c.note.ensures.watch;
   counted = c.note.ensures.counted;
 }
+
+pub returns-clause-turns : goal.returns-clause-turns
+returns-clause-turns g c =
+    turns_noted c.args.self.now c.turn.new.self c.note.new.self c.turn.ensures.turns
+    (λ up. was_up c.turn.new.self c.note.new.self.phase c.note.ensures.phase up) c.note.ensures.up
+    c.note.ensures.readiness

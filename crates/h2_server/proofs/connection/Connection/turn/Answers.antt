@@ -1,7 +1,10 @@
-use Rattle.std.proofs.Common.{◌∙◌, [], append-nil, inl, refl}
+use Rattle.std.proofs.Common.{◌∙◌, [], ap, append-nil, inl, refl}
 use Rattle.h2_server.specs.Connections.{input_kept}
 use Rattle.h2_server.proofs.FailingPhase.{same_failing}
 use Rattle.h2_server.proofs.ConnectionSteps.{stops_then, uses_then}
+use Rattle.h2_server.proofs.TurnsMade.{turns_after, turns_down}
+use Rattle.h2_server.specs.Phases.{is_phase_down}
+use Rattle.h2_server.proofs.ConnectionSteps.{stopped_down}
 use Rattle.h2_server.proofs.connection.Connection.turn.Goals as goal
 
 pub returns-in-Ok-clause-makes : goal.returns-in-Ok-clause-makes
@@ -20,3 +23,12 @@ returns-in-Err-clause-makes g c =
     (append-nil kept) c.in-Err.ensures.takes
     (same_failing _ _ c.take_waiting.ensures.same c.take_waiting.ensures.phase) c.stop.ensures.makes
     c.stop.ensures.phase
+
+pub returns-in-Ok-clause-turns : goal.returns-in-Ok-clause-turns
+returns-in-Ok-clause-turns g c =
+    let (used, handles, split) = c.in-Ok.ensures.takes in
+    turns_after c.args.self.now c.take_waiting.new.self _ used handles split c.send.ensures.turns
+
+pub returns-in-Err-clause-turns : goal.returns-in-Err-clause-turns
+returns-in-Err-clause-turns g c =
+    turns_down _ _ (ap is_phase_down c.stop.ensures.phase ∙ stopped_down c.in-Err.stop _)

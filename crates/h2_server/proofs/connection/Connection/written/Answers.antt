@@ -1,8 +1,9 @@
 use Rattle.h2_server.proofs.ConnectionSteps.{own_makes, refused_over}
+use Rattle.h2_server.proofs.TurnsMade.{wrote_noted}
 use Rattle.h2_server.proofs.connection.Connection.written.Goals as goal
 
-pub returns : goal.returns
-returns g c = let (gone, makes, gives, watch) = c.take_away.ensures.makes in record {
+pub returns-clause-calls : goal.returns-clause-calls
+returns-clause-calls g c = let (gone, makes, gives, watch) = c.take_away.ensures.makes in record {
   mid = c.take_away.new.self;
   gone = gone;
   makes = own_makes _ _ makes;
@@ -21,3 +22,9 @@ returns g c = let (gone, makes, gives, watch) = c.take_away.ensures.makes in rec
   watched = c.note.ensures.watch;
   counted = c.note.ensures.counted;
 }
+
+pub returns-clause-wrote : goal.returns-clause-wrote
+returns-clause-wrote g c =
+    wrote_noted c.args.count c.args.self.now c.take_away.new.self c.note.new.self
+    c.take_away.ensures.wrote c.note.ensures.makes c.note.ensures.phase c.note.ensures.down
+    c.take_away.ensures.phase
