@@ -69,6 +69,7 @@ API = {
     "h2_net::fetch_location": FETCHED,
     "h2_frame::FrameRef::payload_len": "an end counts the payload of DATA alone; for users that count any frame",
     "h2_engines::serve_link": WHY,
+    "h2_fetch::ClientConnection::give_up": "h2 get asks for each response to its end",
     "h2_flow::Config::with_max_frame": "a program with larger frames configures its ends so",
     "h2_flow::StreamState::closed": "an end asks for both sides at once",
     "h2_flow::StreamState::end_in": "an end sets the side with the rest of its stream",

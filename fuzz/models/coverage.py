@@ -68,6 +68,40 @@ PAIR_WANTED = (
        "heavy", "shares", "a share of what waits", "a pass that is cut short", "the rest of a share"]
 )
 
+SERVE_MARKS = """
+a full output, thirty exchanges at once, five bodies wait while the output is full,
+eight or more wait for the output, several that wait go in one turn, some that wait go and the others wait again,
+one waits above one that does not, it waits below all others that wait, it waits above all others that wait,
+a response is given while the output is full, a reset is asked for while the output is full,
+a response is late while the output is full, answers goes that has waited, begins goes that has waited,
+status goes that has waited, resets goes that has waited, a reset of a response that waits, a reset of a body that waits,
+a client resets a stream whose response waits, a client resets a stream whose response was given,
+1 or more end once their bodies have gone, 2 or more end once their bodies have gone,
+5 or more end once their bodies have gone, one ends below one whose body waits, one ends above one whose body waits,
+a client is asked to stop, a client is asked to stop later, the first is asked again,
+a pass that is cut short, the rest of a share, a share of what waits,
+no response, a second response, a second response is ignored, a part that is dropped, an authority with a user,
+a malformed part, answers BadMessage: M1 BadName, answers BadMessage: M9 BadStatus, answers BadMessage: M11 BadLength,
+begins BadMessage: M9 BadStatus, refused over, refused answered, refused no response,
+credit for a body, credit for a body in part, credit is held back for now, credit returned,
+input is kept, input is kept since the output is full, octets that are cut, one part a turn since a flood is near,
+a client that has ended is answered later, leaves while the output is full, closed with open exchanges,
+its time to close starts anew, its time to close is over, block above goaway, block refused
+"""
+WORDS_OF_PATHS = ("whole/N early/N refuses/N parts/N trailers/N stalls/N fails/N defers/N keeps/N holds/N resets/N later "
+                  "fails bad other").split()
+
+# What served connections are to reach: situations of a full output and of bodies that wait; what handlers
+# reply; how exchanges and connections end. No code of a failure is wanted but that of a fault of the peer.
+SERVE_WANTED = (
+    names_of(SERVE_MARKS)
+    + ["/" + word for word in WORDS_OF_PATHS]
+    + [f"over {cause}" for cause in ("done", "closed", "reset ours", "reset theirs")]
+    + [f"over: {why}" for why in ("ended", "asked", "lost", "failed 1", "refused", "resets", "empty", "replies", "frame",
+                                  "body", "writing", "answering", "idle")]
+    + [f"mood {mood}" for mood in ("calm", "full", "bodies", "parts", "uploads", "late", "crowd", "wild")]
+)
+
 
 class Marks:
     """How often each mark was reached."""

@@ -16,7 +16,8 @@ def octets_text(octets):
 
 def counted(count, first=0):
     """So many octets, each one more than the one before it, modulo 251."""
-    return bytes((first + place) % 251 for place in range(count))
+    first %= 251
+    return (bytes(range(251)) * ((first + count) // 251 + 1))[first:first + count]
 
 
 def is_counted(octets):

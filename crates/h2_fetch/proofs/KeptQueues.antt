@@ -15,12 +15,12 @@ use Rattle.h2_fetch.proofs.KeptParts.{Queues}
 module _ (id : ℕ) (old new : Queues) (value : Option Queue)
     (sets : SetsValue id value old new) where
   -- What was set at a stream is kept there, and of each other one what was.
-  set_there : kept_on id new ≡ came_in id value
+  pub set_there : kept_on id new ≡ came_in id value
   set_there =
       ap (came_in id) (sets id
       ∙ ap (λ (b : Bool). cond b value (value_at id old)) (eq-eqb id id refl))
 
-  set_elsewhere : KeepsElsewhere id old new
+  pub set_elsewhere : KeepsElsewhere id old new
   set_elsewhere i other =
       ap (came_in i) (sets i
       ∙ ap (λ (b : Bool). cond b value (value_at i old)) (ne_eqb id i (λ same. other (sym same))))

@@ -3,6 +3,7 @@ mod ChosenCredit
 mod Comings
 mod ConnectionRequests
 mod Ending
+mod GivingUp
 mod KeptParts
 mod KeptQueues
 mod OwedCredit

@@ -5,7 +5,7 @@ use Rattle.std.specs.Prelude.{false, Option, Some, None, Result, Ok, Err}
 use Rattle.std.specs.List.{Contains}
 use Rattle.h2_spec_log.specs.declared.role.Role.TheVariants.{Client}
 use Rattle.h2_spec_log.specs.Acts.{Values, AreInRange, Answer, IsTypedAct, PutOut, Release}
-use Rattle.h2_spec_log.specs.Acts.{Widen}
+use Rattle.h2_spec_log.specs.Acts.{ResetStream, Widen}
 use Rattle.h2_spec_log.specs.Events.{ResetEvent, UnprocessedEvent}
 use Rattle.h2_spec_log.specs.LogCalls.{MayAnswer, with_call}
 use Rattle.h2_numbers.specs.Entries.{value_at}
@@ -37,8 +37,8 @@ abbrev pub AskedOn : Type 0
 AskedOn = ℕ × SentMessage
 
 -- What has happened at a client since it was new: it made these requests, the first one first, and
--- each was accepted; others were refused; it took octets, released, pumped and gave out, and
--- widened the window of the connection, by so much in all.
+-- each was accepted; others were refused; it took octets, released, pumped and gave out, reset
+-- streams, and widened the window of the connection, by so much in all.
 -- rule: engines (own) Responses of several requests are what is handed out, each in order
 pub data IsFetchingSeveral (values : Values) : (wide : ℕ) → List AskedOn → EndLog → Type 0 where
   begins : AreInRange values → IsFetchingSeveral values 0 [] (new_end_log Client values)
@@ -73,6 +73,11 @@ pub data IsFetchingSeveral (values : Values) : (wide : ℕ) → List AskedOn →
       → IsTypedAct (Widen count) → MayAnswer end.log (Widen count) answer
       → IsFetchingSeveral values (wide + widened_by count answer) asked
       (end_with_log end (with_call end.log (Widen count) answer))
+  resets : {wide : ℕ} {asked : List AskedOn} {end : EndLog}
+      → IsFetchingSeveral values wide asked end → (id code : ℕ) (answer : Answer)
+      → IsTypedAct (ResetStream id code) → MayAnswer end.log (ResetStream id code) answer
+      → IsFetchingSeveral values wide asked
+      (end_with_log end (with_call end.log (ResetStream id code) answer))
 
 -- the octets that were read and not used yet
 abbrev pub several_unused : ClientConnection → List ℕ

@@ -10,11 +10,12 @@ ghost use Rattle.h2_engines.specs.Failures.{CutsOffAtEnd, IsOfClient, failures_a
 ghost use Rattle.h2_engines.specs.Linked.{traffic};
 
 use crate::coming::{CameNext, take_came, without_empty};
+use crate::errors::unless_over;
 use crate::kept::{Queue, keep, take_kept};
 use crate::part::ResponsePart;
 use crate::reading::{credit_before, read_piece};
 use crate::sending::{Credit, end_early};
-use h2_ends::{Client, Config, Conn, EndRefusal, Message, Refusal};
+use h2_ends::{Client, Code, Config, Conn, EndRefusal, Message, Refusal};
 use h2_link::{Link, LinkError};
 use h2_numbers::NumberMap;
 use std::alloc::Global;
@@ -36,8 +37,8 @@ pub enum Came {
 /// at most the stream's window, since credit is returned only on the stream that is asked for.
 /// Interim responses and empty parts of a body that don't end it are dropped, since no window
 /// bounds them. Once the last part of a response was returned, or [`Came::Dropped`], nothing is kept
-/// of its request. Ask for each response to its end: there is no call to give one up, and what is
-/// kept of it takes memory and the connection's window.
+/// of its request. Ask for each response to its end, or give it up
+/// ([`ClientConnection::give_up`]): what is kept of it takes memory and the connection's window.
 ///
 /// The connection's window is 65,535 octets plus what [`ClientConnection::widen`] adds, and bodies
 /// that are kept use it up. So with `n` requests at a time give [`Config::new`] an initial window
@@ -57,6 +58,7 @@ pub struct ClientConnection {
 }
 
 impl ClientConnection {
+    ghost use Rattle.h2_fetch.specs.GivingUp.{GivesUpOn};
     ghost use Rattle.h2_fetch.specs.Several.{AnswersNextOn, BeginsConnection, MakesRequest};
     ghost use Rattle.h2_fetch.specs.SeveralComings.{FillsSeveral, TakesUntilCame, WaitsFor};
     ghost use Rattle.h2_fetch.specs.Widening.{WidensSeveral};
@@ -128,6 +130,30 @@ impl ClientConnection {
         ensures { WidensSeveral count (answer_by (λ done. Done) result) self.old self.new }
     {
         self.client.widen(count)
+    }
+
+    // contract: engines (own) Responses of several requests are what is handed out, each in order
+    // rule: engines (own) Responses of several requests are what is handed out, each in order
+    /// Gives up the response on a stream: resets the stream with CANCEL (RFC 9113, section 7) if it
+    /// is active, and drops what is kept of it. RST_STREAM is written by the next
+    /// [`ClientConnection::next_on`] that has to read the link. Do not call that for this stream
+    /// then: nothing more comes there.
+    ///
+    /// # Errors
+    ///
+    /// The first that holds of [`Refusal::Closed`] (C1), [`Refusal::OutputFull`] (C7),
+    /// [`Refusal::TooManyResets`] (C9) and [`Refusal::Memory`] (C12). A refused call changes
+    /// nothing.
+    pub fn give_up(&mut self, id: u32) -> Result<(), Refusal>
+        ensures { GivesUpOn id result self.old self.new }
+    {
+        match unless_over(self.client.reset(id, Code::Cancel.number())) {
+            Ok(()) => {
+                self.kept.remove(id);
+                Ok(())
+            }
+            Err(refusal) => Err(refusal),
+        }
     }
 
     // contract: engines (own) Responses of several requests are what is handed out, each in order

@@ -3,6 +3,7 @@
 ghost use Rattle.std.specs.Prelude.{◌≡◌, ◌≢◌, Ok, Err, IfOk, IfErr};
 ghost use Rattle.h2_engines.specs.Failures.{IsOfCall, IsOfClient, error_after};
 ghost use Rattle.h2_engines.specs.ServerSteps.{error_with};
+ghost use Rattle.h2_fetch.specs.GivingUp.{unless_over};
 
 use h2_ends::{Code, ConnFault, EndRefusal, Refusal};
 use h2_link::LinkError;
@@ -58,5 +59,15 @@ pub(crate) fn unless_refused<T, E: Into<EndRefusal>>(answer: Result<T, E>) -> Re
     match answer {
         Ok(value) => Ok(value),
         Err(refused) => Err(error_of_refusal(refused.into())),
+    }
+}
+
+/// Lets a reset that was refused since its stream is not active count as done.
+pub(crate) fn unless_over(reset: Result<(), Refusal>) -> Result<(), Refusal>
+    ensures { result ≡ unless_over reset }
+{
+    match reset {
+        Err(Refusal::NoSuchStream) => Ok(()),
+        other => other,
     }
 }

@@ -9,7 +9,7 @@ use Rattle.std.proofs.lemmas.Bool.{eq-eqb}
 use Rattle.std.proofs.lemmas.List.{length-map, map-append}
 use Rattle.std.specs.Io.KnownBytes.{Appends}
 use Rattle.hpack.specs.declared.types.field.Field.{Field}
-use Rattle.h2_spec_log.specs.Acts.{Values, Number, PutOut, Release, Widen}
+use Rattle.h2_spec_log.specs.Acts.{Values, Number, PutOut, Release, ResetStream, Widen}
 use Rattle.h2_spec_log.specs.Events.{ResetEvent, UnprocessedEvent}
 use Rattle.h2_laws_pair.specs.Tokens.{at_once}
 use Rattle.h2_ends.specs.EndCalls.{MayAsk, opened_with}
@@ -30,7 +30,7 @@ use Rattle.h2_fetch.specs.Parts.{handed_of, is_on}
 use Rattle.h2_fetch.specs.Several.{AnsweredOn, AnswersNextOn, AreComing, AskedOn, CameSo, DropOn}
 use Rattle.h2_fetch.specs.Several.{HaveStopped, IsFetchingSeveral, OnStream, PartOn, all_on, as_on}
 use Rattle.h2_fetch.specs.Several.{begins, gives_out, kept_on, pumps, refuses, releases}
-use Rattle.h2_fetch.specs.Several.{releases_on, requests, takes, widens}
+use Rattle.h2_fetch.specs.Several.{releases_on, requests, resets, takes, widens}
 use Rattle.h2_fetch.proofs.RefusedRequests.{refused_keeps}
 use Rattle.h2_get.specs.declared.pass_error.PassError.{PassError}
 use Rattle.h2_get.specs.declared.pass_error.PassError.TheVariants as passes
@@ -186,6 +186,8 @@ handed_within (gives_out {end = before} was count answer typed may) =
     omega (arith, handed_within was, turns_of_call before.log (PutOut count) answer)
 handed_within (widens {end = before} was count answer typed may) =
     omega (arith, handed_within was, turns_of_call before.log (Widen count) answer)
+handed_within (resets {end = before} was id code answer typed may) =
+    omega (arith, handed_within was, turns_of_call before.log (ResetStream id code) answer)
 
 one_at_most : (here : Bool) (one : OnStream) → length (if here then one ∷ [] else []) ≤ 1
 one_at_most true one = omega arith

@@ -214,7 +214,8 @@ none_owed_above log above i is after =
       | inl failed ↦ failed_reads (is_some log.failed) _ failed
       | inr none ↦ elim (cases_Bool (active log i)) [
         | inl alive ↦
-            absurd ((next_found log above i alive after).0 (eqb-true (next_active log above) 0 none))
+            absurd ((next_found log above i alive after).0
+            (eqb-true (next_active log above) 0 none))
         | inr over ↦ none_owed_there log i over
       ]
     ]

@@ -32,7 +32,8 @@ use Rattle.h2_server.proofs.CreditReturned.{none_owed_between, nothing_owed, ref
 use Rattle.h2_server.proofs.CreditReturned.{released_less, released_on_it}
 use Rattle.h2_server.proofs.StepsMade.{same, steps_then}
 
--- What `owed`, `is_full` and `next_live` answer of any log that the connection of an end represents.
+-- What `owed`, `is_full` and `next_live` answer of any log that the connection of an end
+-- represents.
 abbrev pub ReadsOwed : End → (id count : ℕ) → Type 0
 ReadsOwed end id count =
     (values : Values) (log : Log) → ConnRepresents values end.conn log

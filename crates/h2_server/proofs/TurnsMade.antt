@@ -3,7 +3,8 @@ use Rattle.std.proofs.Common.{◌≡◌, ◌⊎◌, ◌∙◌, ap, refl, sym, su
 use Rattle.std.proofs.Common.{is_some}
 use Rattle.std.proofs.lemmas.Bool.{cases_Bool, false≢true}
 use Rattle.std.proofs.lemmas.List.{drop-drop, length-drop, take-append-drop, take_min}
-use Rattle.std.specs.Prelude.{ℕ, Bool, true, false, List, [], ◌++◌, ◌+◌, length, min, take, drop, not}
+use Rattle.std.specs.Prelude.{ℕ, Bool, true, false, List, [], ◌++◌, ◌+◌, length, min, take, drop}
+use Rattle.std.specs.Prelude.{not}
 use Rattle.std.specs.Prelude.{◌&&◌, ◌≤◌}
 use Rattle.std.specs.Prelude.{Result, Ok, Err, IsOk, OnOk, is_err, if◌then◌else◌}
 use Rattle.h2_spec_log.specs.declared.refusal.Refusal.{Refusal}
@@ -177,7 +178,8 @@ left_after : (log : Log) (count given : ℕ) → returns_before_put_out (log_vie
 unfolding with_call before_put_out waiting output
 left_after log count given ready =
     ap (λ (all : List ℕ). drop (log.given + given) all)
-    (same_by (called log (PutOut count) (Count given)) (returns_before_put_out (log_view log)) ready)
+    (same_by (called log (PutOut count) (Count given)) (returns_before_put_out (log_view log))
+    ready)
     ∙ sym (drop-drop given log.given log.written)
 
 -- A server that has failed returns none.
@@ -274,14 +276,15 @@ module _ {H W : Type 0} {rel : Relations H W} where
       → waits ≡ length (octets_queued old.server.end.conn) → gone ≡ min count waits
       → MakesOwn rel (take count (octets_queued old.server.end.conn)) old new
       → Wrote rel count old new
-  wrote_some count gone waits old new result over done answers size is makes values end rep = record {
-    gone = take count (octets_queued old.server.end.conn);
-    made = makes values end rep;
-    all = λ up ready. refl;
-    split = λ down fails. queue_split old.server.end new.server.end count gone waits result done
-        answers size is values end rep
-        (failed_ready end.log (down_failed old.phase end over down fails));
-  }
+  wrote_some count gone waits old new result over done answers size is makes values end rep =
+      record {
+        gone = take count (octets_queued old.server.end.conn);
+        made = makes values end rep;
+        all = λ up ready. refl;
+        split = λ down fails. queue_split old.server.end new.server.end count gone waits result done
+            answers size is values end rep
+            (failed_ready end.log (down_failed old.phase end over down fails));
+      }
 
   -- Only what is watched of it has changed since.
   pub wrote_watched : (count : ℕ) (old mid : Connection H W) (watch : Watch)

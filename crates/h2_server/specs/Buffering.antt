@@ -72,7 +72,8 @@ pub record GathersOn {A : Type 0} (answers : ServiceSays A) (whole : Bool) (head
 -- The head of a request has come: it is kept, and the request is answered where it is whole.
 -- rule: handlers (own) A whole request is answered by what has come of it, all and in order
 abbrev pub GathersHead : {A : Type 0} → ServiceSays A → (old : Buffered A) → (list : List Field)
-    → (whole : Bool) → Result (Option BufferedRequest × Reply) HandlerFault → (new : Buffered A) → Type 0
+    → (whole : Bool) → Result (Option BufferedRequest × Reply) HandlerFault → (new : Buffered A)
+    → Type 0
 GathersHead answers old list whole (Ok (next, reply)) new =
     GathersOn answers whole list [] None old reply next new
 GathersHead answers old list whole (Err fault) new =
@@ -98,8 +99,8 @@ RefusesAs status reply =
 -- rule: HTTP 15.5.14 (own) A body above what is gathered is refused with status 413
 -- rule: handlers (own) A whole request is answered by what has come of it, all and in order
 abbrev pub GathersBody : {A : Type 0} → ServiceSays A → (old : Buffered A) → Option BufferedRequest
-    → (octets : List ℕ) → (whole : Bool) → Result Reply HandlerFault → (next : Option BufferedRequest)
-    → (new : Buffered A) → Type 0
+    → (octets : List ℕ) → (whole : Bool) → Result Reply HandlerFault
+    → (next : Option BufferedRequest) → (new : Buffered A) → Type 0
 GathersBody answers old None octets whole result next new =
     (result ≡ Ok replies.Later) × (next ≡ None) × (new ≡ old)
 GathersBody answers old (Some gathered) octets whole (Ok reply) next new =
@@ -117,9 +118,9 @@ GathersBody answers old (Some gathered) octets whole (Err fault) next new =
 
 -- Its trailers have come: the request is whole, and is answered.
 -- rule: handlers (own) A whole request is answered by what has come of it, all and in order
-abbrev pub GathersTrailers : {A : Type 0} → ServiceSays A → (old : Buffered A) → Option BufferedRequest
-    → (list : List Field) → Result Reply HandlerFault → (next : Option BufferedRequest)
-    → (new : Buffered A) → Type 0
+abbrev pub GathersTrailers : {A : Type 0} → ServiceSays A → (old : Buffered A)
+    → Option BufferedRequest → (list : List Field) → Result Reply HandlerFault
+    → (next : Option BufferedRequest) → (new : Buffered A) → Type 0
 GathersTrailers answers old None list result next new =
     (result ≡ Ok replies.Later) × (next ≡ None) × (new ≡ old)
 GathersTrailers answers old (Some gathered) list (Ok reply) next new =

@@ -1,8 +1,8 @@
 -- What a call makes of a served connection.
-use Rattle.std.specs.Prelude.{◌≡◌, ◌≢◌, ◌⊎◌, ◌+◌, ◌*◌, ◌-◌, ◌^◌, ◌↔◌, ℕ, Bool, true, false, Option, Some}
-use Rattle.std.specs.Prelude.{None, if◌then◌else◌, min, max, nat_le, nat_lt, ◌==◌, ◌&&◌, ◌||◌, not}
-use Rattle.std.specs.Prelude.{List, [], ◌++◌, take, drop, length, Result, Ok, Err, is_ok, is_some}
-use Rattle.std.specs.Prelude.{option_map}
+use Rattle.std.specs.Prelude.{◌≡◌, ◌≢◌, ◌⊎◌, ◌+◌, ◌*◌, ◌-◌, ◌^◌, ◌↔◌, ℕ, Bool, true, false, Option}
+use Rattle.std.specs.Prelude.{Some, None, if◌then◌else◌, min, max, nat_le, nat_lt, ◌==◌, ◌&&◌, ◌||◌}
+use Rattle.std.specs.Prelude.{not, List, [], ◌++◌, take, drop, length, Result, Ok, Err, is_ok}
+use Rattle.std.specs.Prelude.{is_some, option_map}
 use Rattle.h2_frame.specs.declared.code.Code.TheVariants.{EnhanceYourCalm, NoError}
 use Rattle.h2_spec_log.specs.declared.refusal.Refusal.{Refusal}
 use Rattle.h2_spec_log.specs.Acts.{Done, Fail, SendGoAway, Values, Widen}

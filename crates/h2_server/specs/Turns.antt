@@ -1,5 +1,5 @@
 -- What a loop that reads and writes knows of a connection after a turn, and after a write.
-use Rattle.std.specs.Prelude.{◌≡◌, ◌⊎◌, ℕ, true, false, List, [], ◌++◌, take}
+use Rattle.std.specs.Prelude.{◌≡◌, ℕ, true, false, List, [], ◌++◌, take}
 use Rattle.h2_spec_log.specs.Acts.{Count, PutOut, Values}
 use Rattle.h2_spec_log.specs.CallRules.{returns_before_put_out}
 use Rattle.h2_spec_log.specs.LogCalls.{MayAnswer, with_call}
@@ -15,8 +15,8 @@ use Rattle.h2_server.specs.Exchanges.{Relations, handling_of}
 use Rattle.h2_server.specs.Phases.{is_phase_down, is_phase_over}
 use Rattle.h2_server.specs.Steps.{Steps}
 
--- Of one that is up after it, nothing has changed of its server, its exchanges and its input. Of one
--- that was down, the server has not changed.
+-- Of one that is up after it, nothing has changed of its server, its exchanges and its input. Of
+-- one that was down, the server has not changed.
 abbrev pub KeepsUp : {H W : Type 0} → (old new : Connection H W) → Type 0
 KeepsUp old new = is_phase_down new.phase ≡ false
     → (new.server ≡ old.server) × ((new.exchanges ≡ old.exchanges)

@@ -70,6 +70,7 @@ impl<H: Handler> Exchanges<H> {
         ensures more { self.new.more ≡ true }
     {
         self.more = true;
+        self.first_waiting = self.first_waiting.min(id);
         if let Some(exchange) = self.kept.get_mut(id) {
             take_reply(&self.handler, id, exchange, Ok(reply));
             self.totals.count(&self.handler, exchange);
@@ -100,6 +101,7 @@ impl<H: Handler> Exchanges<H> {
         ensures more { self.new.more ≡ true }
     {
         self.more = true;
+        self.first_waiting = self.first_waiting.min(id);
         if let Some(exchange) = self.kept.get_mut(id) {
             exchange.reset(code);
             self.totals.count(&self.handler, exchange);
@@ -136,6 +138,7 @@ impl<H: Handler> Exchanges<H> {
         };
         if exchange.expire(limit, now) {
             self.more = true;
+            self.first_waiting = self.first_waiting.min(id);
             self.handler.fault(id, ResponseFault::TooLate);
         }
     }

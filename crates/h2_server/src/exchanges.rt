@@ -21,6 +21,9 @@ use h2_message::list_asks_head;
 use h2_numbers::NumberMap;
 use std::alloc::{AllocError, Global};
 
+/// A number above that of each stream.
+pub(crate) const NO_STREAM: u32 = u32::MAX;
+
 /// What is due after an event was passed to a handler.
 #[derive(Clone, Copy, Debug)]
 pub(crate) enum Due {
@@ -71,13 +74,19 @@ pub(crate) struct Exchanges<H: Handler> {
     pub(crate) totals: Totals,
     /// The stream whose handler was asked last for a part.
     pub(crate) asked: u32,
+    /// A number below which no response waits for the output: that of the first stream on which
+    /// one may, or else [`NO_STREAM`].
+    pub(crate) first_waiting: u32,
+    /// A number below which no exchange is open whose response the server was given whole: that of
+    /// the first stream on which one may be, or else [`NO_STREAM`].
+    pub(crate) first_given: u32,
     /// Whether more may be sent of complete bodies.
     pub(crate) more: bool,
 }
 
 impl<H: Handler> Exchanges<H> {
     /// Creates the exchanges of a new server: it has none yet.
-    pub fn new(alloc: Global, handler: H) -> Exchanges<H>
+    pub(crate) fn new(alloc: Global, handler: H) -> Exchanges<H>
         ensures { handling_of result ≡ record { handler = handler; entries = [] } }
     {
         Exchanges {
@@ -94,6 +103,8 @@ impl<H: Handler> Exchanges<H> {
                 sent: 0,
             },
             asked: 0,
+            first_waiting: NO_STREAM,
+            first_given: NO_STREAM,
             more: false,
         }
     }
@@ -212,7 +223,7 @@ impl<H: Handler> Exchanges<H> {
     }
 
     /// Ends all exchanges, since the connection is over.
-    pub fn end_all(&mut self)
+    pub(crate) fn end_all(&mut self)
         ensures ends { EndsEach H.Handler (handling_of self.new) (handling_of self.old) }
         ensures none { IsEmptied (handling_of self.new) }
     {
@@ -226,7 +237,7 @@ impl<H: Handler> Exchanges<H> {
 
     /// Fails the connection with this error code, unless it has failed already, and ends all
     /// exchanges.
-    pub fn fail(&mut self, server: &mut Server, code: Code)
+    pub(crate) fn fail(&mut self, server: &mut Server, code: Code)
         ensures handles { Handles H.Handler [] server.old.end (handling_of self.old)
             server.new.end (handling_of self.new) }
         ensures none { IsEmptied (handling_of self.new) }
@@ -239,7 +250,7 @@ impl<H: Handler> Exchanges<H> {
     }
 
     /// Returns the number of requests received, up to 2^64 - 1.
-    pub fn requests(&self) -> u64
+    pub(crate) fn requests(&self) -> u64
         ensures { result ≡ self.now.totals.requests }
     {
         self.totals.requests

@@ -17,7 +17,7 @@ ghost use Rattle.h2_server.specs.Sending.{nat_part, window_part, windows_allow};
 ghost use Rattle.h2_server.specs.Steps.{Handles};
 
 use crate::exchange::Stage;
-use crate::exchanges::Exchanges;
+use crate::exchanges::{Exchanges, NO_STREAM};
 use crate::giving::Given;
 use crate::handler::Handler;
 use crate::parts::{Sent, send_part};
@@ -51,7 +51,7 @@ impl<H: Handler> Exchanges<H> {
     /// # Errors
     ///
     /// [`Stop`] says why the connection cannot go on.
-    pub fn send_some(
+    pub(crate) fn send_some(
         &mut self,
         server: &mut Server,
         room: &mut [u8],
@@ -168,15 +168,18 @@ impl<H: Handler> Exchanges<H> {
         }
     }
 
-    /// Sends the responses that waited because the output was full, in the order of their streams.
+    /// Sends the responses that waited because the output was full, or that were given by a call
+    /// since, in the order of their streams.
     fn give_waiting(&mut self, server: &mut Server) -> Result<(), Stop>
         ensures { Handles H.Handler [] server.old.end (handling_of self.old)
             server.new.end (handling_of self.new) }
     {
-        let mut above = 0u32;
+        let mut above = self.first_waiting.saturating_sub(1);
+        self.first_waiting = NO_STREAM;
         while let Some(id) = self.kept.next_above(above) {
             above = id;
             if server.is_full() {
+                self.first_waiting = self.first_waiting.min(id);
                 return Ok(());
             }
             if self.has_waiting(id) {
@@ -198,7 +201,8 @@ impl<H: Handler> Exchanges<H> {
     }
 
     /// The stream whose handler is asked next for a part, and for how many octets: the next one
-    /// after the last asked, or else the first. None if the output is full.
+    /// after the last asked, or else the first. None if the output is full or the connection's
+    /// window is used up.
     fn next_asked(&self, server: &Server) -> Option<(u32, usize)>
         ensures some { IfSome result (λ next. IsAskedFor server.now.end.conn next.0 next.1
             self.now.kept.entries) }
@@ -207,6 +211,9 @@ impl<H: Handler> Exchanges<H> {
             → NoneCanAsk log 0 self.now.kept.entries }
     {
         if server.is_full() {
+            return None;
+        }
+        if octets_of(server.conn().room(0)) == 0 {
             return None;
         }
         if let Some(next) = self.next_asked_above(server, self.asked) {
@@ -322,18 +329,20 @@ impl<H: Handler> Exchanges<H> {
         ensures { Handles H.Handler [] server.old.end (handling_of self.old)
             server.new.end (handling_of self.new) }
     {
-        let mut above = 0u32;
+        let mut above = self.first_given.saturating_sub(1);
+        self.first_given = NO_STREAM;
         while let Some(id) = self.kept.next_above(above) {
             above = id;
             self.stop_reading(server, id)?;
             self.end_if_over(server, id);
+            self.note_rest(id);
         }
         Ok(())
     }
 
     /// Lets [`Exchanges::send_some`] ask the handler again for the parts for which it returned
     /// [`Part::Later`](crate::Part::Later).
-    pub fn ask_again(&mut self)
+    pub(crate) fn ask_again(&mut self)
         ensures handles { (end : End) → Handles H.Handler [] end (handling_of self.old) end
             (handling_of self.new) }
         ensures all { (id : ℕ) → id ≢ 0 → exchange_at id self.new.kept.entries
@@ -363,7 +372,7 @@ impl<H: Handler> Exchanges<H> {
 
     /// Whether [`Exchanges::send_some`] could send more: octets of a complete body, or a part for
     /// which the handler can be asked.
-    pub fn may_send(&self, server: &Server) -> bool
+    pub(crate) fn may_send(&self, server: &Server) -> bool
         ensures { result ≡ false → (values : Values) (log : Log)
             → ConnRepresents values server.now.end.conn log → HasNothing log self.now }
     {

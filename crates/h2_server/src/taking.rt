@@ -38,7 +38,7 @@ impl<H: Handler> Exchanges<H> {
     /// # Errors
     ///
     /// [`Stop`] says why the connection cannot go on.
-    pub fn take_some(
+    pub(crate) fn take_some(
         &mut self,
         server: &mut Server,
         piece: &[u8],
@@ -110,7 +110,27 @@ impl<H: Handler> Exchanges<H> {
         self.give_next(server, id)?;
         self.give_instead(server, id)?;
         self.end_if_over(server, id);
+        self.note_rest(id);
         Ok(())
+    }
+
+    /// Notes what is left to do for the exchange on a stream, if there is one: a response that
+    /// waits for the output, or to end it once all of the response was sent.
+    pub(crate) fn note_rest(&mut self, id: u32)
+        ensures same { handling_of self.new ≡ handling_of self.old }
+        ensures rest { self.new ≡ record self.old {
+          first_waiting = self.new.first_waiting;
+          first_given = self.new.first_given;
+        } }
+    {
+        let Some(exchange) = self.kept.get(id) else {
+            return;
+        };
+        match &exchange.stage {
+            Stage::Asked | Stage::Parts { .. } => {}
+            Stage::Given | Stage::Gone { .. } => self.first_given = self.first_given.min(id),
+            _ => self.first_waiting = self.first_waiting.min(id),
+        }
     }
 
     /// Queues the status or the reset that waits on a stream in place of a response, if one does.

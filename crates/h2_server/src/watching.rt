@@ -3,9 +3,9 @@
 ghost use Rattle.std.specs.Prelude.{◌≡◌, ◌+◌, ◌*◌, [], Some, max, true};
 ghost use Rattle.h2_host.specs.declared.party.Own.TheVariants as owns;
 ghost use Rattle.h2_server.specs.Activity.{IsActivity};
-ghost use Rattle.h2_server.specs.Connections.{AreCounts, AsksAgain, GoesAway, HasToDo, IdleGoesAway};
-ghost use Rattle.h2_server.specs.Connections.{IsAllSent, IsCounted, KeepsExchanges, KeepsTold};
-ghost use Rattle.h2_server.specs.Connections.{MakesOwn};
+ghost use Rattle.h2_server.specs.Connections.{AreCounts, AsksAgain, GoesAway, HasToDo};
+ghost use Rattle.h2_server.specs.Connections.{IdleGoesAway, IsAllSent, IsCounted};
+ghost use Rattle.h2_server.specs.Connections.{KeepsExchanges, KeepsTold, MakesOwn};
 ghost use Rattle.h2_server.specs.Connections.{NotesEnding, NotesFailing, NotesPhase, NotesWatch};
 ghost use Rattle.h2_server.specs.Connections.{WatchesBy, phase_late, phase_passed};
 ghost use Rattle.h2_server.specs.Connections.{since_moved, watch_moved};

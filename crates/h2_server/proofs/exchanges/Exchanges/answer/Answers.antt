@@ -6,4 +6,5 @@ returns-in_err-give_instead g c = then_handles c.give_next.ensures c.give_instea
 
 pub returns : goal.returns
 returns g c =
-    then_handles (then_handles c.give_next.ensures c.give_instead.ensures) c.end_if_over.ensures
+    rw c.note_rest.ensures.same
+    (then_handles (then_handles c.give_next.ensures c.give_instead.ensures) c.end_if_over.ensures)

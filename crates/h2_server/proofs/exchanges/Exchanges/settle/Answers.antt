@@ -8,7 +8,8 @@ loop-id-init g c =
 
 pub loop-id-preserved : goal.loop-id-preserved
 loop-id-preserved g c =
-    then_handles (then_handles c.loop-id.invariant c.stop_reading.ensures) c.end_if_over.ensures
+    rw c.note_rest.ensures.same
+    (then_handles (then_handles c.loop-id.invariant c.stop_reading.ensures) c.end_if_over.ensures)
 
 pub returns-in_err-stop_reading : goal.returns-in_err-stop_reading
 returns-in_err-stop_reading g c = then_handles c.loop-id.invariant c.stop_reading.ensures
