@@ -1,6 +1,6 @@
 //! The groups of cases, and the driver of each.
 
-use crate::{location, program};
+use crate::{get, location, program};
 use h2_case::case::Case;
 use h2_case::driver::Answer;
 use h2_case::layers::{block, flow, frame, hpack_blocks, text, wire};
@@ -40,6 +40,8 @@ pub(crate) enum Group {
     Engine,
     /// Served connections of a host, in memory.
     Server,
+    /// Connections of the program, in memory.
+    Get,
     /// What `h2 show` prints of an input.
     Show,
     /// What `h2 replay` prints of an input.
@@ -53,7 +55,7 @@ pub(crate) enum Group {
 }
 
 /// All groups, in the order in which their lines are printed.
-pub(crate) const GROUPS: [Group; 17] = [
+pub(crate) const GROUPS: [Group; 18] = [
     Group::Text,
     Group::Hpack,
     Group::Frame,
@@ -66,6 +68,7 @@ pub(crate) const GROUPS: [Group; 17] = [
     Group::Pair,
     Group::Engine,
     Group::Server,
+    Group::Get,
     Group::Show,
     Group::Replay,
     Group::Words,
@@ -89,6 +92,7 @@ impl Group {
             Group::Pair => "pair",
             Group::Engine => "engine",
             Group::Server => "server",
+            Group::Get => "get",
             Group::Show => "show",
             Group::Replay => "replay",
             Group::Words => "words",
@@ -121,6 +125,7 @@ where
         Group::Pair => pair::run_case(alloc, case),
         Group::Engine => engine::run_case(alloc, case),
         Group::Server => server::run_case(alloc, case),
+        Group::Get => get::run_case(alloc, case),
         Group::Location => location::run_case(alloc, case),
         Group::Show | Group::Replay | Group::Words | Group::Loop => {
             program::run_case(rt, alloc, case)

@@ -6,6 +6,7 @@
 //! nothing differs, and 1 where a case differs or cannot be read, or a group has no cases.
 #![tactic(auto)]
 
+mod get;
 mod group;
 mod input;
 mod location;

@@ -4,10 +4,11 @@
 //!   octet.
 //! - `more OCTETS`, `more text TEXT`: what follows in the same input.
 //! - `h2 WORDS`: what the program prints with these words on standard output, then on standard
-//!   error (each line after `err: `), and the status that it ends with. A line of standard output
-//!   that begins as a command does, with `> `, has a backslash before it. More than 1,000 equal
-//!   characters at the end of a line are `\{HEXxN}`. Where no input was given, each read fails, and
-//!   `the input was read` follows if there was one.
+//!   error (each line after `err: `), and the status that it ends with. In a word `\xNN` is an
+//!   octet. A line of standard output that begins as a command does, with `> `, has a backslash
+//!   before it, and a last line without an end has one after it. More than 1,000 equal characters
+//!   at the end of a line are `\{HEXxN}`. Where no input was given, each read fails, and `the input
+//!   was read` follows if there was one.
 //! - `columns N`: the lines of the last answer that have more than N characters.
 //! - `exchange N`: the response to the POST of N octets that `h2 loop N` makes: its fields, and its
 //!   body, in which the line of the request is text.
@@ -19,7 +20,7 @@
 use crate::input::{Input, Pieces, Unreadable};
 use h2_case::case::{Case, CaseError};
 use h2_case::driver::{Answer, Driver};
-use h2_case::fields::add_fields;
+use h2_case::fields::{add_fields, read_text};
 use h2_case::octets::{add_hex, add_octets};
 use h2_case::text::Text;
 use h2_case::words::Words;
@@ -46,19 +47,24 @@ struct Session<'a, N: Net + Files + Clock + Copy> {
     answer: String,
 }
 
-// Adds a word of a command line.
+// Adds a word of a command line, in which `\xNN` is an octet.
 fn add_word(alloc: Global, line: &mut Vec<String>, word: &str, words: &mut Words<'_>) {
-    let is_added = match String::from_str(alloc, word) {
-        Ok(word) => line.push(word).is_ok(),
-        Err(_) => false,
-    };
-    if !is_added {
-        words.fail(CaseError::Memory);
+    let mut given = Words::of(word);
+    match String::from_utf8(read_text(alloc, &mut given)) {
+        Ok(word) => {
+            if line.push(word).is_err() {
+                words.fail(CaseError::Memory);
+            }
+        }
+        Err(_) => words.unread(),
+    }
+    if let Some(fault) = given.fault() {
+        words.fail(fault);
     }
 }
 
-// The words of a command line.
-fn read_line(alloc: Global, words: &mut Words<'_>) -> Vec<String> {
+/// The words of a command line.
+pub(crate) fn read_line(alloc: Global, words: &mut Words<'_>) -> Vec<String> {
     let mut line = Vec::new(alloc);
     let text = words.rest();
     let mut left = Words::of(text);
@@ -71,9 +77,9 @@ fn read_line(alloc: Global, words: &mut Words<'_>) -> Vec<String> {
     line
 }
 
-// Adds a line. More than `MOST_EQUAL` equal characters at its end are abbreviated; one that begins as
-// a command of a case does has a backslash before it.
-fn add_shortened(text: &mut Text, line: &str) {
+// Adds a line, and its end. More than `MOST_EQUAL` equal characters at its end are abbreviated; one
+// that begins as a command of a case does has a backslash before it.
+fn add_shortened(text: &mut Text, line: &str, end: &str) {
     if line.starts_with("> ") {
         text.push_str("\\");
     }
@@ -81,32 +87,41 @@ fn add_shortened(text: &mut Text, line: &str) {
     let start = line.trim_end_matches(last as char);
     let count = line.len().saturating_sub(start.len());
     if count <= MOST_EQUAL {
-        text.push_line(line);
+        text.push_str(line);
     } else {
         text.push_str(start);
         text.push_str("\\{");
         add_hex(text, &[last]);
-        write!(text, "x{count}}}\n");
+        write!(text, "x{count}}}");
     }
+    text.push_str(end);
 }
 
-// Adds the lines of standard output.
-fn add_output(text: &mut Text, output: &str) {
+/// Adds the lines of standard output.
+pub(crate) fn add_output(text: &mut Text, output: &str) {
     let mut others = output;
     for _ in 0..output.len() {
         let Some((line, next)) = others.split_once('\n') else {
             break;
         };
-        add_shortened(text, line);
+        add_shortened(text, line, "\n");
         others = next;
     }
-    text.push_str(others);
+    if !others.is_empty() {
+        add_shortened(text, others, "\\\n");
+    }
 }
 
 // Adds a line of standard error.
 fn add_error(text: &mut Text, line: &str) {
     text.push_str(if line.is_empty() { "err:" } else { "err: " });
-    text.push_line(line);
+    for (place, part) in line.split('\r').enumerate() {
+        if place > 0 {
+            text.push_str("\\r");
+        }
+        text.push_str(part);
+    }
+    text.push_str("\n");
 }
 
 // Adds the lines of standard error, if there are any.
@@ -125,8 +140,8 @@ fn add_errors(text: &mut Text, errors: &str) {
     }
 }
 
-// Runs the program, whose output is a terminal, and returns its status. It has no contract, since no
-// case needs one.
+// Runs the program, whose output is a terminal, and returns its status. It has no contract, since
+// no case needs one.
 fn run<N: Net + Files + Clock + Copy, R: Read>(
     net: &N,
     alloc: Global,
@@ -145,8 +160,8 @@ where
     h2_tool::run(net, alloc, line, terminals, input, out, err).code()
 }
 
-// Adds what was printed, and a status.
-fn add_printed(text: &mut Text, out: &[u8], err: &[u8], status: u8) {
+/// Adds what was printed, and a status.
+pub(crate) fn add_printed(text: &mut Text, out: &[u8], err: &[u8], status: u8) {
     match (std::str::from_utf8(out), std::str::from_utf8(err)) {
         (Ok(out), Ok(err)) => {
             add_output(text, out);

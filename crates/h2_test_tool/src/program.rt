@@ -1,7 +1,8 @@
-//! The program over sockets, its bodies, and its words.
+//! The commands over sockets, words that can't be had, and statuses.
 //!
 //! Tests are proved as well: small functions return whether a case holds.
 
-mod bodies;
+mod serving;
 mod sockets;
+mod statuses;
 mod words;

@@ -1,8 +1,7 @@
-//! What `h2 show` and `h2 replay` print over readers and writers that fail, and of long inputs.
+//! The library as the README shows it, a long input cut in two, and events that no input makes.
 //!
 //! Tests are proved as well: small functions return whether a case holds.
 
+mod events;
 mod library;
 mod long;
-mod replaying;
-mod showing;

@@ -1,8 +1,8 @@
-//! Streams of a server too long to be cut at each place in a case, and their writers.
+//! A stream of a server, too long for a case that cuts it in two at many places.
 
+use crate::devices::Halves;
 use h2_cli::{Failure, Status};
 use h2_show::{ShowOptions, Side, Style, show_input};
-use h2_test_kit::{Full, Halves};
 use std::alloc::{AllocError, Global};
 use std::io::Write;
 
@@ -73,54 +73,6 @@ fn longer_block_cut_in_two(rt: HostRuntime) -> Result<(), AllocError> {
         if in_frame < 12 || in_frame > FRAME - 3 || place % 1_021 == 0 {
             assert!(rt; is_at_fault(rt.alloc(), &stream, place), "{place}");
         }
-    }
-    Ok(())
-}
-
-/// A block in HEADERS and three CONTINUATIONs: one field whose value is 65,503 times `b`.
-fn long_field(alloc: Global) -> Result<Vec<u8>, AllocError> {
-    let mut block = Vec::new(alloc);
-    block.extend_from_slice(b"\x00\x01a\x7f\xe0\xfe\x03")?;
-    block.extend_from_slice(&vec![in alloc; b'b'; 65_503]?)?;
-    let mut stream = Vec::new(alloc);
-    for (place, fragment) in block.chunks(16_384).enumerate() {
-        let kind = if place == 0 { 1 } else { 9 };
-        let flags = if place == 3 { 4 } else { 0 };
-        append_frame(&mut stream, kind, flags, fragment)?;
-    }
-    Ok(stream)
-}
-
-/// The lines of that block, more than the output's buffer holds.
-fn lines_of_long_field(alloc: Global) -> Result<Vec<u8>, AllocError> {
-    let mut lines = Vec::new(alloc);
-    lines.extend_from_slice(b"HEADERS 1 16384\nCONTINUATION 1 16384\nCONTINUATION 1 16384\n")?;
-    lines.extend_from_slice(b"CONTINUATION 1 16358 whole\n  a: ")?;
-    lines.extend_from_slice(&vec![in alloc; b'b'; 65_503]?)?;
-    lines.push(b'\n')?;
-    Ok(lines)
-}
-
-/// Whether a writer with room for `room` octets has that many of the lines, and the failure is
-/// reported where there are more.
-fn fills(alloc: Global, stream: &[u8], lines: &[u8], room: usize) -> bool {
-    let mut out = Full::new(alloc, room);
-    let ended = show(alloc, stream, stream.len(), &mut out);
-    let wanted = if room < lines.len() {
-        Err(Failure::Device)
-    } else {
-        Ok(Status::Good)
-    };
-    ended == wanted && Some(out.octets.as_slice()) == lines.get(..room)
-}
-
-#[test]
-fn full_writers_of_long_output(rt: HostRuntime) -> Result<(), AllocError> {
-    let stream = long_field(rt.alloc())?;
-    let lines = lines_of_long_field(rt.alloc())?;
-    let (count, less) = (lines.len(), lines.len().saturating_sub(1));
-    for room in [0, 57, 65_535, 65_536, 65_537, less, count] {
-        assert!(rt; fills(rt.alloc(), &stream, &lines, room), "{room}");
     }
     Ok(())
 }
