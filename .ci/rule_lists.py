@@ -43,7 +43,7 @@ EXEMPT = {"h2_spec_machine/specs/End.antt", "h2_spec_machine/specs/Machine.antt"
 
 # Crates of tests and cases, whose calls are no use of a function.
 TESTS = {"h2_cases", "h2_case", "h2_case_conn", "h2_case_ends", "h2_case_server", "h2_test_layers", "h2_test_ends",
-         "h2_test_scarce", "h2_test_kit", "h2_test_host", "h2_test_tool"}
+         "h2_test_scarce", "h2_test_host", "h2_test_tool"}
 TESTS |= {"h2_measure", "h2_uses"}
 
 # Crates whose functions C calls, and how the names of those begin.

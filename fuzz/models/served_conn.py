@@ -6,7 +6,8 @@ from served import Exchanges, Stop
 from served_handler import Handler
 from served_watch import Watch
 
-MOST_READ = 16_384  # octets of a read
+FRAME = 16_393  # octets of a frame whose payload has 16,384
+FULL_READ = 16_384  # a read of fewer octets has read all that there is
 MOST_TOLD = 16  # parts of requests of a turn
 MOST_WRITTEN = 65_536  # octets of the writes of a turn
 MOST_WRITES = 16
@@ -66,6 +67,9 @@ class Connection:
     def wants_read(self):
         return not (self.has_ended or self.kept.left() or self.is_down() or self.server.is_full())
 
+    def read_size(self):
+        return 2 * FRAME - min(self.server.held, FRAME)
+
     def wants_turn(self):
         if self.is_down() or self.server.is_full():
             return False
@@ -99,7 +103,7 @@ class Connection:
 
     def receive(self, piece):
         self.took = self.took or not self.kept.left()
-        self.reads = self.reads and piece.size() >= MOST_READ
+        self.reads = self.reads and piece.size() >= FULL_READ
         if not self.is_down():
             self.used = 0
             self.make(lambda: self.exchanges.take(piece, self.most_told()))
@@ -109,6 +113,7 @@ class Connection:
 
     def receive_none(self):
         self.reads = False
+        self.exchanges.more = True  # credit that was held back is returned in the next turn
         self.note()
 
     def receive_end(self):
@@ -335,7 +340,7 @@ class Host:
         connection = self.connection
         if not self.unread.left():
             return connection.receive_end() if self.has_ended else connection.receive_none()
-        connection.receive(self.unread.read(MOST_READ))
+        connection.receive(self.unread.read(connection.read_size()))
         if self.has_ended and not connection.is_over():
             connection.set_ready(True, False)
 

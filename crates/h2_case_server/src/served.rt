@@ -7,7 +7,6 @@ use crate::handler::{Exchange, Paths, deferred, name_of_refusal};
 use crate::told::{Asked, Told};
 use h2_case::text::Text;
 use h2_case::words::Words;
-pub(crate) use h2_host::MOST_TAKEN;
 use h2_host::{Answer, Bound, Host, Limits, Own, Party, Reply, Step, Token};
 pub(crate) use h2_server::CloseReason;
 use h2_server::{
@@ -154,7 +153,7 @@ impl<P: Party + Asks> Party for Guest<'_, P> {
 
     ghost ready_of = { λ guest. P.ready_of guest.party };
 
-    ghost takes = { λ guest wants. P.takes guest.party wants };
+    ghost takes = { λ guest size. P.takes guest.party size };
 
     ghost output_of = { λ guest. P.output_of guest.party };
 
@@ -174,8 +173,8 @@ impl<P: Party + Asks> Party for Guest<'_, P> {
         self.party.is_ready()
     }
 
-    fn wants_input(&self) -> bool {
-        self.party.wants_input()
+    fn read_size(&self) -> usize {
+        self.party.read_size()
     }
 
     fn output(&self) -> (&[u8], &[u8]) {
@@ -285,9 +284,9 @@ impl<'a> Served<'a> {
         Some((Place(token), guest.number))
     }
 
-    /// Whether a connection takes octets in its turn.
-    pub(crate) fn wants_input(&self, place: Place) -> bool {
-        self.host.wants_input(place.0)
+    /// How many octets a connection takes in its turn, at most.
+    pub(crate) fn read_size(&self, place: Place) -> usize {
+        self.host.read_size(place.0)
     }
 
     /// The first two parts of the output of the connection that has the turn.

@@ -1,7 +1,7 @@
 //! The turn of a connection, as `h2_mio` gives it: one read, the act, and writes.
 
 use crate::client::Client;
-use crate::served::{Fate, MOST_TAKEN, Place, Served};
+use crate::served::{Fate, Place, Served};
 use h2_case::words::Words;
 
 /// The most writes of a turn.
@@ -23,11 +23,12 @@ pub(crate) fn give_turn(
 
 // Reads once, if the connection takes octets.
 fn take_input(served: &mut Served<'_>, place: Place, client: &mut Client) -> Fate {
-    if !served.wants_input(place) {
+    let size = served.read_size(place);
+    if size == 0 {
         return Fate::Goes;
     }
     let unread = client.unread();
-    let piece = unread.get(..MOST_TAKEN).unwrap_or(unread);
+    let piece = unread.get(..size).unwrap_or(unread);
     let count = piece.len();
     if count == 0 {
         return take_nothing(served, place, client.has_ended);

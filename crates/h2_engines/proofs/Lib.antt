@@ -21,6 +21,7 @@ pub mod NoteHanded
 pub mod NoteHeads
 pub mod NoteOne
 pub mod NoteResponses
+pub mod OwedCredit
 pub mod RequestTable
 pub mod ResponderCalls
 pub mod ResponderEnds
@@ -30,6 +31,7 @@ pub mod ResponderHears
 pub mod ResponderOutput
 pub mod ResponderRefusals
 pub mod ResponderStalls
+pub mod ReturningCredit
 pub mod WritesParts
 pub mod ResponderWrites
 pub mod SameRequests

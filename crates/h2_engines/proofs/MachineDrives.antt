@@ -14,6 +14,7 @@ use Rattle.h2_engines.proofs.SentAll.{all_sent}
 use Rattle.h2_engines.proofs.WithoutLinkSends.{sends_at, sent_stays, sent_turns, sent_error}
 use Rattle.h2_link.specs.declared.error.LinkError.TheVariants as errors
 use Rattle.h2_engines.specs.declared.request.Next.TheVariants as nexts
+use Rattle.h2_engines.specs.declared.sending.Credit.TheVariants.{All}
 
 -- What the loop keeps: the machine is driven, these octets weren't used yet, and in each round a
 -- turn has passed at least.
@@ -89,7 +90,7 @@ no_round now held all go =
 module _ {course : Course} {now : Traffic} {self : MachineState} (new : MachineState) {rounds : ℕ}
     (go : IsGoing course now self [] rounds) (kept : new.kept ≡ self.kept) where
   -- Credit is returned, and what waits of messages is sent,
-  waited_on : (result : Result (Unit {0}) LinkError) → SendsWaiting self.end new.end result
+  waited_on : (result : Result (Unit {0}) LinkError) → SendsWaiting All self.end new.end result
       → IsGoing course now new [] rounds
   waited_on result sends =
       let sent = sends course.values go.end go.driven.represents in
@@ -100,7 +101,7 @@ module _ {course : Course} {now : Traffic} {self : MachineState} (new : MachineS
             (sends_at course self.kept go.driven.happened sent.2) sent.1;
       }
 
-  pub waiting_on : {done : Unit {0}} → SendsWaiting self.end new.end (Ok done)
+  pub waiting_on : {done : Unit {0}} → SendsWaiting All self.end new.end (Ok done)
       → IsPumped course now new rounds
   unfolding waited_on
   waiting_on {done} sends =
@@ -112,7 +113,7 @@ module _ {course : Course} {now : Traffic} {self : MachineState} (new : MachineS
       }
 
   -- or there is no memory for that.
-  pub waiting_last : (error : LinkError) → SendsWaiting self.end new.end (Err error)
+  pub waiting_last : (error : LinkError) → SendsWaiting All self.end new.end (Err error)
       → Ends course now new (Err error)
   waiting_last error sends =
       let sent = sends course.values go.end go.driven.represents in

@@ -19,7 +19,7 @@ pub use Rattle.h2_ends.specs.Ends.{asked_head, BodyHanded, EndAnswer, EndFailed,
 pub use Rattle.h2_ends.specs.Ends.{Handed, HeadHanded, InterimHanded, Passed, tokens_out}
 pub use Rattle.h2_ends.specs.Ends.{tokens_said, TrailersHanded}
 pub use Rattle.h2_ends.specs.Loans.{event_handed}
-pub use Rattle.h2_ends.specs.Represents.{EndAnswers, EndReleases, EndRepresents, EndRequests}
+pub use Rattle.h2_ends.specs.Represents.{EndAnswers, EndRepresents, EndRequests}
 pub use Rattle.h2_ends.specs.Represents.{EndResponds, EndTakes, new_end_log}
 pub use Rattle.h2_ends.specs.declared.end.End.{End}
 pub use Rattle.h2_ends.specs.declared.event.EndTaken.{EndTaken}
@@ -43,7 +43,7 @@ pub use Rattle.h2_engines.specs.Machines.{gives_up, Happens, has_failed, has_sta
 pub use Rattle.h2_engines.specs.Machines.{HasSentFor, Hears, HearsNoMore, IsDriven, IsDue}
 pub use Rattle.h2_engines.specs.Machines.{lacks_memory, link_fails, MachineState, MachineTakesPiece}
 pub use Rattle.h2_engines.specs.Machines.{MayEnd, MessageState, PutsWaiting, reset_refused}
-pub use Rattle.h2_engines.specs.Machines.{Responds, Serving, stops_itself, WritesOut, WritesWaiting}
+pub use Rattle.h2_engines.specs.Machines.{Responds, Serving, stops_itself, WritesWaiting}
 unfoldable pub use Rattle.h2_engines.specs.PartialMessages.{AddsOctets, EndsKept, EndsRequest}
 unfoldable pub use Rattle.h2_engines.specs.PartialMessages.{KeepsNext, NotesHanded, NotesTaken}
 pub use Rattle.h2_engines.specs.PartialMessages.{AreHeadsSoFar, body_room, ChangesAt, comes}
@@ -52,14 +52,16 @@ pub use Rattle.h2_engines.specs.PartialMessages.{head_and_body, interim_parts, i
 pub use Rattle.h2_engines.specs.PartialMessages.{IsLonger, IsToAnswer, IsWhole, KeepsOthers}
 pub use Rattle.h2_engines.specs.PartialMessages.{KeepsRequests, request_at, RequestState}
 pub use Rattle.h2_engines.specs.PartialMessages.{was_answered, was_given_up}
+pub use Rattle.h2_engines.specs.Sending.{HasPutOutSince, HasSentWaiting, ReturnsCredit}
+pub use Rattle.h2_engines.specs.Sending.{SendsWaiting, WritesOut, WritesOver}
 pub use Rattle.h2_engines.specs.ServerHistories.{AnswersAll, begins, calm, IsResponding}
 pub use Rattle.h2_engines.specs.ServerHistories.{WasAnswered, WasReportedReset, WasTooLarge}
-unfoldable pub use Rattle.h2_engines.specs.ServerSteps.{EndsAfter, EndsRelease, FinishedSo, ResetSo}
+unfoldable pub use Rattle.h2_engines.specs.ServerSteps.{EndsAfter, FinishedSo, ResetSo}
 pub use Rattle.h2_engines.specs.ServerSteps.{error_with, IsSameOfMessages, IsWrittenOut, PumpsSome}
-pub use Rattle.h2_engines.specs.ServerSteps.{ReleasesSome, ServerFinishes}
+pub use Rattle.h2_engines.specs.ServerSteps.{ServerFinishes}
 pub use Rattle.h2_engines.specs.Serves.{CannotReset, EndsServingSo, HasReturnedAll, HasSentAll}
 pub use Rattle.h2_engines.specs.Serves.{HasSentWhole, SendsAll, Serves}
-pub use Rattle.h2_engines.specs.WithoutLink.{IsServingAlone, PutsOutNext, sends, SendsWaiting}
+pub use Rattle.h2_engines.specs.WithoutLink.{IsServingAlone, PutsOutNext}
 pub use Rattle.h2_engines.specs.declared.fetcher.Coming.{Coming}
 pub use Rattle.h2_engines.specs.declared.fetcher.Fetched.{Fetched}
 pub use Rattle.h2_engines.specs.declared.fetcher.Fetcher.{Fetcher}

@@ -1,28 +1,12 @@
 -- What a call of an end that is refused makes of a connection over a link.
 use Rattle.h2_engines.proofs.Names
-use Names.{◌≡◌, ℕ, Bool, true, false, length, Some, None, Err, refl, ap, subst, inl, inr, arith}
-use Names.{SendFields, full_output, Log, SentMessage, is_head_alone, LinkError, End, EndRefusal}
-use Names.{EndLog, error_after, Traffic, IsWrittenOut, ReleasesSome, conditions, first_of, output}
-use Names.{waiting, MayReply, MayRespond, EndsAfter, EndsRelease, EndReleases, ◌≢◌, nat_le}
+use Names.{◌≡◌, ℕ, Bool, true, false, length, Some, None, Err, ap, subst, inl, inr, arith}
+use Names.{SendFields, full_output, Log, SentMessage, is_head_alone, EndRefusal, EndLog, Traffic}
+use Names.{IsWrittenOut, conditions, first_of, output, waiting, MayReply, MayRespond, ◌≢◌, nat_le}
 use Names.{RefusesMessage, if◌then◌else◌, refusal_of_message}
 use Rattle.std.proofs.lemmas.List.{length-take}
 use Rattle.h2_spec_log.specs.declared.refusal.Refusal.TheVariants as reasons
 use Rattle.h2_ends.specs.declared.refusal.EndRefusal.TheVariants as refusals
-
--- A release that was refused otherwise ends as the refusal says.
-ends_release : (refusal : EndRefusal) {error : LinkError}
-    → refusal ≢ refusals.Conn reasons.OutputFull → error ≡ error_after refusal
-    → EndsRelease (Err refusal) (Err error)
-unfolding EndsRelease EndsAfter
-ends_release (refusals.Conn reasons.OutputFull) other is = absurd (other refl)
-ends_release refusal other is = is
-
--- So the end has not released all.
-pub releases_err : (old new : End) (refusal : EndRefusal) {error : LinkError}
-    → refusal ≢ refusals.Conn reasons.OutputFull → error ≡ error_after refusal
-    → EndReleases old (Err refusal) new → ReleasesSome old new (Err error)
-releases_err old new refusal other is releases =
-    (Err refusal, releases, ends_release refusal other is)
 
 -- Once all output was written, none waits.
 pub waits_none : {start now : Traffic} {log : Log} → IsWrittenOut start now log → waiting log ≡ 0

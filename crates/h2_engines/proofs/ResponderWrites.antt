@@ -241,6 +241,28 @@ module _ (P : EndLog → Type 0) (may : MayPutOut P) {values : Values} {start mi
       writes_first P may there now new most given most_typed consumed
       (lent_next given lends consumed) none some error took known stalled
 
+-- What has failed is not good.
+not_good : {A B : Type 0} (result : Result A B) (error : B) → result ≡ Err error → IsOk result → ⊥
+not_good (Ok value) error same good = absurd (cc)
+not_good (Err other) error same good = absurd (cc)
+
+-- Once output was made ready, consuming it is not refused.
+pub never_lost : (P : EndLog → Type 0) → MayPutOut P → {values : Values} {start middle : Traffic}
+    (now : Traffic) {before : EndLog} {old : End} (ready new : End) {unused : List ℕ} {rounds : ℕ}
+    (result : Result ℕ Refusal) (refused : Refusal) (error : LinkError)
+    → WritesOn P values start middle before old unused rounds
+    → EndAnswers old (PutOut 0) (Count 0) ready
+    → ((values : Values) (log : Log) → ConnRepresents values ready.conn log
+    → returns_before_put_out (log_view log) ≡ false)
+    → ((values : Values) (log : Log) → ConnRepresents values ready.conn log
+    → returns_before_put_out (log_view log) ≡ false → IsOk result) → result ≡ Err refused
+    → WritesOut P values start now before new unused (Err error)
+never_lost P may {values} now ready new result refused error so made returned free same =
+    let there = writes_ready P may so ready made in
+    let conn = there.represents.streams.conn in
+    let log = there.after.log in
+    absurd (not_good result refused same (free values log conn (returned values log conn)))
+
 -- Where none waits then, all of the output was written.
 pub writes_all : (P : EndLog → Type 0) {values : Values} {start now : Traffic} {before : EndLog}
     {ready : End} {unused : List ℕ} (rounds : ℕ) (done : Unit {0})

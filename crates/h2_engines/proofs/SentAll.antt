@@ -5,12 +5,14 @@ use Names.{◌≡◌, ◌≤◌, ◌<◌, ℕ, false, List, [], ◌∷◌, Optio
 use Names.{drop, inr, refl, arith, length, full_output, Refusal, Values, Answer, PutOut, MayAnswer}
 use Names.{Log, Result, EndRefusal, EndLog, end_with_log, Pumps, pumps_no_more, pumps_trailers}
 use Names.{trailers_refused, releases_one, releases_refused, and_parts, Role, active, owed}
-use Names.{with_call, Token, HasSentAll, output, waiting, MayPump, MayReleaseAll, releases_no_more}
-use Names.{length-append, no_room_by_call, tokens_said, call_adds_none, pumps_data, data_refused}
-use Names.{Releases, IsStuckOn, cases_Bool, and_from, sends, OctetToken, EndToken, tokens_of_call}
+use Names.{with_call, Token, HasSentAll, HasSentWaiting, output, waiting, MayPump, MayReleaseAll}
+use Names.{releases_no_more, length-append, no_room_by_call, tokens_said, call_adds_none}
+use Names.{pumps_data, data_refused, Releases, IsStuckOn, cases_Bool, and_from, OctetToken}
+use Names.{EndToken, tokens_of_call}
 use Rattle.h2_laws_pair.specs.Tokens.{FieldsToken}
 use Rattle.h2_spec_log.specs.Histories.{IsLog, called_one}
-use Rattle.h2_engines.specs.WithoutLink.{HasSent, has_failed}
+use Rattle.h2_engines.specs.Sending.{sends_more, sends_nothing}
+use Rattle.h2_engines.specs.declared.sending.Credit.TheVariants.{All}
 use Rattle.h2_laws_end.specs.Over.{has_room}
 use Rattle.h2_laws_end.proofs.ActivityOwed.{none_owed_by_call}
 use Rattle.h2_laws_end.proofs.OverCalls.{items_no_block}
@@ -102,11 +104,11 @@ waits_more {before} stays =
 
 -- All was sent.
 pub all_sent : {role : Role} {values : Values} {before after : EndLog} {done : Unit {0}}
-    → HasSent before after (Ok done) → before.log.failed ≡ None → IsLog role values before.log
-    → waiting after.log < full_output → HasSentAll after
+    → HasSentWaiting All before after (Ok done) → before.log.failed ≡ None
+    → IsLog role values before.log → waiting after.log < full_output → HasSentAll after
 unfolding MayReleaseAll MayPump
-all_sent (has_failed failed same) up is few = absurd (failed up)
-all_sent {before} {after} (sends middle released sent running may (inl all) pumps) up is few =
+all_sent (sends_nothing failed same) up is few = absurd (failed up)
+all_sent {before} {after} (sends_more middle released sent running may (inl all) pumps) up is few =
     let gave = subst (λ (one : Result (Unit {0}) EndRefusal). MayReleaseAll before one middle)
     all may in
     elim pumps.1 [
@@ -116,7 +118,7 @@ all_sent {before} {after} (sends middle released sent running may (inl all) pump
         stuck = stuck.1;
       }
     ]
-all_sent {before} {after} (sends middle released sent running may (inr full) pumps) up is few =
+all_sent {before} {after} (sends_more middle released sent running may (inr full) pumps) up is few =
     let gave = subst (λ (one : Result (Unit {0}) EndRefusal). MayReleaseAll before one middle)
     full may in
     let more = waits_more (pumped_stays middle (Ok sent) after pumps) in

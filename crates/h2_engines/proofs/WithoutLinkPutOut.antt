@@ -14,6 +14,7 @@ use Rattle.h2_engines.proofs.ResponderStalls.{put_out_ends}
 use Rattle.h2_engines.proofs.WithoutLinkOutput.{puts_out}
 use Rattle.h2_engines.proofs.WithoutLinkSends.{sent_same, sent_given, sent_error, sends_at}
 use Rattle.h2_engines.specs.declared.request.Next.TheVariants as nexts
+use Rattle.h2_engines.specs.declared.sending.Credit.TheVariants.{All}
 
 -- The same octets had been given out before.
 puts_after : (one : Log) {two three : Log} {count given : ℕ} {before now : List ℕ}
@@ -31,7 +32,7 @@ puts_after one same puts =
 
 -- A machine has put octets out;
 pub machine_put : (old middle new : MachineState) (count given : ℕ) (before now : List ℕ)
-    (done : Unit {0}) → count < 2 ^ 64 → SendsWaiting old.end middle.end (Ok done)
+    (done : Unit {0}) → count < 2 ^ 64 → SendsWaiting All old.end middle.end (Ok done)
     → EndAnswers middle.end (PutOut count) (Count given) new.end
     → GivesOut middle.end.conn count given before now
     → PutsWaiting old new count before now (Ok given)
@@ -62,7 +63,7 @@ refused_given log count refusal = refl
 
 pub machine_refused : (old middle new : MachineState) (count : ℕ) (refusal : Refusal)
     {before now : List ℕ} (done : Unit {0}) {error : LinkError} → count < 2 ^ 64
-    → SendsWaiting old.end middle.end (Ok done)
+    → SendsWaiting All old.end middle.end (Ok done)
     → EndAnswers middle.end (PutOut count) (Refused refusal) new.end
     → error ≡ error_after (Conn refusal) → now ≡ before
     → PutsWaiting old new count before now (Err error)
@@ -88,7 +89,7 @@ machine_refused old middle new count refusal done typed sends answers why nothin
 
 -- or what waits can't be sent.
 pub machine_unsent : (old new : MachineState) (count : ℕ) (before now : List ℕ) (error : LinkError)
-    → SendsWaiting old.end new.end (Err error) → now ≡ before
+    → SendsWaiting All old.end new.end (Err error) → now ≡ before
     → PutsWaiting old new count before now (Err error)
 unfolding PutOutSo
 machine_unsent old new count before now error sends nothing course end is was =

@@ -8,6 +8,7 @@ pub mod Linked
 pub mod ServerHistories
 pub mod Serves
 pub mod ServerSteps
+pub mod Sending
 pub mod Machines
 pub mod WithoutLink
 pub mod Rooms

@@ -28,11 +28,12 @@ use Rattle.h2_engines.specs.ClientHistories.{IsFetching}
 use Rattle.h2_engines.specs.Failures.{CannotPutOut, IsOfClient, IsOfServer, error_after}
 use Rattle.h2_engines.specs.Fetches.{EndsUnfinished, WasDropped}
 use Rattle.h2_engines.specs.Linked.{Traffic, HasGiven, IsLinked, HasStalled, HasTakenAll}
-use Rattle.h2_engines.specs.Linked.{HasTakenFirst, StallsWriting}
+use Rattle.h2_engines.specs.Linked.{HasTakenFirst}
 use Rattle.h2_engines.specs.PartialMessages.{KeepsNext, HasCome, IsWhole}
+use Rattle.h2_engines.specs.Sending.{WritesOut}
 use Rattle.h2_engines.specs.ServerHistories.{IsResponding, calm}
 use Rattle.h2_engines.specs.Serves.{CannotReset, HasReturnedAll, HasSentAll}
-use Rattle.h2_engines.specs.ServerSteps.{IsSameOfMessages, TookBy, error_with}
+use Rattle.h2_engines.specs.ServerSteps.{IsSameOfMessages, error_with}
 use Rattle.h2_engines.specs.WithoutLink.{PutOutSo}
 
 -- what a machine keeps beside its end: a server the requests that aren't whole, and how many it has
@@ -213,21 +214,6 @@ Responds old new due result =
     → IsDriven course now old end unused due
     → (after : EndLog) × (length end.log.turns ≤ length after.log.turns)
     × RespondedSo writes course now new after unused result
-
--- The end was written out, or as far as it went, in a turn at least. Where nothing more could be
--- sent, nothing can.
-pub record WritesOut (P : EndLog → Type 0) (values : Values) (start now : Traffic)
-    (before : EndLog) (new : End) (unused : List ℕ) (result : Result (Unit {0}) LinkError) : Type 0
-  where
-    pub after : EndLog
-    pub happened : P after
-    pub represents : EndRepresents values new after
-    pub same : IsSameOfMessages before after
-    pub given : HasGiven start now after.log unused
-    pub taken : TookBy start now after.log result
-    pub turns : length before.log.turns < length after.log.turns
-    pub stalls : StallsWriting now after result
-    pub sent : HasSentAll before → HasSentAll after
 
 -- Whatever has happened at the end of a machine and over the link, what waits is written.
 abbrev pub WritesWaiting : (before now : Traffic) → (old new : MachineState)

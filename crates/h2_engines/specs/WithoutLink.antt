@@ -7,23 +7,23 @@ use Rattle.h2_frame.specs.declared.code.Code.{Code}
 use Rattle.h2_frame.specs.declared.code.Code.TheVariants.{InternalError}
 use Rattle.h2_frame.specs.Codes.{code_number}
 use Rattle.h2_spec_log.specs.declared.refusal.Refusal.{Refusal}
-use Rattle.h2_spec_log.specs.declared.refusal.Refusal.TheVariants.{OutputFull, TooManyResets}
+use Rattle.h2_spec_log.specs.declared.refusal.Refusal.TheVariants.{TooManyResets}
 use Rattle.h2_spec_log.specs.Acts.{Values, ResetStream, Refused}
 use Rattle.h2_spec_log.specs.Log.{Log}
 use Rattle.h2_message.specs.Messages.{SentMessage}
 use Rattle.h2_message.specs.Phases.{ends_message}
 use Rattle.h2_laws_pair.specs.Pairs.{given_out}
 use Rattle.h2_laws_pair.specs.Tokens.{at_once}
-use Rattle.h2_ends.specs.declared.end.End.{End}
 use Rattle.h2_ends.specs.declared.refusal.EndRefusal.{EndRefusal}
 use Rattle.h2_ends.specs.declared.refusal.EndRefusal.TheVariants.{Conn}
 use Rattle.h2_ends.specs.Ends.{EndLog, said_for, parts_on}
-use Rattle.h2_ends.specs.EndCalls.{MayPump, MayReleaseAll, MayRespond}
+use Rattle.h2_ends.specs.EndCalls.{MayRespond}
 use Rattle.h2_ends.specs.Represents.{EndRepresents}
 use Rattle.h2_link.specs.declared.error.LinkError.{LinkError}
 use Rattle.h2_link.specs.declared.error.LinkError.TheVariants as errors
 use Rattle.h2_engines.specs.declared.fetcher.Fetcher.{Fetcher}
 use Rattle.h2_engines.specs.declared.responder.Responder.{Responder}
+use Rattle.h2_engines.specs.declared.sending.Credit.TheVariants.{All}
 use Rattle.h2_engines.specs.Answers.{answer_to, is_too_large_body}
 use Rattle.h2_engines.specs.ClientHistories.{IsFetching}
 use Rattle.h2_engines.specs.Failures.{HasNoConnectionFault, error_after}
@@ -31,6 +31,7 @@ use Rattle.h2_engines.specs.Fetches.{WasDropped}
 use Rattle.h2_engines.specs.Linked.{IsOutOfRounds}
 use Rattle.h2_engines.specs.PartialMessages.{KeepsRequests, HasCome, IsWhole}
 use Rattle.h2_engines.specs.ServerHistories.{IsResponding, calm}
+use Rattle.h2_engines.specs.Sending.{HasSentWaiting}
 use Rattle.h2_engines.specs.Serves.{CannotReset}
 use Rattle.h2_engines.specs.ServerSteps.{IsSameOfMessages}
 
@@ -47,28 +48,6 @@ pub record FailsWith (log : Log) (number : ℕ) : Type 0 where
   pub other : code ≢ InternalError
   pub number_is : number ≡ code_number code
 
--- What was given back and sent before output is put out: while the connection is up, all that was
--- owed and could be sent, but for what a full output holds back, or as far as there was memory;
--- once it has failed, nothing.
-pub data HasSent (before after : EndLog) : Result (Unit {0}) LinkError → Type 0 where
-  has_failed : before.log.failed ≢ None → after ≡ before → HasSent before after (Ok tt)
-  sends : (middle : EndLog) (released : Result (Unit {0}) EndRefusal) (sent : ℕ)
-      → before.log.failed ≡ None → MayReleaseAll before released middle
-      → (released ≡ Ok tt) ⊎ (released ≡ Err (Conn OutputFull))
-      → MayPump middle (Ok sent) after → HasSent before after (Ok tt)
-  releases_no_more : (released : Result (Unit {0}) EndRefusal) (error : LinkError)
-      → error ≡ errors.Memory → before.log.failed ≡ None → MayReleaseAll before released after
-      → HasSent before after (Err error)
-  sends_no_more : (middle : EndLog) (released : Result (Unit {0}) EndRefusal)
-      (sent : Result ℕ EndRefusal) (error : LinkError) → error ≡ errors.Memory
-      → before.log.failed ≡ None → MayReleaseAll before released middle → MayPump middle sent after
-      → HasSent before after (Err error)
-
-abbrev pub SendsWaiting : (old new : End) → Result (Unit {0}) LinkError → Type 0
-SendsWaiting old new result =
-    (values : Values) (end : EndLog) → EndRepresents values old end
-    → (after : EndLog) × EndRepresents values new after × HasSent end after result
-
 -- So many octets were put out and appended to others: the next ones of the output, at most as many
 -- as were asked for, and fewer only where they were all.
 -- rule: engines (own) Without a link a server answers whole requests, a client reads one
@@ -84,7 +63,7 @@ pub record PutsOutNext (before after : Log) (count given : ℕ) (old new : List 
 unfoldable pub PutOutSo : (before after : EndLog) → ℕ → (old new : List ℕ) → Result ℕ LinkError
     → Type 0
 PutOutSo before after count old new (Ok given) =
-    ((sent : EndLog) × HasSent before sent (Ok tt) × IsSameOfMessages sent after)
+    ((sent : EndLog) × HasSentWaiting All before sent (Ok tt) × IsSameOfMessages sent after)
     × PutsOutNext before.log after.log count given old new
 PutOutSo before after count old new (Err error) =
     (error ≡ errors.Memory) × (new ≡ old) × (given_out after.log ≡ given_out before.log)

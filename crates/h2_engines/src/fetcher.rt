@@ -16,9 +16,10 @@ use crate::errors::{error_of_refusal, unless_failed};
 use crate::machine::{Heard, Machine, put_out, take_all};
 use crate::request::Next;
 use crate::room::no_link;
+use crate::sending::{Credit, send_waiting, write_out};
 use h2_conn::Conn;
 use h2_ends::{Client, Code, Config, EndEvent, EndRefusal, Field, FieldList, Message, Refusal};
-use h2_link::LinkError;
+use h2_link::{Link, LinkError};
 use std::alloc::{AllocError, Global};
 
 /// A complete response.
@@ -245,24 +246,16 @@ impl Machine for Fetcher {
         Ok(())
     }
 
-    fn pump(&mut self) -> Result<usize, EndRefusal> {
-        self.client.pump()
-    }
-
-    fn release_all(&mut self) -> Result<(), EndRefusal> {
-        self.client.release_all()
+    fn send(&mut self) -> Result<(), LinkError> {
+        send_waiting(&mut self.client, Credit::All)
     }
 
     fn give_out(&mut self, count: usize, out: &mut Vec<u8>) -> Result<usize, Refusal> {
         self.client.put_out(count, out)
     }
 
-    fn ready(&mut self) -> Result<(), Refusal> {
-        self.client.ready()
-    }
-
-    fn consume(&mut self, count: usize) -> Result<usize, Refusal> {
-        self.client.consume(count)
+    fn write_all<L: Link>(&mut self, link: &mut L) -> Result<(), LinkError> {
+        write_out(&mut self.client, link)
     }
 }
 

@@ -1,33 +1,26 @@
 //! Drives a server or a client, over a link or over octets that the caller hands in.
 
-ghost use Rattle.std.specs.Prelude.{◌≡◌, ◌≤◌, ◌<◌, ◌-◌, ◌^◌, [], Bool, true, false, length, drop};
-ghost use Rattle.std.specs.Prelude.{Ok};
-ghost use Rattle.std.specs.Prelude.{IfOk, IfErr, IsOk, OnErr, OnOk};
-ghost use Rattle.std.specs.Io.KnownBytes.{Appends};
-ghost use Rattle.h2_spec_log.specs.Acts.{PutOut, Count, Values};
-ghost use Rattle.h2_spec_log.specs.CallRules.{returns_before_put_out};
-ghost use Rattle.h2_spec_log.specs.Log.{Log};
-ghost use Rattle.h2_spec_log.specs.LogView.{log_view};
-ghost use Rattle.h2_conn.specs.Conn.{ConnRepresents, GivesOut, answer_by, octets_queued};
-ghost use Rattle.h2_link.specs.Links.{StallsAtNoProgress, WritesAll, Takes, failures_after};
-ghost use Rattle.h2_ends.specs.Represents.{EndAnswers, EndPumps, EndReleases};
+ghost use Rattle.std.specs.Prelude.{◌≡◌, ◌≤◌, ◌<◌, ◌-◌, ◌^◌, Bool, true, length, IfOk, IfErr};
+ghost use Rattle.std.specs.Prelude.{OnErr};
+ghost use Rattle.h2_spec_log.specs.Acts.{PutOut, Count};
+ghost use Rattle.h2_conn.specs.Conn.{GivesOut, answer_by};
+ghost use Rattle.h2_ends.specs.Represents.{EndAnswers};
 ghost use Rattle.h2_engines.specs.Failures.{EndsWriting, IsOfCall, failures_at_end, failures_by};
 ghost use Rattle.h2_engines.specs.Linked.{traffic};
 ghost use Rattle.h2_engines.specs.Machines.{MachineState, Hears, Responds, StopsWith, MayEnd};
 ghost use Rattle.h2_engines.specs.Machines.{WritesAndResponds, EndsEarly, MachineTakesPiece};
 ghost use Rattle.h2_engines.specs.Machines.{Drives, MeetsEnd, WritesWaiting, PutsWaiting};
-ghost use Rattle.h2_engines.specs.ServerSteps.{PumpsSome};
-ghost use Rattle.h2_engines.specs.WithoutLink.{SendsWaiting};
+ghost use Rattle.h2_engines.specs.Sending.{SendsWaiting};
 
 use crate::errors::unless_refused;
 use crate::request::Next;
 use crate::room::room_for_input;
+use crate::sending::Credit;
 use h2_conn::Conn;
-use h2_ends::{EndRefusal, Refusal};
+use h2_ends::Refusal;
 use h2_frame::limits::FULL_OUTPUT;
-use h2_link::{Link, LinkError, LinkFault};
+use h2_link::{Link, LinkError};
 use std::alloc::Global;
-use std::io::IoSlice;
 
 /// The result of handing a piece to a machine.
 #[derive(Drop)]
@@ -65,15 +58,12 @@ pub(crate) trait Machine {
         ensures acts { Responds (held self.old) (held self.new) due result }
         ensures err { IfErr result (StopsWith serves) };
 
-    /// Sends what waits of messages, as windows allow.
-    fn pump(&mut self) -> Result<usize, EndRefusal>
-        ensures pumps { EndPumps (held self.old).end result (held self.new).end }
-        ensures kept { (held self.new).kept ≡ (held self.old).kept };
-
-    /// Returns all credit that is owed.
-    fn release_all(&mut self) -> Result<(), EndRefusal>
-        ensures releases { EndReleases (held self.old).end result (held self.new).end }
-        ensures kept { (held self.new).kept ≡ (held self.old).kept };
+    /// Returns all credit that is owed, and sends what waits of messages: see
+    /// [`send_waiting`](crate::send_waiting).
+    fn send(&mut self) -> Result<(), LinkError>
+        ensures sends { SendsWaiting Credit.All (held self.old).end (held self.new).end result }
+        ensures kept { (held self.new).kept ≡ (held self.old).kept }
+        ensures err { IfErr result IsOfCall };
 
     /// Appends at most `count` octets of the output to `out`.
     fn give_out(&mut self, count: usize, out: &mut Vec<u8>) -> Result<usize, Refusal>
@@ -84,124 +74,16 @@ pub(crate) trait Machine {
         ensures err { OnErr result (out.new.items ≡ out.old.items) }
         ensures kept { (held self.new).kept ≡ (held self.old).kept };
 
-    /// Prepares the output to be written from where it lies.
-    fn ready(&mut self) -> Result<(), Refusal>
-        ensures answers { EndAnswers (held self.old).end (PutOut 0)
-            (answer_by (λ done. Count 0) result) (held self.new).end }
-        ensures returned { OnOk result ((values : Values) (log : Log)
-            → ConnRepresents values (held self.new).end.conn log
-            → returns_before_put_out (log_view log) ≡ false) }
-        ensures kept { (held self.new).kept ≡ (held self.old).kept };
-
-    /// Removes at most `count` octets of the output, which were written.
-    fn consume(&mut self, count: usize) -> Result<usize, Refusal>
-        ensures answers { EndAnswers (held self.old).end (PutOut count)
-            (answer_by (λ given. Count given) result) (held self.new).end }
-        ensures room { (values : Values) (log : Log)
-            → ConnRepresents values (held self.old).end.conn log
-            → returns_before_put_out (log_view log) ≡ false → IsOk result }
-        ensures kept { (held self.new).kept ≡ (held self.old).kept };
-}
-
-/// Sends what waits of messages, as windows allow.
-fn pump<M: Machine>(machine: &mut M) -> Result<(), LinkError>
-    ensures pumps { PumpsSome (M.held machine.old).end (M.held machine.new).end result }
-    ensures kept { (M.held machine.new).kept ≡ (M.held machine.old).kept }
-    ensures err { IfErr result IsOfCall }
-{
-    unless_refused(machine.pump())?;
-    Ok(())
-}
-
-// rule: engines (own) Over a link input is used in order and all output is written
-/// Writes all output that waits, from where it lies. After a fault of the link the unwritten
-/// output is lost.
-fn write_out<M: Machine, L: Link>(machine: &mut M, link: &mut L) -> Result<(), LinkError>
-    requires { L.faults link.old < 2 ^ 64 - 1 }
-    ensures writes { WritesWaiting
-        (traffic (L.given link.old) (L.taken link.old) (L.stalled link.old))
-        (traffic (L.given link.new) (L.taken link.new) (L.stalled link.new))
-        (M.held machine.old) (M.held machine.new) result }
-    ensures kept { (M.held machine.new).kept ≡ (M.held machine.old).kept }
-    ensures failures { L.faults link.new ≡ failures_at_end (L.faults link.old) result }
-    ensures err { IfErr result EndsWriting }
-{
-    for _ in 0..u64::MAX {
-        unless_refused(machine.ready())?;
-        if machine.conn().waiting() == 0 {
-            return Ok(());
-        }
-        let written = write_waiting(link, machine.conn());
-        let consumed = machine.consume(usize::MAX);
-        written?;
-        unless_refused(consumed)?;
-    }
-    Err(LinkError::NoProgress)
-}
-
-// rule: engines (own) Over a link input is used in order and all output is written
-/// Writes to a link all queued output of a connection, in order. It copies no octets: they may lie
-/// in several parts ([`Conn::waiting_from`]), and each call of the link gets up to four of these,
-/// until all are written. The octets stay queued: the caller removes them ([`Conn::consume`]).
-///
-/// # Errors
-///
-/// Some of the octets, from the first on, may have been written.
-///
-/// - [`LinkError::Device`] (N1) where a call of the link failed.
-/// - [`LinkError::NoProgress`] (N5) where a call took no octet.
-pub fn write_waiting<L: Link>(link: &mut L, conn: &Conn) -> Result<(), LinkError>
-    requires { L.faults link.old < 2 ^ 64 - 1 }
-    ensures writes { WritesAll (L.taken link.old) (L.taken link.new) (L.faults link.old)
-        (L.faults link.new) result (octets_queued conn.now) }
-    ensures gives_none { Appends (L.given link.old) (L.given link.new) [] }
-    ensures stalled { StallsAtNoProgress result (L.stalled link.new) }
-{
-    let waiting = conn.waiting();
-    let mut written = 0usize;
-    for _ in 0..waiting {
-        if written == waiting {
-            break;
-        }
-        let count = write_from(link, conn, written)?;
-        if count == 0 {
-            return Err(LinkError::NoProgress);
-        }
-        written += count;
-    }
-    Ok(())
-}
-
-/// Writes octets that wait, from the place `at`, where some do, in up to four parts. Returns
-/// how many were written.
-fn write_from<L: Link>(link: &mut L, conn: &Conn, at: usize) -> Result<usize, LinkFault>
-    requires failures { L.faults link.old < 2 ^ 64 - 1 }
-    requires fits { length (octets_queued conn.now) < 2 ^ 64 }
-    requires some { at < length (octets_queued conn.now) }
-    ensures takes { Takes (L.taken link.old) (L.taken link.new) result
-        (drop at (octets_queued conn.now)) }
-    ensures gives_none { Appends (L.given link.old) (L.given link.new) [] }
-    ensures ended { L.ended link.new ≡ L.ended link.old }
-    ensures failures { L.faults link.new ≡ failures_after (L.faults link.old) result }
-    ensures stalled { result ≡ Ok 0 → L.stalled link.new ≡ true }
-{
-    let first = conn.waiting_from(at);
-    let past_first = at + first.len();
-    // Mostly the output lies in one part.
-    if past_first == conn.waiting() {
-        return link.write(first);
-    }
-    let second = conn.waiting_from(past_first);
-    let past_second = past_first + second.len();
-    let third = conn.waiting_from(past_second);
-    let past_third = past_second + third.len();
-    let fourth = conn.waiting_from(past_third);
-    link.write_parts(&[
-        IoSlice::new(first),
-        IoSlice::new(second),
-        IoSlice::new(third),
-        IoSlice::new(fourth),
-    ])
+    /// Writes all output that waits: see [`write_out`](crate::write_out).
+    fn write_all<L: Link>(&mut self, link: &mut L) -> Result<(), LinkError>
+        requires { L.faults link.old < 2 ^ 64 - 1 }
+        ensures writes { WritesWaiting
+            (traffic (L.given link.old) (L.taken link.old) (L.stalled link.old))
+            (traffic (L.given link.new) (L.taken link.new) (L.stalled link.new))
+            (held self.old) (held self.new) result }
+        ensures kept { (held self.new).kept ≡ (held self.old).kept }
+        ensures failures { L.faults link.new ≡ failures_at_end (L.faults link.old) result }
+        ensures err { IfErr result EndsWriting };
 }
 
 /// Does what is due; if it writes to a link, once all that waits is written.
@@ -220,7 +102,7 @@ fn do_due<M: Machine, L: Link>(
     ensures err { IfErr result (MayEnd writes M.serves) }
 {
     if writes {
-        write_out(machine, link)?;
+        machine.write_all(link)?;
         return machine.act(due);
     }
     machine.act(due)
@@ -247,7 +129,7 @@ fn end_early<M: Machine, L: Link>(
         return error;
     }
     if machine.conn().failed().is_some() {
-        return match write_out(machine, link) {
+        return match machine.write_all(link) {
             Ok(()) => error,
             Err(unwritten) => unwritten,
         };
@@ -312,9 +194,9 @@ pub(crate) fn drive<M: Machine, L: Link>(machine: &mut M, link: &mut L) -> Resul
     let mut input = room_for_input(machine.alloc())?;
     for _ in 0..u64::MAX {
         let is_full = machine.conn().waiting() >= FULL_OUTPUT;
-        write_out(machine, link)?;
+        machine.write_all(link)?;
         if is_full {
-            send_waiting(machine)?;
+            machine.send()?;
             continue;
         }
         let count = link.read(&mut input)?;
@@ -325,27 +207,9 @@ pub(crate) fn drive<M: Machine, L: Link>(machine: &mut M, link: &mut L) -> Resul
         if is_whole {
             return Ok(true);
         }
-        send_waiting(machine)?;
+        machine.send()?;
     }
     Err(LinkError::NoProgress)
-}
-
-// rule: engines (own) Over a link credit is returned and what could be sent is sent
-/// Returns credit and sends what waits of messages, while the connection is up. A full output
-/// puts credit off to a later call.
-fn send_waiting<M: Machine>(machine: &mut M) -> Result<(), LinkError>
-    ensures sends { SendsWaiting (M.held machine.old).end (M.held machine.new).end result }
-    ensures kept { (M.held machine.new).kept ≡ (M.held machine.old).kept }
-    ensures err { IfErr result IsOfCall }
-{
-    if machine.conn().failed().is_some() {
-        return Ok(());
-    }
-    let released = machine.release_all();
-    match released {
-        Ok(()) | Err(EndRefusal::Conn(Refusal::OutputFull)) => pump(machine),
-        _ => unless_refused(released),
-    }
 }
 
 /// Sends what waits, and appends at most `count` octets of the output to `out`.
@@ -359,7 +223,7 @@ pub(crate) fn put_out<M: Machine>(
     ensures kept { (M.held machine.new).kept ≡ (M.held machine.old).kept }
     ensures err { IfErr result IsOfCall }
 {
-    send_waiting(machine)?;
+    machine.send()?;
     let given = unless_refused(machine.give_out(count, out))?;
     Ok(given)
 }

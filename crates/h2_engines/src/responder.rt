@@ -16,9 +16,10 @@ use crate::errors::{error_of_refusal, unless_failed, unless_refused};
 use crate::machine::{Heard, Machine, put_out, take_all};
 use crate::request::{Next, Request, Requests};
 use crate::room::no_link;
+use crate::sending::{Credit, send_waiting, write_out};
 use h2_conn::Conn;
-use h2_ends::{Code, Config, EndRefusal, Refusal, Server};
-use h2_link::LinkError;
+use h2_ends::{Code, Config, Refusal, Server};
+use h2_link::{Link, LinkError};
 use std::alloc::Global;
 
 /// A server that answers each complete request with its method, a space, its path, a newline and
@@ -213,23 +214,15 @@ impl Machine for Responder {
         }
     }
 
-    fn pump(&mut self) -> Result<usize, EndRefusal> {
-        self.server.pump()
-    }
-
-    fn release_all(&mut self) -> Result<(), EndRefusal> {
-        self.server.release_all()
+    fn send(&mut self) -> Result<(), LinkError> {
+        send_waiting(&mut self.server, Credit::All)
     }
 
     fn give_out(&mut self, count: usize, out: &mut Vec<u8>) -> Result<usize, Refusal> {
         self.server.put_out(count, out)
     }
 
-    fn ready(&mut self) -> Result<(), Refusal> {
-        self.server.ready()
-    }
-
-    fn consume(&mut self, count: usize) -> Result<usize, Refusal> {
-        self.server.consume(count)
+    fn write_all<L: Link>(&mut self, link: &mut L) -> Result<(), LinkError> {
+        write_out(&mut self.server, link)
     }
 }

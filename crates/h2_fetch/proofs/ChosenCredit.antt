@@ -4,8 +4,8 @@ use Rattle.h2_engines.proofs.Names.{End, EndLog, EndRepresents, Log, ConnReprese
 use Rattle.std.specs.Prelude.{◌||◌, nat_lt}
 use Rattle.h2_fetch.specs.Credits.{credit_before, is_due_on}
 use Rattle.h2_fetch.specs.Sends.{AllowsCredit, Asking}
-use Rattle.h2_fetch.specs.declared.sending.Credit.{Credit}
-use Rattle.h2_fetch.specs.declared.sending.Credit.TheVariants.{Kept}
+use Rattle.h2_engines.specs.declared.sending.Credit.{Credit}
+use Rattle.h2_engines.specs.declared.sending.Credit.TheVariants.{Kept}
 
 -- What `credit_before` answers of any log that the connection of an end represents.
 abbrev pub ChoosesCredit : End → (id last : ℕ) → (credit chosen : Credit) → Type 0
@@ -25,4 +25,4 @@ pub chosen_allows : {old : End} (id last : ℕ) (credit : Credit) {chosen : Cred
     → AllowsCredit chosen asking
 chosen_allows id last credit asking {values} {end} allows chooses represents =
     rw (chooses values end.log represents.streams.conn)
-    (either_allows (nat_lt last 16384 || is_due_on end.log id) credit asking allows)
+    (either_allows (nat_lt last 131072 || is_due_on end.log id) credit asking allows)

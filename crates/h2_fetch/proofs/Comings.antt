@@ -1,9 +1,9 @@
 -- How the calls of a client whose response comes in parts follow one another.
 use Rattle.h2_engines.proofs.Names
 use Names.{◌≡◌, ◌≤◌, ◌<◌, ℕ, ◌+◌, ◌-◌, ◌^◌, List, [], ◌∷◌, ◌++◌, length}
-use Names.{take, drop, Option, Some, None, Result, Ok, Err, refl, sym, ap, ◌∙◌, subst, inl, inr}
-use Names.{arith, append-nil, drop-drop, drop_all, take_rest}
-use Names.{Values, SentMessage, End, EndLog, EndAnswer, EndTook, EndFailed, EndMayTake}
+use Names.{drop, Option, Some, None, Ok, Err, refl, sym, ap, ◌∙◌, subst, inl, inr}
+use Names.{arith, append-nil, drop_all}
+use Names.{Values, SentMessage, EndLog, EndAnswer, EndTook, EndFailed, EndMayTake}
 use Names.{ErrsFetching, ResetEvent, Handed, Passed, LinkError}
 use Names.{IsLinked, Traffic, said_for, first_in}
 use Names.{if◌then◌else◌, refused_stream}
@@ -63,32 +63,20 @@ record HasTaken (values : Values) (message : SentMessage) (wide : ℕ) (start no
   handed : handed_on fetch.id after.handed
       ≡ handed_on fetch.id before.handed ++ answered fetch.id part
 
--- The rest of a piece is a list of its own.
-takes_rest : (old new : End) (id : ℕ) (piece : List ℕ) (used : ℕ)
-    (result : Result PartTaken LinkError)
-    → TakesPartOnce old new id (take (length piece - used) (drop used piece)) result
-    → TakesPartOnce old new id (drop used piece) result
-takes_rest old new id piece used result part =
-    subst (λ (octets : List ℕ). TakesPartOnce old new id octets result) (take_rest piece used) part
-
 module _ {values : Values} {message : SentMessage} {wide : ℕ} {start now : Traffic}
     {old : PartFetch} (new : PartFetch) {end : EndLog}
     (is : IsComing values message wide start now old end)
     (stream : new.id ≡ old.id) where
   -- So it is after a call of `take` of the client.
-  taken_on : (taken : PartTaken) → new.input ≡ old.input → new.used ≡ old.used + taken.used
+  taken_on : (taken : PartTaken) → octets_unused new ≡ drop taken.used (octets_unused old)
       → TakesPartOnce old.client.end new.client.end old.id (octets_unused old) (Ok taken)
       → HasTaken values message wide start now new end (part_in taken.next)
   unfolding TakesSo
-  taken_on taken same used part =
+  taken_on taken left part =
       let (after, represents, so) = part values end is.represents in
       let may = so.1 in
       let says = taken_says may in
       let first = takes_first may in
-      let left : drop taken.used (octets_unused old) ≡ octets_unused new =
-      drop-drop taken.used old.used old.input.items
-      ∙ ap (λ (n : ℕ). drop n old.input.items) (sym used)
-      ∙ ap (λ input. drop new.used input.items) (sym same) in
       record {
         after = after;
         coming = record {
@@ -97,7 +85,7 @@ module _ {values : Values} {message : SentMessage} {wide : ℕ} {start now : Tra
           accepted = ap (λ (i : ℕ). said_for i after.accepted) stream
               ∙ ap (said_for old.id) says.accepted ∙ is.accepted;
           up = first.says.1;
-          linked = subst (IsLinked start now after.log) left
+          linked = subst (IsLinked start now after.log) (sym left)
               (took_links (given_within is.represents) is.linked first.uses first.says.0);
         };
         turns = turns_of_take may;
@@ -182,15 +170,13 @@ module _ {values : Values} {message : SentMessage} {wide : ℕ} {start now : Tra
 -- In each round of `take_next` octets are taken once: nothing was answered,
 pub next_taken : (old middle new : PartFetch) (rounds : ℕ) (taken : PartTaken)
     → TakesOn old middle rounds → middle.id ≡ old.id → new.id ≡ middle.id
-    → new.input ≡ middle.input → new.used ≡ middle.used + taken.used → part_in taken.next ≡ None
-    → TakesPartOnce middle.client.end new.client.end middle.id
-    (take (length middle.input.items - middle.used) (octets_unused middle)) (Ok taken)
+    → octets_unused new ≡ drop taken.used (octets_unused middle) → part_in taken.next ≡ None
+    → TakesPartOnce middle.client.end new.client.end middle.id (octets_unused middle) (Ok taken)
     → TakesOn old new (rounds + 1)
-next_taken old middle new rounds taken on same stream input used none part values message wide start
+next_taken old middle new rounds taken on same stream left none part values message wide start
     now end is =
     let go = on values message wide start now end is in
-    let so = taken_on new go.coming stream taken input used
-    (takes_rest _ _ _ middle.input.items middle.used (Ok taken) part) in
+    let so = taken_on new go.coming stream taken left part in
     record {
       after = so.after;
       coming = so.coming;
@@ -220,31 +206,25 @@ took_so (Some part) values message wide start now fetch before after coming hand
 pub next_answered : (old middle new : PartFetch) (rounds : ℕ) (taken : PartTaken)
     (answer : Option ResponsePart) → part_in taken.next ≡ answer
     → TakesOn old middle rounds → middle.id ≡ old.id → new.id ≡ middle.id
-    → new.input ≡ middle.input → new.used ≡ middle.used + taken.used
+    → octets_unused new ≡ drop taken.used (octets_unused middle)
     → (answer ≡ None → taken.next ≡ nexts.Done)
-    → TakesPartOnce middle.client.end new.client.end middle.id
-    (take (length middle.input.items - middle.used) (octets_unused middle)) (Ok taken)
+    → TakesPartOnce middle.client.end new.client.end middle.id (octets_unused middle) (Ok taken)
     → TakesUntilPart old new (Ok answer)
 unfolding TakesSo
-next_answered old middle new rounds taken answer is_answer on same stream input used all part values
+next_answered old middle new rounds taken answer is_answer on same stream left all part values
     message wide start now end is =
     let go = on values message wide start now end is in
-    let rest = takes_rest _ _ _ middle.input.items middle.used (Ok taken) part in
-    let so = taken_on new go.coming stream taken input used rest in
-    let done = (rest values go.after go.coming.represents).2.3 in
+    let so = taken_on new go.coming stream taken left part in
+    let done = (part values go.after go.coming.represents).2.3 in
     let before : handed_on new.id go.after.handed ≡ handed_on new.id end.handed = subst
-    (λ (i : ℕ). handed_on i go.after.handed ≡ handed_on i end.handed) (sym stream) go.none in
-    let left : drop taken.used (octets_unused middle) ≡ octets_unused new =
-    drop-drop taken.used middle.used middle.input.items
-    ∙ ap (λ (n : ℕ). drop n middle.input.items) (sym used)
-    ∙ ap (λ input. drop new.used input.items) (sym input) in (
+    (λ (i : ℕ). handed_on i go.after.handed ≡ handed_on i end.handed) (sym stream) go.none in (
       so.after,
       omega (arith, go.turns, so.turns),
       took_so answer values message wide start now new end so.after so.coming
           (so.handed ∙ ap (λ (handed : List Handed). handed ++ answered new.id
           (part_in taken.next)) before ∙ ap (λ (one : Option ResponsePart).
           handed_on new.id end.handed ++ answered new.id one) is_answer)
-          (λ none. sym left
+          (λ none. left
           ∙ drop_all taken.used (octets_unused middle) (omega (arith, done (all none))))
           (omega (arith, go.turns, so.turns)),
     )
@@ -252,14 +232,13 @@ next_answered old middle new rounds taken answer is_answer on same stream input 
 -- or it has ended.
 pub next_last : (old middle new : PartFetch) (rounds : ℕ) (error : LinkError)
     → TakesOn old middle rounds → middle.id ≡ old.id → new.id ≡ middle.id
-    → TakesPartOnce middle.client.end new.client.end middle.id
-    (take (length middle.input.items - middle.used) (octets_unused middle)) (Err error)
+    → TakesPartOnce middle.client.end new.client.end middle.id (octets_unused middle)
+    (Err error)
     → TakesUntilPart old new (Err error)
 unfolding TookSo
 next_last old middle new rounds error on same stream part values message wide start now end is =
     let go = on values message wide start now end is in
-    let so = taken_last new go.coming stream error
-    (takes_rest _ _ _ middle.input.items middle.used (Err error) part) in
+    let so = taken_last new go.coming stream error part in
     let last = so.2 in (
       so.0,
       omega (arith, go.turns, so.1),

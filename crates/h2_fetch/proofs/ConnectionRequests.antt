@@ -3,7 +3,7 @@ use Rattle.h2_engines.proofs.Names
 use Names.{◌≡◌, ◌≢◌, ℕ, List, [], ◌∷◌, ◌++◌, Some, None, Result, Ok, Err, refl, sym, ap, ◌∙◌}
 use Names.{inl, inr, Contains, Client, Values, AreInRange, Log, SentMessage, is_head_alone, at_once}
 use Names.{EndLog, EndRepresents, new_end_log, EndRefusal, EndRequests, Message, Open, Number}
-use Names.{with_call, said_for, MayAsk, MayRequest, Traffic, opened}
+use Names.{with_call, said_for, MayAsk, MayRequest, Traffic, opened, subst, IsLinked}
 use Rattle.std.proofs.lemmas.List.Elements.{Contains-push_cases}
 use Rattle.h2_laws_end.proofs.OverNumbers.{opened_is_new}
 use Rattle.h2_laws_pair.proofs.Lists.{none_in}
@@ -43,7 +43,7 @@ module _ {values : Values} {wide : ℕ} {start now : Traffic} {asked : List Aske
     {old : ClientConnection} (new : ClientConnection) {end : EndLog} {answered : AnsweredOn}
     (is : AreComing values wide start now asked old end answered) (message : SentMessage)
     (after : EndLog) (represents : EndRepresents values new.client.end after)
-    (kept : new.kept ≡ old.kept) (input : new.input ≡ old.input) (used : new.used ≡ old.used)
+    (kept : new.kept ≡ old.kept) (unused : several_unused new ≡ several_unused old)
   where
     -- One message more was accepted, for a stream of its own,
     accepted_more : (id : ℕ) → after.accepted ≡ (id, at_once message) ∷ end.accepted
@@ -81,7 +81,8 @@ module _ {values : Values} {wide : ℕ} {start now : Traffic} {asked : List Aske
           represents = represents;
           accepted = accepted_more id (ap (λ (one : EndLog). one.accepted) may.3) unsaid;
           up = ap (λ (one : Log). one.failed) log ∙ goes.failed ∙ is.up;
-          linked = rw (log, input, used) (goes_links (given_within is.represents) goes is.linked);
+          linked = subst (IsLinked start now after.log) (sym unused)
+              (rw log (goes_links (given_within is.represents) goes is.linked));
           parts = λ i. rw (may.3, kept) (is.parts i);
           dropped = stay_dropped end after old.kept.entries new.kept.entries (λ i. rw kept refl)
               (λ one was. rw (may.3) was) is.dropped;
@@ -94,24 +95,25 @@ module _ {values : Values} {wide : ℕ} {start now : Traffic} {asked : List Aske
         let stays = refused_stays end after message refusal may in
         coming_still new after (λ i. rw kept refl) stays.accepted stays.handed
         (refuses is.fetching message refusal may) represents (stays.goes.failed ∙ is.up)
-        (rw (input, used) (goes_links (given_within is.represents) stays.goes is.linked)) is
+        (subst (IsLinked start now after.log) (sym unused)
+        (goes_links (given_within is.represents) stays.goes is.linked)) is
 
 -- So the client goes on, however its end has answered.
 pub makes_request : (message : SentMessage) (result : Result ℕ (Message × EndRefusal))
     (old new : ClientConnection) → EndRequests old.client.end message result new.client.end
-    → new.kept ≡ old.kept → new.input ≡ old.input → new.used ≡ old.used
+    → new.kept ≡ old.kept → several_unused new ≡ several_unused old
     → MakesRequest message result old new
-makes_request message (Ok id) old new asks kept input used values end is =
+makes_request message (Ok id) old new asks kept unused values end is =
     let (after, may, now) = asks.1 values end is in (
       after,
       may,
       λ wide start gone asked answered coming. requested_also new coming message after now kept
-          input used id may,
+          unused id may,
     )
-makes_request message (Err (back, refusal)) old new asks kept input used values end is =
+makes_request message (Err (back, refusal)) old new asks kept unused values end is =
     let (after, may, now) = asks.1 values end is in (
       after,
       may,
       λ wide start gone asked answered coming. refused_also new coming message after now kept
-          input used refusal may,
+          unused refusal may,
     )

@@ -1,8 +1,8 @@
 -- How a fetch ends that can't go on.
 use Rattle.h2_engines.proofs.Names
-use Names.{◌≡◌, ◌≢◌, ℕ, List, [], Option, None, Some, Ok, Err, refl, sym, ap, ◌∙◌, inl, inr}
-use Names.{Values, Code, InternalError, End, EndLog, EndRepresents, EndsWriting, Handed}
-use Names.{HasTakenAll, LinkError, StallsWriting, Traffic, error_with, said_for}
+use Names.{◌≡◌, ◌≢◌, ℕ, List, [], Option, None, Some, Ok, Err, refl, sym, ap, ◌∙◌, inl, inr, Values}
+use Names.{Code, InternalError, End, EndLog, EndRepresents, EndsWriting, Handed, HasTakenAll}
+use Names.{LinkError, StallsWriting, Traffic, error_with, said_for, WritesOver}
 use Rattle.h2_engines.proofs.MachineViews.{all_in_part}
 use Rattle.h2_engines.proofs.MachineWrites.{written_links}
 use Rattle.h2_engines.proofs.ResponderEnds.{same_itself}
@@ -10,10 +10,11 @@ use Rattle.h2_fetch.specs.Comings.{EndsSo, StopsFor, TakesNoMore, fails, lacks_m
 use Rattle.h2_fetch.specs.Comings.{out_of_rounds, was_dropped}
 use Rattle.h2_fetch.specs.Parts.{handed_on}
 use Rattle.h2_fetch.specs.Reads.{EndedSo, EndsOver, ends_at_once, ends_failed}
-use Rattle.h2_fetch.specs.Sends.{AsksOne, WritesOver}
+use Rattle.h2_fetch.specs.Sends.{AsksOne}
 use Rattle.h2_fetch.specs.Several.{StopsAllFor}
 use Rattle.h2_fetch.specs.declared.fetch.PartFetch.{PartFetch}
 use Rattle.h2_fetch.proofs.Refilling.{stops_for}
+use Rattle.h2_fetch.proofs.Writing.{asked_written}
 use Rattle.h2_link.specs.declared.error.LinkError.TheVariants as errors
 
 -- While the connection is up it ends at once;
@@ -66,7 +67,7 @@ module _ (before now : Traffic) (old new : End) (error : LinkError)
   pub ends_written : (done : Unit {0}) → WritesOver before now old new (Ok done)
       → EndsOver before now old new error error
   ends_written done writes values asking start end unused is was linked why =
-      let wrote = writes values asking start end unused is was linked in
+      let wrote = asked_written writes values asking start end unused is was linked in
       let fell = down values end is in
       record {
         after = wrote.after;
@@ -81,7 +82,7 @@ module _ (before now : Traffic) (old new : End) (error : LinkError)
   pub ends_unwritten : (unwritten : LinkError) → EndsWriting unwritten
       → WritesOver before now old new (Err unwritten) → EndsOver before now old new error unwritten
   ends_unwritten unwritten writing writes values asking start end unused is was linked why =
-      let wrote = writes values asking start end unused is was linked in
+      let wrote = asked_written writes values asking start end unused is was linked in
       record {
         after = wrote.after;
         asks = wrote.happened;

@@ -1,21 +1,20 @@
 -- A client goes on where the response on a stream was given up, or that was refused.
 use Rattle.h2_engines.proofs.Names
-use Names.{◌≡◌, ◌≢◌, ◌<◌, ◌^◌, ℕ, Bool, List, [], ◌++◌, Option, None, Result, Ok, Err, refl, sym}
-use Names.{ap, ◌∙◌, inl, inr, Contains, Done, EndAnswers, IsTypedAct, Refusal, Values, EndLog}
-use Names.{Traffic, if◌then◌else◌, arith}
-use Rattle.std.proofs.Common.{append-nil, cond}
+use Names.{◌≡◌, ◌≢◌, ◌<◌, ◌^◌, ℕ, List, [], ◌++◌, None, Result, Ok, Err, refl, sym}
+use Names.{ap, ◌∙◌, inl, inr, Done, EndAnswers, IsTypedAct, Refusal, Values, EndLog}
+use Names.{Traffic, arith, subst, IsLinked}
+use Rattle.std.proofs.Common.{append-nil}
 use Rattle.std.proofs.lemmas.Bool.{cases_eq, eq-eqb, ne_eqb}
 use Rattle.h2_conn.specs.Conn.{answer_by}
-use Rattle.h2_spec_log.specs.Acts.{ResetStream}
 use Rattle.h2_numbers.specs.Entries.{SetsValue}
 use Rattle.h2_engines.proofs.LinkInvariants.{IsQuiet}
 use Rattle.h2_engines.proofs.ResponderEnds.{given_within}
 use Rattle.h2_engines.proofs.ServeLinkLogs.{call_goes, goes_links}
 use Rattle.h2_laws_pair.proofs.Lists.{none_in}
-use Rattle.h2_fetch.specs.GivingUp.{GivesUp, GivesUpOn, answered_all, answered_since, cancels}
+use Rattle.h2_fetch.specs.GivingUp.{GivesUpOn, answered_all, cancels}
 use Rattle.h2_fetch.specs.GivingUp.{end_cancelled, unless_over}
 use Rattle.h2_fetch.specs.Several.{AnsweredOn, AreComing, AreDropped, AskedOn, OnStream, all_on}
-use Rattle.h2_fetch.specs.Several.{kept_on, resets, DropOn}
+use Rattle.h2_fetch.specs.Several.{kept_on, resets, DropOn, several_unused}
 use Rattle.h2_frame.specs.declared.code.Code.TheVariants.{Cancel}
 use Rattle.h2_frame.specs.Codes.{code_number}
 use Rattle.h2_fetch.specs.declared.connection.ClientConnection.{ClientConnection}
@@ -65,7 +64,7 @@ module _ (id : ℕ) (old new : Queues) (removed : SetsValue id None old new) whe
 module _ (id : ℕ) (reset : Result (Unit {0}) Refusal) (old new : ClientConnection)
     (few : id < 2 ^ 32)
     (answers : EndAnswers old.client.end (cancels id) (answer_by (λ done. Done) reset)
-    new.client.end) (input : new.input ≡ old.input) (used : new.used ≡ old.used) where
+    new.client.end) (unused : several_unused new ≡ several_unused old) where
   -- The client goes on, and of each stream this was answered.
   goes_so : {values : Values} {wide : ℕ} {start now : Traffic} {asked : List AskedOn}
       {end : EndLog} (answered answered_now : AnsweredOn)
@@ -73,7 +72,7 @@ module _ (id : ℕ) (reset : Result (Unit {0}) Refusal) (old new : ClientConnect
       → ((i : ℕ) → all_on i end.handed ≡ answered_now i ++ kept_on i new.kept.entries)
       → AreDropped end new.kept.entries
       → AreComing values wide start now asked new (end_cancelled end id reset) answered_now
-  goes_so {values} {end = end} answered answered_now on parts dropped =
+  goes_so {values} {start = start} {now = now} {end = end} answered answered_now on parts dropped =
       let answer = answer_by (λ done. Done) reset in
       let both = answers values end on.represents in
       let goes = call_goes end.log (cancels id) answer (quiet_answer id reset) in
@@ -82,7 +81,8 @@ module _ (id : ℕ) (reset : Result (Unit {0}) Refusal) (old new : ClientConnect
         represents = both.1;
         accepted = on.accepted;
         up = goes.failed ∙ on.up;
-        linked = rw (input, used) (goes_links (given_within on.represents) goes on.linked);
+        linked = subst (IsLinked start now _) (sym unused)
+            (goes_links (given_within on.represents) goes on.linked);
         parts = parts;
         dropped = dropped;
       }

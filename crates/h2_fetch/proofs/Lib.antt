@@ -6,11 +6,11 @@ mod Ending
 mod GivingUp
 mod KeptParts
 mod KeptQueues
-mod OwedCredit
+mod Pieces
 mod ReadPieces
 pub mod RefusedRequests
 mod Refilling
-mod ReturningCredit
+mod RequestsStay
 mod SendingRounds
 mod SeveralAnswers
 mod SeveralComings

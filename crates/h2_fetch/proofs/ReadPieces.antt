@@ -1,13 +1,13 @@
 -- What is sent before a piece is read, and what is read.
 use Rattle.h2_engines.proofs.Names
 use Names.{◌≡◌, ℕ, List, [], ◌++◌, Ok, Err, ◌∙◌, subst, ap, append-nil, Appends, Appends-trans}
-use Names.{End, EndLog, EndsWriting, LinkError, Log, Traffic, HasGiven, None}
+use Names.{End, EndLog, EndsWriting, LinkError, Log, Traffic, HasGiven, None, take}
 use Rattle.h2_engines.proofs.MachineViews.{all_in_part}
 use Rattle.h2_engines.proofs.MachineWrites.{written_links}
 use Rattle.h2_fetch.specs.Reads.{ReadSo, ReadsOver}
 use Rattle.h2_fetch.specs.Sends.{SendsAllOver, StopsSending}
 use Rattle.h2_fetch.specs.Several.{StopsAllFor}
-use Rattle.h2_fetch.specs.declared.sending.Credit.{Credit}
+use Rattle.h2_engines.specs.declared.sending.Credit.{Credit}
 use Rattle.h2_link.specs.declared.error.LinkError.TheVariants as errors
 
 -- What ends sending ends a fetch so.
@@ -18,11 +18,11 @@ sending_so start now end errors.Memory writing why = why
 sending_so start now end errors.NoProgress writing why = why
 sending_so start now end error writing why = absurd writing
 
-pub read_unsent : (credit : Credit) (before now : Traffic) (old new : End) (octets : List ℕ)
+pub read_unsent : (credit : Credit) (before now : Traffic) (old new : End) (buffer : List ℕ)
     (error : LinkError) → EndsWriting error → SendsAllOver credit before now old new (Err error)
-    → ReadsOver credit before now old new octets (Err error)
+    → ReadsOver credit before now old new buffer (Err error)
 unfolding ReadSo
-read_unsent credit before now old new octets error writing sends values asking start end is was
+read_unsent credit before now old new buffer error writing sends values asking start end is was
     allows linked up =
     let sent = sends values asking start end [] is was allows linked up in
     record {
@@ -57,10 +57,10 @@ module _ (credit : Credit) (before middle now : Traffic) (old new : End) (done :
     (gone : Appends middle.taken now.taken [])
     (sends : SendsAllOver credit before middle old new (Ok done)) where
   -- A piece was read,
-  pub read_some : (octets : List ℕ) → Appends middle.given now.given octets
-      → ReadsOver credit before now old new octets (Ok done)
+  pub read_some : (buffer : List ℕ) (count : ℕ) → Appends middle.given now.given (take count buffer)
+      → ReadsOver credit before now old new buffer (Ok count)
   unfolding ReadSo
-  read_some octets gives values asking start end is was allows linked up =
+  read_some buffer count gives values asking start end is was allows linked up =
       let sent = sends values asking start end [] is was allows linked up in
       let went = written_links [] sent.given sent.taken in
       record {
@@ -72,16 +72,16 @@ module _ (credit : Credit) (before middle now : Traffic) (old new : End) (done :
         so = (
           sent.same.failed ∙ up,
           record {
-            given = gives_more start middle now sent.after.log octets went.given gives;
+            given = gives_more start middle now sent.after.log (take count buffer) went.given gives;
             taken = takes_none start middle now _ went.taken gone;
           },
           sent.turns,
         );
       }
 
-  module _ (octets : List ℕ) (gives : Appends middle.given now.given []) where
+  module _ (buffer : List ℕ) (gives : Appends middle.given now.given []) where
     -- or none, at the end of the input,
-    pub read_none : ReadsOver credit before now old new octets (Err errors.CutOff)
+    pub read_none : ReadsOver credit before now old new buffer (Err errors.CutOff)
     unfolding ReadSo
     read_none values asking start end is was allows linked up =
         let sent = sends values asking start end [] is was allows linked up in
@@ -106,10 +106,10 @@ module _ (credit : Credit) (before middle now : Traffic) (old new : End) (done :
           );
         }
 
-    -- where the read has failed, or where there is no room for one.
+    -- where the read has failed, or where there is no buffer for one.
     pub read_fails : (error : LinkError)
         → ((start : Traffic) (end : EndLog) → end.log.failed ≡ None
-        → StopsAllFor start now end error) → ReadsOver credit before now old new octets (Err error)
+        → StopsAllFor start now end error) → ReadsOver credit before now old new buffer (Err error)
     unfolding ReadSo
     read_fails error stops values asking start end is was allows linked up =
         let sent = sends values asking start end [] is was allows linked up in

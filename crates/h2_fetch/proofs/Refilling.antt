@@ -3,7 +3,7 @@
 use Rattle.h2_engines.proofs.Names
 use Names.{◌≡◌, ℕ, ◌+◌, ◌-◌, ◌^◌, ◌≤◌, List, [], ◌++◌, ◌∷◌, Some, None, Ok, Err, refl, sym, ap}
 use Names.{◌∙◌, subst, inr, arith, append-nil, EndLog, Handed, Result, Values, SentMessage}
-use Names.{LinkError, Traffic, said_for, IsLinked, length}
+use Names.{LinkError, Traffic, said_for, IsLinked}
 use Rattle.h2_engines.proofs.MachineViews.{all_in_part}
 use Rattle.h2_fetch.specs.Comings.{AnswersNext, ComesSo, EndsSo, IsComing, Refills, RefilledSo}
 use Rattle.h2_fetch.specs.Comings.{StopsFor, TakesUntilPart, TookSo}
@@ -14,10 +14,11 @@ use Rattle.h2_fetch.specs.Sends.{AsksOne, HasReturned}
 use Rattle.h2_fetch.specs.Several.{StopsAllFor}
 use Rattle.h2_fetch.specs.declared.fetch.PartFetch.{PartFetch}
 use Rattle.h2_fetch.specs.declared.part.ResponsePart.{ResponsePart}
-use Rattle.h2_fetch.specs.declared.sending.Credit.{Credit}
-use Rattle.h2_fetch.specs.declared.sending.Credit.TheVariants.{All}
+use Rattle.h2_engines.specs.declared.sending.Credit.{Credit}
+use Rattle.h2_engines.specs.declared.sending.Credit.TheVariants.{All}
 use Rattle.h2_fetch.proofs.ChosenCredit.{ChoosesCredit, chosen_allows}
 use Rattle.h2_fetch.proofs.Comings.{NextOn, going_first}
+use Rattle.h2_fetch.proofs.Pieces.{without_count}
 use Rattle.h2_link.specs.declared.error.LinkError.TheVariants as errors
 
 -- What ends reading ends a fetch of one request so.
@@ -26,27 +27,33 @@ pub stops_for : (start now : Traffic) (end : EndLog) (id : ℕ) (error : LinkErr
 stops_for start now end id (errors.Reset number) so = absurd so
 stops_for start now end id error so = so
 
+-- The octets that were read into the buffer are those that were not used yet.
+abbrev pub HasFilled : PartFetch → Result ℕ LinkError → Type 0
+HasFilled fetch (Ok count) = (fetch.used ≡ 0) × (fetch.filled ≡ count)
+HasFilled fetch (Err error) = Unit {0}
+
 -- A piece was read, or the fetch has ended.
 module _ {values : Values} {message : SentMessage} {wide : ℕ} {start : Traffic}
     (before now : Traffic) (old new : PartFetch) {end : EndLog}
     (is : IsComing values message wide start before old end)
-    (stream : new.id ≡ old.id) (first : new.used ≡ 0) {credit : Credit} where
-  refilled_so : (result : Result (Unit {0}) LinkError)
+    (stream : new.id ≡ old.id) {credit : Credit} where
+  refilled_so : (result : Result ℕ LinkError) → HasFilled new result
       → (read : ReadOver credit values (AsksOne message wide) start now end new.client.end
-      new.input.items result) → RefilledSo values message wide start now new end read.after result
+      new.buffer.items result)
+      → RefilledSo values message wide start now new end read.after (without_count result)
   unfolding RefilledSo ReadSo
-  refilled_so (Ok done) read = (
+  refilled_so (Ok count) fills read = (
     record {
       fetching = read.asks;
       represents = read.represents;
       accepted = ap (λ (i : ℕ). said_for i read.after.accepted) stream
           ∙ ap (said_for old.id) read.same.accepted ∙ is.accepted;
       up = read.so.0;
-      linked = rw first read.so.1;
+      linked = rw (fills.0, fills.1) read.so.1;
     },
     read.so.2,
   )
-  refilled_so (Err error) read =
+  refilled_so (Err error) fills read =
       record {
         fetching = read.asks;
         represents = read.represents;
@@ -58,11 +65,11 @@ module _ {values : Values} {message : SentMessage} {wide : ℕ} {start : Traffic
 
 -- What is chosen before a read by all that is owed may be returned.
 pub refilled : (before now : Traffic) (old new : PartFetch) (last : ℕ) (credit : Credit)
-    (result : Result (Unit {0}) LinkError) → new.id ≡ old.id → new.used ≡ 0
-    → last ≡ length old.input.items → ChoosesCredit old.client.end old.id last All credit
-    → ReadsOver credit before now old.client.end new.client.end new.input.items result
-    → Refills before now old new result
-refilled before now old new last credit result stream first all chooses reads values message wide
+    (result : Result ℕ LinkError) → new.id ≡ old.id → HasFilled new result
+    → last ≡ old.filled → ChoosesCredit old.client.end old.id last All credit
+    → ReadsOver credit before now old.client.end new.client.end new.buffer.items result
+    → Refills before now old new (without_count result)
+refilled before now old new last credit result stream fills all chooses reads values message wide
     start end is empty =
     let asks = AsksOne message wide in
     let allows = chosen_allows old.id last All asks tt chooses is.represents in
@@ -73,7 +80,7 @@ refilled before now old new last credit result stream first all chooses reads va
       read.after,
       read.same.handed,
       subst (λ (one : Credit). HasReturned one end read.after) chosen read.returned,
-      refilled_so before now old new is stream first result read,
+      refilled_so before now old new is stream result fills read,
     )
 
 -- At first nothing was asked for.
@@ -144,7 +151,8 @@ module _ (before between : Traffic) (old one two : PartFetch) (rounds : ℕ)
     next_unfilled error refills values message wide start end is =
         let go = on values message wide start end is in
         let (after, turns, so) = takes values message wide start between go.after go.coming in
-        let (filled, same, returned, stopped) = refills values message wide start after so.0 so.2 in (
+        let (filled, same, returned, stopped) =
+        refills values message wide start after so.0 so.2 in (
           filled,
           (
             stopped,

@@ -1,18 +1,18 @@
 -- What is sent over a link in rounds: credit and what waits of the request, and then all output.
 use Rattle.h2_engines.proofs.Names
 use Names.{◌≡◌, ◌≤◌, ℕ, ◌+◌, ◌-◌, ◌^◌, List, length, None, Result, Ok, Err, ◌∙◌, inl, inr, arith}
-use Names.{◌⊎◌, refl, ap}
-use Names.{Values, End, EndLog, EndRepresents, LinkError, EndsWriting, IsSameOfMessages}
-use Names.{StallsWriting, Traffic, IsLinked}
+use Names.{◌⊎◌, refl, ap, Values, End, EndLog, EndRepresents, LinkError, EndsWriting}
+use Names.{IsSameOfMessages, StallsWriting, Traffic, IsLinked, HasSentWaiting, SendsWaiting}
+use Names.{WritesOver}
 use Rattle.h2_engines.proofs.MachineWrites.{written_links}
 use Rattle.h2_engines.proofs.ResponderEnds.{given_first, given_within, same_itself, same_twice}
 use Rattle.h2_engines.proofs.ServeLinkLogs.{goes_links}
-use Rattle.h2_fetch.specs.Sends.{AllowsCredit, Asking, HasAsked, HasReturned, SendsCredit}
-use Rattle.h2_fetch.specs.Sends.{HasSentWaiting, SentOver}
-use Rattle.h2_fetch.specs.Sends.{StopsSending, WritesOver}
-use Rattle.h2_fetch.specs.declared.sending.Credit.{Credit}
-use Rattle.h2_fetch.proofs.ReturningCredit.{sent_asks, sent_error, sent_same}
-use Rattle.h2_fetch.proofs.ReturningCredit.{sent_stays, sent_turns}
+use Rattle.h2_fetch.specs.Sends.{AllowsCredit, Asking, HasAsked, HasReturned, SentOver}
+use Rattle.h2_fetch.specs.Sends.{StopsSending}
+use Rattle.h2_engines.specs.declared.sending.Credit.{Credit}
+use Rattle.h2_engines.proofs.WithoutLinkSends.{sent_error, sent_same, sent_stays, sent_turns}
+use Rattle.h2_fetch.proofs.RequestsStay.{sent_asks}
+use Rattle.h2_fetch.proofs.Writing.{asked_written}
 use Rattle.h2_link.specs.declared.error.LinkError.TheVariants as errors
 
 -- What ends writing ends sending so.
@@ -88,7 +88,7 @@ module _ {values : Values} {asking : Asking} {start now : Traffic} {before : End
     (allows : AllowsCredit credit asking)
     (on : IsSending credit values asking start now before old unused rounds) where
   -- Credit is returned, and what waits is sent;
-  pub waited : (result : Result (Unit {0}) LinkError) → SendsCredit credit old new result
+  pub waited : (result : Result (Unit {0}) LinkError) → SendsWaiting credit old new result
       → HasWaited credit values asking start now before new unused rounds
   waited result waits =
       let sent = waits values on.after on.represents in
@@ -109,7 +109,7 @@ module _ {values : Values} {asking : Asking} {start now : Traffic} {before : End
       }
 
   -- or there is no memory for that.
-  pub not_waited : (error : LinkError) → SendsCredit credit old new (Err error)
+  pub not_waited : (error : LinkError) → SendsWaiting credit old new (Err error)
       → SentOver credit values asking start now before new unused (Err error)
   not_waited error waits =
       let went = waited (Err error) waits in
@@ -135,7 +135,8 @@ module _ {values : Values} {asking : Asking} {start middle : Traffic} (now : Tra
       → IsSending credit values asking start now before new unused (rounds + 1)
   wrote_on done writes =
       let on = waited.so in
-      let wrote = writes values asking start on.after unused on.represents on.asks on.linked in
+      let wrote = asked_written writes values asking start on.after unused on.represents
+      on.asks on.linked in
       record {
         after = wrote.after;
         asks = wrote.happened;
@@ -152,7 +153,8 @@ module _ {values : Values} {asking : Asking} {start middle : Traffic} (now : Tra
       → SentOver credit values asking start now before new unused (Ok done)
   wrote_all done writes =
       let on = waited.so in
-      let wrote = writes values asking start on.after unused on.represents on.asks on.linked in
+      let wrote = asked_written writes values asking start on.after unused on.represents
+      on.asks on.linked in
       record {
         after = wrote.after;
         asks = wrote.happened;
@@ -171,7 +173,8 @@ module _ {values : Values} {asking : Asking} {start middle : Traffic} (now : Tra
       → SentOver credit values asking start now before new unused (Err error)
   not_written error writing writes =
       let on = waited.so in
-      let wrote = writes values asking start on.after unused on.represents on.asks on.linked in
+      let wrote = asked_written writes values asking start on.after unused on.represents
+      on.asks on.linked in
       record {
         after = wrote.after;
         asks = wrote.happened;

@@ -1,8 +1,9 @@
 -- What is answered next of a stream: the first that is kept of it, or what comes.
 use Rattle.h2_engines.proofs.Names
-use Names.{◌≡◌, ℕ, Result, Ok, Some, None, refl, ◌∙◌, subst, Contains, LinkError, Traffic}
+use Names.{◌≡◌, ℕ, Result, Ok, Some, None, refl, sym, ◌∙◌, subst, Contains, IsLinked}
+use Names.{LinkError, Traffic}
 use Rattle.h2_fetch.specs.Kept.{TakesKept}
-use Rattle.h2_fetch.specs.Several.{AnswersNextOn, CameSo, DropOn, came_as, kept_on}
+use Rattle.h2_fetch.specs.Several.{AnswersNextOn, CameSo, DropOn, came_as, kept_on, several_unused}
 use Rattle.h2_fetch.specs.SeveralComings.{WaitsFor}
 use Rattle.h2_fetch.specs.declared.connection.Came.{Came}
 use Rattle.h2_fetch.specs.declared.connection.ClientConnection.{ClientConnection}
@@ -10,7 +11,7 @@ use Rattle.h2_fetch.proofs.KeptParts.{first_was_kept, parts_taken, was_kept}
 use Rattle.h2_fetch.proofs.SeveralWaits.{coming_still}
 
 module _ (now : Traffic) (old new : ClientConnection) (id : ℕ) (client : new.client ≡ old.client)
-    (input : new.input ≡ old.input) (used : new.used ≡ old.used) where
+    (unused : several_unused new ≡ several_unused old) where
   -- The first that is kept of a stream is answered.
   pub answers_kept : (came : Came) → TakesKept id old.kept.entries new.kept.entries (Some came)
       → AnswersNextOn now now old new id (Ok came)
@@ -24,7 +25,7 @@ module _ (now : Traffic) (old new : ClientConnection) (id : ℕ) (client : new.c
           represents = rw client is.represents;
           accepted = is.accepted;
           up = is.up;
-          linked = rw (used, input) is.linked;
+          linked = subst (IsLinked start now _) (sym unused) is.linked;
           parts = λ i. parts_taken answered id came was left i takes (is.parts i);
           dropped = λ i code one. is.dropped i code
               (was_kept i id came was left takes (DropOn code) one);
@@ -42,4 +43,4 @@ module _ (now : Traffic) (old new : ClientConnection) (id : ℕ) (client : new.c
   answers_later later after result takes waits values wide start asked end answered is =
       waits values wide start asked end answered
       (coming_still new end takes.1 refl refl is.fetching (rw client is.represents) is.up
-      (rw (used, input) is.linked) is) (takes.1 id ∙ takes.0)
+      (subst (IsLinked start now _) (sym unused) is.linked) is) (takes.1 id ∙ takes.0)

@@ -1,8 +1,8 @@
 -- How the takes of a client that makes several requests follow one another.
 use Rattle.h2_engines.proofs.Names
-use Names.{◌≡◌, ◌≤◌, ◌<◌, ℕ, ◌+◌, ◌-◌, List, [], ◌∷◌, ◌++◌, length, take, drop, Option, None, Ok}
-use Names.{refl, sym, ap, ◌∙◌, subst, inl, inr, arith, drop-drop, drop_all, take_rest, Contains}
-use Names.{Values, EndLog, EndRepresents, EndTook, Handed, EndMayTake, IsLinked, Traffic}
+use Names.{◌≡◌, ◌≤◌, ◌<◌, ℕ, ◌+◌, List, [], ◌∷◌, ◌++◌, length, drop, Option, None, Ok}
+use Names.{refl, sym, ap, ◌∙◌, subst, inl, inr, arith, drop_all, Contains}
+use Names.{Values, EndLog, EndRepresents, EndTook, Handed, IsLinked, Traffic}
 use Names.{first_in}
 use Rattle.h2_engines.specs.Fetches.{WasDropped}
 use Rattle.h2_engines.proofs.ResponderEnds.{given_within}
@@ -60,45 +60,33 @@ pub record HasTakenCame (values : Values) (wide : ℕ) (start now : Traffic) (as
   pub same : after.handed ≡ handed_after (EndTook taken.used handed) before.handed
   pub done : without_empty taken.next ≡ nexts.Done → several_unused fetch ≡ []
 
--- what the octets are that a client hands to `take`
-abbrev pub piece_of : ClientConnection → List ℕ
-piece_of fetch = take (length fetch.input.items - fetch.used) (several_unused fetch)
-
--- The rest of a piece is a list of its own.
-pub rest_is : (fetch : ClientConnection) → piece_of fetch ≡ several_unused fetch
-rest_is fetch = take_rest fetch.input.items fetch.used
-
 module _ {values : Values} {wide : ℕ} {start now : Traffic} {asked : List AskedOn}
     {old : ClientConnection} (new : ClientConnection) {end : EndLog} {answered : AnsweredOn}
     (is : AreComing values wide start now asked old end answered) where
-  pub taken_came : (taken : CameTaken) → new.input ≡ old.input → new.used ≡ old.used + taken.used
-      → TakesCameOnce old.client.end new.client.end (piece_of old) (Ok taken)
+  pub taken_came : (taken : CameTaken)
+      → several_unused new ≡ drop taken.used (several_unused old)
+      → TakesCameOnce old.client.end new.client.end (several_unused old) (Ok taken)
       → HasTakenCame values wide start now asked new end taken
   unfolding TakesCameSo
-  taken_came taken input used part =
+  taken_came taken left part =
       let (after, represents, so) = part values end is.represents in
-      let may = subst (λ (octets : List ℕ). EndMayTake end octets (EndTook taken.used so.0) after)
-      (rest_is old) so.1 in
+      let may = so.1 in
       let says = taken_says may in
       let first = takes_first may in
-      let left : drop taken.used (several_unused old) ≡ several_unused new =
-      drop-drop taken.used old.used old.input.items
-      ∙ ap (λ (n : ℕ). drop n old.input.items) (sym used)
-      ∙ ap (λ input. drop new.used input.items) (sym input) in
       record {
         after = after;
         fetching = takes is.fetching _ _ may;
         represents = represents;
         accepted = says.accepted;
         up = first.says.1;
-        linked = subst (IsLinked start now after.log) left
+        linked = subst (IsLinked start now after.log) (sym left)
             (took_links (given_within is.represents) is.linked first.uses first.says.0);
         turns = turns_of_take may;
         handed = so.0;
         hands = adds_came so.0 taken.next so.2;
         same = says.handed;
-        done = λ is_done. sym left ∙ drop_all taken.used (several_unused old)
-            (omega (arith, so.3 (still_done taken.next is_done), ap length (rest_is old)));
+        done = λ is_done. left ∙ drop_all taken.used (several_unused old)
+            (omega (arith, so.3 (still_done taken.next is_done)));
       }
 
 module _ {values : Values} {wide : ℕ} {start now : Traffic} {asked : List AskedOn}

@@ -1,6 +1,6 @@
 -- What the rounds make of octets that were read, at a client that makes several requests.
 use Rattle.h2_engines.proofs.Names
-use Names.{◌≡◌, ◌≢◌, ◌≤◌, ℕ, ◌+◌, ◌-◌, ◌^◌, List, [], ◌++◌, Some, None, Ok, Err, refl, sym}
+use Names.{◌≡◌, ◌≢◌, ◌≤◌, ℕ, ◌+◌, ◌-◌, ◌^◌, List, [], ◌++◌, drop, Some, None, Ok, Err, refl, sym}
 use Names.{ap, ◌∙◌, subst, arith, append-nil, Values, EndLog, EndTook, EndAnswer}
 use Names.{EndFailed, EndMayTake, LinkError, Traffic, append_assoc}
 use Rattle.h2_engines.specs.Fetches.{WasDropped}
@@ -20,7 +20,7 @@ use Rattle.h2_fetch.specs.declared.connection.Came.{Came}
 use Rattle.h2_fetch.specs.declared.connection.ClientConnection.{ClientConnection}
 use Rattle.h2_fetch.proofs.KeptParts.{none_more}
 use Rattle.h2_fetch.proofs.SeveralComings.{AreGoing, are_going, came_answered, came_dropped}
-use Rattle.h2_fetch.proofs.SeveralComings.{came_kept, came_lost, piece_of, rest_is, taken_came}
+use Rattle.h2_fetch.proofs.SeveralComings.{came_kept, came_lost, taken_came}
 use Rattle.h2_fetch.proofs.SeveralComings.{took_none}
 use Rattle.h2_fetch.proofs.SeveralTaking.{SaysSome, IsNothing}
 use Rattle.h2_link.specs.declared.error.LinkError.TheVariants as errors
@@ -39,77 +39,77 @@ came_first fetch id values wide start now asked end answered is none = are_going
 
 -- In each round octets are taken once.
 module _ (old middle new : ClientConnection) (id rounds : ℕ) (on : TakesCame old middle id rounds)
-    (taken : CameTaken) (input : new.input ≡ middle.input)
-    (used : new.used ≡ middle.used + taken.used)
-    (part : TakesCameOnce middle.client.end new.client.end (piece_of middle) (Ok taken)) where
-  -- Nothing has come: it goes on,
-  pub next_nothing : IsNothing (without_empty taken.next) → new.kept ≡ middle.kept
-      → TakesCame old new id (rounds + 1)
-  next_nothing nothing kept values wide start now asked end answered is none =
-      let go = on values wide start now asked end answered is none in
-      let took = taken_came new go.coming taken input used part in
-      record {
-        after = took.after;
-        coming = took_none new go.coming took nothing kept;
-        none = rw kept go.none;
-        turns = omega (arith, go.turns, took.turns);
-      }
-
-  -- or all octets were used;
-  pub next_done : without_empty taken.next ≡ nexts.Done → new.kept ≡ middle.kept
-      → TakesUntilCame old new id (Ok None)
-  unfolding TookCame
-  next_done done kept values wide start now asked end answered is none =
-      let go = on values wide start now asked end answered is none in
-      let took = taken_came new go.coming taken input used part in (
-        took.after,
-        took_none new go.coming took (rw done tt) kept,
-        rw kept go.none,
-        took.done done,
-        omega (arith, go.turns, took.turns),
-      )
-
-  -- something has come on the stream,
-  pub next_came : (stream : ℕ) (came : Came)
-      → without_empty taken.next ≡ nexts.On stream came
-      → SaysSome stream came → stream ≡ id → new.kept ≡ middle.kept
-      → TakesUntilCame old new id (Ok (Some came))
-  unfolding TookCame CameSo
-  next_came stream came next final same kept values wide start now asked end answered is none =
-      let go = on values wide start now asked end answered is none in
-      let took = taken_came new go.coming taken input used part in
-      let first : kept_on stream middle.kept.entries ≡ [] = rw same go.none in (
-        took.after,
-        subst (λ (i : ℕ). AreComing values wide start now asked new took.after
-            (answered_next answered i came)) same
-            (came_answered new go.coming took stream came next final first kept),
-        λ code dropped. subst (λ (i : ℕ). WasDropped took.after i code) same
-            (came_dropped new go.coming took stream came next final code dropped),
-      )
-
-  module _ (stream : ℕ) (came : Came) (next : without_empty taken.next ≡ nexts.On stream came)
-      (final : SaysSome stream came) (other : stream ≢ id) where
-    -- or on another: that is kept,
-    pub next_kept : KeepsAlso stream came middle.kept.entries new.kept.entries
+    (taken : CameTaken) (left : several_unused new ≡ drop taken.used (several_unused middle))
+    (part : TakesCameOnce middle.client.end new.client.end (several_unused middle) (Ok taken))
+  where
+    -- Nothing has come: it goes on,
+    pub next_nothing : IsNothing (without_empty taken.next) → new.kept ≡ middle.kept
         → TakesCame old new id (rounds + 1)
-    next_kept also values wide start now asked end answered is none =
+    next_nothing nothing kept values wide start now asked end answered is none =
         let go = on values wide start now asked end answered is none in
-        let took = taken_came new go.coming taken input used part in
+        let took = taken_came new go.coming taken left part in
         record {
           after = took.after;
-          coming = came_kept new go.coming took stream came next final also;
-          none = none_more id stream came middle.kept.entries new.kept.entries other also go.none;
+          coming = took_none new go.coming took nothing kept;
+          none = rw kept go.none;
           turns = omega (arith, go.turns, took.turns);
         }
 
-    -- or there is no memory for it;
-    pub next_lost : KeepsAll middle.kept.entries new.kept.entries
-        → TakesUntilCame old new id (Err errors.Memory)
+    -- or all octets were used;
+    pub next_done : without_empty taken.next ≡ nexts.Done → new.kept ≡ middle.kept
+        → TakesUntilCame old new id (Ok None)
     unfolding TookCame
-    next_lost all values wide start now asked end answered is none =
+    next_done done kept values wide start now asked end answered is none =
         let go = on values wide start now asked end answered is none in
-        let took = taken_came new go.coming taken input used part in
-        (took.after, came_lost new go.coming took stream came next final all)
+        let took = taken_came new go.coming taken left part in (
+          took.after,
+          took_none new go.coming took (rw done tt) kept,
+          rw kept go.none,
+          took.done done,
+          omega (arith, go.turns, took.turns),
+        )
+
+    -- something has come on the stream,
+    pub next_came : (stream : ℕ) (came : Came)
+        → without_empty taken.next ≡ nexts.On stream came
+        → SaysSome stream came → stream ≡ id → new.kept ≡ middle.kept
+        → TakesUntilCame old new id (Ok (Some came))
+    unfolding TookCame CameSo
+    next_came stream came next final same kept values wide start now asked end answered is none =
+        let go = on values wide start now asked end answered is none in
+        let took = taken_came new go.coming taken left part in
+        let first : kept_on stream middle.kept.entries ≡ [] = rw same go.none in (
+          took.after,
+          subst (λ (i : ℕ). AreComing values wide start now asked new took.after
+              (answered_next answered i came)) same
+              (came_answered new go.coming took stream came next final first kept),
+          λ code dropped. subst (λ (i : ℕ). WasDropped took.after i code) same
+              (came_dropped new go.coming took stream came next final code dropped),
+        )
+
+    module _ (stream : ℕ) (came : Came) (next : without_empty taken.next ≡ nexts.On stream came)
+        (final : SaysSome stream came) (other : stream ≢ id) where
+      -- or on another: that is kept,
+      pub next_kept : KeepsAlso stream came middle.kept.entries new.kept.entries
+          → TakesCame old new id (rounds + 1)
+      next_kept also values wide start now asked end answered is none =
+          let go = on values wide start now asked end answered is none in
+          let took = taken_came new go.coming taken left part in
+          record {
+            after = took.after;
+            coming = came_kept new go.coming took stream came next final also;
+            none = none_more id stream came middle.kept.entries new.kept.entries other also go.none;
+            turns = omega (arith, go.turns, took.turns);
+          }
+
+      -- or there is no memory for it;
+      pub next_lost : KeepsAll middle.kept.entries new.kept.entries
+          → TakesUntilCame old new id (Err errors.Memory)
+      unfolding TookCame
+      next_lost all values wide start now asked end answered is none =
+          let go = on values wide start now asked end answered is none in
+          let took = taken_came new go.coming taken left part in
+          (took.after, came_lost new go.coming took stream came next final all)
 
 -- or the client can take no more: the connection has failed, or memory was refused for what was
 -- handed out, which is lost.
@@ -139,15 +139,14 @@ lost_last end after (EndTook count (Some one)) may i = ap (all_on i) (taken_says
 
 pub next_failed : (old middle new : ClientConnection) (id rounds : ℕ) (error : LinkError)
     → TakesCame old middle id rounds → new.kept ≡ middle.kept
-    → TakesCameOnce middle.client.end new.client.end (piece_of middle) (Err error)
+    → TakesCameOnce middle.client.end new.client.end (several_unused middle) (Err error)
     → TakesUntilCame old new id (Err error)
 unfolding TookCame TakesCameSo
 next_failed old middle new id rounds error on kept part values wide start now asked end answered
     is none =
     let go = on values wide start now asked end answered is none in
     let (after, represents, so) = part values go.after go.coming.represents in
-    let may = subst (λ (octets : List ℕ). EndMayTake go.after octets so.0 after) (rest_is middle)
-    so.1 in
+    let may = so.1 in
     let first = takes_first may in (
       after,
       record {

@@ -2,7 +2,7 @@
 use Rattle.h2_engines.proofs.Names
 use Names.{◌≡◌, ◌≢◌, ◌≤◌, ℕ, ◌+◌, ◌-◌, ◌^◌, List, [], ◌++◌, Some, None, Result, Ok, Err, refl}
 use Names.{sym, ap, ◌∙◌, subst, inl, inr, arith, append-nil, Code, Values, EndLog}
-use Names.{EndRepresents, IsLinked, LinkError, Traffic, error_with, length}
+use Names.{EndRepresents, IsLinked, LinkError, Traffic, error_with}
 use Rattle.h2_engines.proofs.MachineViews.{all_in_part}
 use Rattle.h2_fetch.specs.Reads.{EndedSo, EndsOver, ReadOver, ReadSo, ReadsOver, ends_at_once}
 use Rattle.h2_fetch.specs.Reads.{ends_failed}
@@ -13,11 +13,12 @@ use Rattle.h2_fetch.specs.Several.{OnStream, AnsweredOn, AreComing, AskedOn, Cam
 use Rattle.h2_fetch.specs.Several.{IsFetchingSeveral, StopsAllFor, kept_on, several_unused}
 use Rattle.h2_fetch.specs.SeveralComings.{FilledSo, FillsSeveral, TakesNoneMore, TakesUntilCame}
 use Rattle.h2_fetch.specs.SeveralComings.{TookCame, WaitsFor, fails, lacks_memory, out_of_rounds}
-use Rattle.h2_fetch.specs.declared.sending.Credit.{Credit}
-use Rattle.h2_fetch.specs.declared.sending.Credit.TheVariants.{On}
+use Rattle.h2_engines.specs.declared.sending.Credit.{Credit}
+use Rattle.h2_engines.specs.declared.sending.Credit.TheVariants.{On}
 use Rattle.h2_fetch.specs.declared.connection.Came.{Came}
 use Rattle.h2_fetch.specs.declared.connection.ClientConnection.{ClientConnection}
 use Rattle.h2_fetch.proofs.ChosenCredit.{ChoosesCredit, chosen_allows}
+use Rattle.h2_fetch.proofs.Pieces.{without_count}
 use Rattle.h2_fetch.proofs.SeveralComings.{AreGoing, are_going}
 use Rattle.h2_fetch.proofs.SeveralTaking.{stay_dropped}
 use Rattle.h2_link.specs.declared.error.LinkError.TheVariants as errors
@@ -43,22 +44,27 @@ coming_still {old = old} new {end} after kept accepted handed fetching represent
           (λ one was. rw handed was) is.dropped;
     }
 
+-- The octets that were read into the buffer are those that were not used yet.
+abbrev pub HasFilledSeveral : ClientConnection → Result ℕ LinkError → Type 0
+HasFilledSeveral fetch (Ok count) = (fetch.used ≡ 0) × (fetch.filled ≡ count)
+HasFilledSeveral fetch (Err error) = Unit {0}
+
 -- A piece was read, or the fetch has ended.
 module _ {values : Values} {wide : ℕ} {start : Traffic} (before now : Traffic)
     {asked : List AskedOn} (old new : ClientConnection) {end : EndLog} {answered : AnsweredOn}
     (is : AreComing values wide start before asked old end answered)
     (kept : KeepsAll old.kept.entries new.kept.entries) {credit : Credit} where
-  filled_so : (result : Result (Unit {0}) LinkError) → new.used ≡ 0
+  filled_so : (result : Result ℕ LinkError) → HasFilledSeveral new result
       → (read : ReadOver credit values (AsksSeveral asked wide) start now end new.client.end
-      new.input.items result)
-      → FilledSo values wide start now asked new end read.after answered result
+      new.buffer.items result)
+      → FilledSo values wide start now asked new end read.after answered (without_count result)
   unfolding FilledSo ReadSo
-  filled_so (Ok done) first read = (
+  filled_so (Ok count) fills read = (
     coming_still new read.after kept read.same.accepted read.same.handed read.asks
-        read.represents read.so.0 (rw first read.so.1) is,
+        read.represents read.so.0 (rw (fills.0, fills.1) read.so.1) is,
     read.so.2,
   )
-  filled_so (Err error) first read =
+  filled_so (Err error) fills read =
       record {
         fetching = read.asks;
         represents = read.represents;
@@ -73,12 +79,12 @@ module _ {values : Values} {wide : ℕ} {start : Traffic} (before now : Traffic)
 
 -- What is chosen before a read by the credit of one stream may be returned.
 pub filled : (before now : Traffic) (old new : ClientConnection) (id last : ℕ) (credit : Credit)
-    (result : Result (Unit {0}) LinkError) → new.kept ≡ old.kept
-    → new.used ≡ 0 → last ≡ length old.input.items
+    (result : Result ℕ LinkError) → new.kept ≡ old.kept
+    → HasFilledSeveral new result → last ≡ old.filled
     → ChoosesCredit old.client.end id last (On id) credit
-    → ReadsOver credit before now old.client.end new.client.end new.input.items result
-    → FillsSeveral before now old new id result
-filled before now old new id last credit result kept first all chooses reads values wide start
+    → ReadsOver credit before now old.client.end new.client.end new.buffer.items result
+    → FillsSeveral before now old new id (without_count result)
+filled before now old new id last credit result kept fills all chooses reads values wide start
     asked end answered is empty =
     let asks = AsksSeveral asked wide in
     let allows = chosen_allows id last (On id) asks tt chooses is.represents in
@@ -88,7 +94,7 @@ filled before now old new id last credit result kept first all chooses reads val
     ∙ ap (λ (n : ℕ). credit_before end.log id n (On id)) all in (
       read.after,
       subst (λ (one : Credit). HasReturned one end read.after) chosen read.returned,
-      filled_so before now old new is (λ i. rw kept refl) result first read,
+      filled_so before now old new is (λ i. rw kept refl) result fills read,
     )
 
 -- The error of a client that can take no more is that of its connection, where that has failed.

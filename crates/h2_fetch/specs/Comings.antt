@@ -1,5 +1,5 @@
 -- What has happened at a client whose response comes in parts, and over its link.
-use Rattle.std.specs.Prelude.{◌≡◌, ◌≢◌, ◌<◌, ◌≤◌, ℕ, List, [], ◌∷◌, ◌++◌, length, drop}
+use Rattle.std.specs.Prelude.{◌≡◌, ◌≢◌, ◌<◌, ◌≤◌, ℕ, List, [], ◌∷◌, ◌++◌, length, take, drop}
 use Rattle.std.specs.Prelude.{Option, Some, None, Result, Ok, Err}
 use Rattle.h2_frame.specs.declared.code.Code.{Code}
 use Rattle.h2_spec_log.specs.declared.role.Role.TheVariants.{Client}
@@ -20,14 +20,14 @@ use Rattle.h2_engines.specs.Serves.{HasFailedWith, HasReturnedAll}
 use Rattle.h2_engines.specs.ServerSteps.{error_with}
 use Rattle.h2_fetch.specs.declared.fetch.PartFetch.{PartFetch}
 use Rattle.h2_fetch.specs.declared.part.ResponsePart.{ResponsePart}
-use Rattle.h2_fetch.specs.declared.sending.Credit.TheVariants.{All}
+use Rattle.h2_engines.specs.declared.sending.Credit.TheVariants.{All}
 use Rattle.h2_fetch.specs.Credits.{credit_before}
 use Rattle.h2_fetch.specs.Parts.{handed_of, handed_on}
 use Rattle.h2_fetch.specs.Sends.{HasReturned}
 
 -- the octets that were read and not used yet
 abbrev pub octets_unused : PartFetch → List ℕ
-octets_unused fetch = drop fetch.used fetch.input.items
+octets_unused fetch = drop fetch.used (take fetch.filled fetch.buffer.items)
 
 -- A client with these values, at which this has happened, fetches: its message was accepted, the
 -- connection is up, its window was widened by so much in all, the client has used all octets that
@@ -166,7 +166,7 @@ Refills before now old new result =
     (values : Values) (message : SentMessage) (wide : ℕ) (start : Traffic) (end : EndLog)
     → IsComing values message wide start before old end → octets_unused old ≡ []
     → (after : EndLog) × (after.handed ≡ end.handed)
-    × HasReturned (credit_before end.log old.id (length old.input.items) All) end after
+    × HasReturned (credit_before end.log old.id old.filled All) end after
     × RefilledSo values message wide start now new end after result
 
 -- A client that can take no more ends its fetch.

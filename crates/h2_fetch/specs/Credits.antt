@@ -6,8 +6,8 @@ use Rattle.h2_spec_log.specs.Log.{Log}
 use Rattle.h2_spec_log.specs.LogView.{log_view}
 use Rattle.h2_flow.specs.Credit.{is_credit_due}
 use Rattle.h2_conn.specs.PeerRoom.{reader_peer_room}
-use Rattle.h2_fetch.specs.declared.sending.Credit.{Credit}
-use Rattle.h2_fetch.specs.declared.sending.Credit.TheVariants.{Kept}
+use Rattle.h2_engines.specs.declared.sending.Credit.{Credit}
+use Rattle.h2_engines.specs.declared.sending.Credit.TheVariants.{Kept}
 
 -- Whether credit for so many octets is due in a window, if there is one.
 -- rule: 6.9 (own) Credit is returned by half of a window
@@ -22,10 +22,9 @@ is_due_on log id =
     is_due_in (reader_peer_room (log_view log) id) (pos (reader_owed (log_view log) id))
     || is_due_in (reader_peer_room (log_view log) 0) (pos (reader_owed (log_view log) id))
 
--- The credit that is returned before a read, where the last one has given so many octets: what is
--- to be returned before one that may wait, where it has not filled its 16,384 octets, or credit is
--- due; otherwise none.
+-- The credit that is returned before a read: all that may be, if the last read gave fewer than
+-- 131,072 octets, so that the next one may wait, or if credit is due; otherwise none.
 -- rule: 6.9 (own) Credit is returned by half of a window
 abbrev pub credit_before : Log → (id last : ℕ) → Credit → Credit
 credit_before log id last credit =
-    if nat_lt last 16384 || is_due_on log id then credit else Kept
+    if nat_lt last 131072 || is_due_on log id then credit else Kept

@@ -4,7 +4,7 @@ use Rattle.h2_frame.specs.declared.code.Code.TheVariants.{Cancel}
 use Rattle.h2_frame.specs.Codes.{code_number}
 use Rattle.h2_spec_log.specs.declared.refusal.Refusal.{Refusal}
 use Rattle.h2_spec_log.specs.declared.refusal.Refusal.TheVariants.{NoSuchStream}
-use Rattle.h2_spec_log.specs.Acts.{Values, Act, Answer, Done, ResetStream}
+use Rattle.h2_spec_log.specs.Acts.{Values, Act, Done, ResetStream}
 use Rattle.h2_spec_log.specs.LogCalls.{MayAnswer, with_call}
 use Rattle.h2_conn.specs.Conn.{answer_by}
 use Rattle.h2_ends.specs.Ends.{EndLog}

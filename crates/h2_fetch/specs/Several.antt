@@ -1,7 +1,7 @@
 -- What has happened at a client that makes several requests, at once or one after another, and what
 -- it answers of each response.
-use Rattle.std.specs.Prelude.{◌≡◌, ◌≢◌, ◌==◌, ◌+◌, ℕ, List, [], ◌∷◌, ◌++◌, drop, map, if◌then◌else◌}
-use Rattle.std.specs.Prelude.{false, Option, Some, None, Result, Ok, Err}
+use Rattle.std.specs.Prelude.{◌≡◌, ◌≢◌, ◌==◌, ◌+◌, ℕ, List, [], ◌∷◌, ◌++◌, map, if◌then◌else◌}
+use Rattle.std.specs.Prelude.{take, drop, false, Option, Some, None, Result, Ok, Err}
 use Rattle.std.specs.List.{Contains}
 use Rattle.h2_spec_log.specs.declared.role.Role.TheVariants.{Client}
 use Rattle.h2_spec_log.specs.Acts.{Values, AreInRange, Answer, IsTypedAct, PutOut, Release}
@@ -81,7 +81,7 @@ pub data IsFetchingSeveral (values : Values) : (wide : ℕ) → List AskedOn →
 
 -- the octets that were read and not used yet
 abbrev pub several_unused : ClientConnection → List ℕ
-several_unused fetch = drop fetch.used fetch.input.items
+several_unused fetch = drop fetch.used (take fetch.filled fetch.buffer.items)
 
 -- what has come on a stream: a part of a response as it was handed out, or that the stream was
 -- dropped with this code: it was reset, or its request was not processed

@@ -11,7 +11,7 @@ use Rattle.h2_engines.specs.Linked.{Traffic, IsLinked, IsOutOfRounds}
 use Rattle.h2_engines.specs.ServerSteps.{error_with}
 use Rattle.h2_fetch.specs.declared.connection.Came.{Came}
 use Rattle.h2_fetch.specs.declared.connection.ClientConnection.{ClientConnection}
-use Rattle.h2_fetch.specs.declared.sending.Credit.TheVariants.{On}
+use Rattle.h2_engines.specs.declared.sending.Credit.TheVariants.{On}
 use Rattle.h2_fetch.specs.Credits.{credit_before}
 use Rattle.h2_fetch.specs.Sends.{HasReturned}
 use Rattle.h2_fetch.specs.Several.{AnsweredOn, AreComing, AskedOn, CameSo, HaveStopped, all_on}
@@ -79,7 +79,7 @@ FillsSeveral before now old new id result =
     (answered : AnsweredOn) → AreComing values wide start before asked old end answered
     → several_unused old ≡ []
     → (after : EndLog)
-    × HasReturned (credit_before end.log id (length old.input.items) (On id)) end after
+    × HasReturned (credit_before end.log id old.filled (On id)) end after
     × FilledSo values wide start now asked new end after answered result
 
 -- The next of a stream is asked for of which nothing is kept.

@@ -7,9 +7,9 @@ ghost use Rattle.h2_fetch.specs.SeveralTakes.{HandsCame, TakesCameOnce, stream_o
 ghost use Rattle.h2_fetch.specs.SeveralTakes.{says_nothing, without_empty};
 
 use crate::connection::Came;
-use crate::errors::unless_failed;
 use crate::part::{ResponsePart, part_of};
 use h2_ends::{Client, Code, EndEvent, FieldList};
+use h2_engines::unless_failed;
 use h2_link::LinkError;
 use std::alloc::{AllocError, Global};
 

@@ -14,8 +14,9 @@ use crate::errors::unless_over;
 use crate::kept::{Queue, keep, take_kept};
 use crate::part::ResponsePart;
 use crate::reading::{credit_before, read_piece};
-use crate::sending::{Credit, end_early};
+use crate::sending::end_early;
 use h2_ends::{Client, Code, Config, Conn, EndRefusal, Message, Refusal};
+use h2_engines::Credit;
 use h2_link::{Link, LinkError};
 use h2_numbers::NumberMap;
 use std::alloc::Global;
@@ -36,9 +37,10 @@ pub enum Came {
 /// What comes on other streams meanwhile is kept until it is asked for. What is kept of a body is
 /// at most the stream's window, since credit is returned only on the stream that is asked for.
 /// Interim responses and empty parts of a body that don't end it are dropped, since no window
-/// bounds them. Once the last part of a response was returned, or [`Came::Dropped`], nothing is kept
-/// of its request. Ask for each response to its end, or give it up
+/// bounds them. Once the last part of a response was returned, or [`Came::Dropped`], nothing is
+/// kept of its request. Ask for each response to its end, or give it up
 /// ([`ClientConnection::give_up`]): what is kept of it takes memory and the connection's window.
+/// From its first read on a client also keeps a buffer of 131,072 octets.
 ///
 /// The connection's window is 65,535 octets plus what [`ClientConnection::widen`] adds, and bodies
 /// that are kept use it up. So with `n` requests at a time give [`Config::new`] an initial window
@@ -50,11 +52,14 @@ pub struct ClientConnection {
     pub(crate) client: Client,
     /// What came on each stream and was not asked for yet, in order.
     pub(crate) kept: NumberMap<Queue>,
-    /// The octets that were read last.
-    pub(crate) input: Vec<u8>,
+    /// The buffer for reads; none before the first one.
+    pub(crate) buffer: Vec<u8>,
+    /// How many octets of it were read last.
+    pub(crate) filled: usize,
     /// How many of them were used.
     pub(crate) used: usize,
-    pub(crate) ghost within: { used ≤ length input.items },
+    pub(crate) ghost within: { used ≤ filled },
+    pub(crate) ghost fits: { filled ≤ length buffer.items },
 }
 
 impl ClientConnection {
@@ -81,7 +86,8 @@ impl ClientConnection {
             alloc,
             client,
             kept: NumberMap::new(alloc),
-            input: Vec::new(alloc),
+            buffer: Vec::new(alloc),
+            filled: 0,
             used: 0,
         })
     }
@@ -97,10 +103,10 @@ impl ClientConnection {
     ///
     /// # Errors
     ///
-    /// Those of [`Client::request`]: the message is handed back, and the other requests go on. After
-    /// [`Refusal::TooManyStreams`] (C4) and [`Refusal::OutputFull`] (C7) ask for parts of responses,
-    /// and try again; after [`Refusal::StreamsExhausted`] (C5) and [`Refusal::GoingAway`] (C6, one
-    /// end has sent GOAWAY) make a new connection.
+    /// Those of [`Client::request`]: the message is handed back, and the other requests go on.
+    /// After [`Refusal::TooManyStreams`] (C4) and [`Refusal::OutputFull`] (C7) ask for parts of
+    /// responses, and try again; after [`Refusal::StreamsExhausted`] (C5) and
+    /// [`Refusal::GoingAway`] (C6, one end has sent GOAWAY) make a new connection.
     pub fn request(&mut self, message: Message) -> Result<u32, (Message, EndRefusal)>
         ensures requests { MakesRequest (message_value message) result self.old self.new }
         ensures back { HandsBack (message_value message) result }
@@ -160,7 +166,7 @@ impl ClientConnection {
     // rule: engines (own) Responses of several requests are what is handed out, each in order
     /// Returns what came next on the stream of a request. Until something has come on it, returns
     /// the credit that is owed on that stream, sends what can go of all requests, writes what
-    /// waits, and reads the link. After a read that returned 16,384 octets, it returns credit only
+    /// waits, and reads the link. After a read that returned 131,072 octets, it returns credit only
     /// if that is due, as [`crate::PartFetch`] says.
     ///
     /// Don't call it for a stream after the part that ends its response, or after
@@ -216,7 +222,7 @@ impl ClientConnection {
         ensures goes { IfErr result (λ error. error ≢ LinkError.CutOff) }
     {
         for _ in 0..u64::MAX {
-            let piece = &self.input[self.used..];
+            let piece = &self.buffer[self.used..self.filled];
             let taken = take_came(self.alloc, &mut self.client, piece)?;
             self.used += taken.used;
             match without_empty(taken.next) {
@@ -244,9 +250,11 @@ impl ClientConnection {
         ensures failures { L.faults link.new ≡ failures_at_end (L.faults link.old) result }
         ensures kept { self.new.kept ≡ self.old.kept }
     {
-        let last = self.input.len();
+        let last = self.filled;
         let credit = credit_before(self.client.conn(), id, last, Credit::On(id));
         self.used = 0;
-        read_piece(&mut self.client, credit, &mut self.input, link)
+        self.filled = 0; // nothing is left of it if the read fails
+        self.filled = read_piece(&mut self.client, credit, &mut self.buffer, link)?;
+        Ok(())
     }
 }

@@ -11,32 +11,35 @@ ghost use Rattle.h2_engines.specs.Fetches.{IsNotAccepted};
 ghost use Rattle.h2_engines.specs.Linked.{traffic};
 ghost use Rattle.h2_fetch.specs.Takes.{TakesPartOnce, part_in};
 
-use crate::errors::{error_of_refusal, unless_failed};
 use crate::part::{ResponsePart, part_of};
 use crate::reading::{credit_before, read_piece};
-use crate::sending::{Credit, end_early};
+use crate::sending::end_early;
 use h2_ends::{Client, Code, Config, Conn, EndEvent, EndRefusal, Message, Refusal};
+use h2_engines::{Credit, error_of_refusal, unless_failed};
 use h2_link::{Link, LinkError};
 use std::alloc::Global;
 
-/// A client that makes one request over a link and returns its response part by part. It keeps one
-/// piece of the input, at most 16,384 octets, and returns credit to the server just before it
-/// reads the next piece: all that is owed, unless the last read returned 16,384 octets. After such
-/// a read it returns credit only if that is due by one of the two windows, the stream's or the
-/// connection's. It is due by a window if the octets that are owed on the stream are at least as
-/// many as the server may still send within that window, or if these two numbers add up to less
-/// than 65,535.
+/// A client that makes one request over a link and returns its response part by part. From its
+/// first read on it keeps a buffer of 131,072 octets for a piece of the input. It returns credit
+/// to the server just before it reads the next piece: all that is owed, unless the last read
+/// returned 131,072 octets. After such a read it returns credit only if that is due by one of the
+/// two windows, the stream's or the connection's. It is due by a window if the octets that are
+/// owed on the stream are at least as many as the server may still send within that window, or if
+/// these two numbers add up to less than 65,535.
 #[derive(Drop)]
 pub struct PartFetch {
     pub(crate) alloc: Global,
     pub(crate) client: Client,
     /// The stream of the request.
     pub(crate) id: u32,
-    /// The octets that were read last.
-    pub(crate) input: Vec<u8>,
+    /// The buffer for reads; none before the first one.
+    pub(crate) buffer: Vec<u8>,
+    /// How many octets of it were read last.
+    pub(crate) filled: usize,
     /// How many of them were used.
     pub(crate) used: usize,
-    pub(crate) ghost within: { used ≤ length input.items },
+    pub(crate) ghost within: { used ≤ filled },
+    pub(crate) ghost fits: { filled ≤ length buffer.items },
 }
 
 /// The result of handing a piece to a client.
@@ -87,7 +90,8 @@ impl PartFetch {
                 alloc,
                 client,
                 id,
-                input: Vec::new(alloc),
+                buffer: Vec::new(alloc),
+                filled: 0,
                 used: 0,
             }),
             Err((_, EndRefusal::BadMessage(_))) => Err(LinkError::Refused),
@@ -165,7 +169,7 @@ impl PartFetch {
         ensures goes { IfErr result (λ error. error ≢ LinkError.CutOff) }
     {
         for _ in 0..u64::MAX {
-            let piece = &self.input[self.used..];
+            let piece = &self.buffer[self.used..self.filled];
             let taken = take_part(self.alloc, &mut self.client, self.id, piece)?;
             self.used += taken.used;
             match taken.next {
@@ -188,10 +192,12 @@ impl PartFetch {
         ensures failures { L.faults link.new ≡ failures_at_end (L.faults link.old) result }
         ensures stream { self.new.id ≡ self.old.id }
     {
-        let last = self.input.len();
+        let last = self.filled;
         let credit = credit_before(self.client.conn(), self.id, last, Credit::All);
         self.used = 0;
-        read_piece(&mut self.client, credit, &mut self.input, link)
+        self.filled = 0; // nothing is left of it if the read fails
+        self.filled = read_piece(&mut self.client, credit, &mut self.buffer, link)?;
+        Ok(())
     }
 
     /// Ends a fetch with this error. Where the connection has failed, writes what waits first.

@@ -1,6 +1,6 @@
 //! What a client reads from a link.
 
-ghost use Rattle.std.specs.Prelude.{◌≡◌, ◌<◌, ◌-◌, ◌^◌};
+ghost use Rattle.std.specs.Prelude.{◌≡◌, ◌≤◌, ◌<◌, ◌-◌, ◌^◌, [], IfOk, length};
 ghost use Rattle.h2_engines.specs.Failures.{CutsOffAtEnd, failures_at_end};
 ghost use Rattle.h2_engines.specs.Linked.{traffic};
 ghost use Rattle.h2_fetch.specs.Credits.{credit_before, is_due_in};
@@ -9,13 +9,15 @@ ghost use Rattle.h2_spec_log.specs.Acts.{Values};
 ghost use Rattle.h2_spec_log.specs.Log.{Log};
 ghost use Rattle.h2_conn.specs.Conn.{ConnRepresents};
 
-use crate::sending::{Credit, send_all};
+use crate::sending::send_all;
 use h2_ends::{Client, Conn};
+use h2_engines::Credit;
 use h2_flow::is_credit_due;
 use h2_link::{Link, LinkError};
+use std::alloc::AllocError;
 
-/// The length of a read in octets, at most.
-const PIECE: usize = 16_384;
+/// The length of a read in octets, at most: eight payloads of the default greatest length.
+const PIECE: usize = 131_072;
 
 // rule: 6.9 (own) Credit is returned by half of a window
 /// The credit that is returned before a read: `credit`; or none, if the last read filled its
@@ -42,29 +44,41 @@ fn is_due_in(left: Option<i64>, owed: i64) -> bool
     }
 }
 
-/// Returns this credit, sends what can go, and reads a piece in place of the one before, which
-/// was used completely.
+/// Returns this credit, sends what can go, and reads a piece into a buffer, in place of the one
+/// before, which was used completely. Returns how many octets it has, at least one.
 pub(crate) fn read_piece<L: Link>(
     client: &mut Client,
     credit: Credit,
-    input: &mut Vec<u8>,
+    buffer: &mut Vec<u8>,
     link: &mut L,
-) -> Result<(), LinkError>
+) -> Result<usize, LinkError>
     requires { L.faults link.old < 2 ^ 64 - 1 }
     ensures reads { ReadsOver credit
         (traffic (L.given link.old) (L.taken link.old) (L.stalled link.old))
         (traffic (L.given link.new) (L.taken link.new) (L.stalled link.new))
-        client.old.end client.new.end input.new.items result }
+        client.old.end client.new.end buffer.new.items result }
+    ensures some { IfOk result (λ count. 0 < count) }
+    ensures within { IfOk result (λ count. count ≤ length buffer.new.items) }
     ensures cut_off { CutsOffAtEnd result (L.ended link.new) }
     ensures failures { L.faults link.new ≡ failures_at_end (L.faults link.old) result }
 {
     send_all(client, credit, link)?;
-    input.clear();
-    input.resize(PIECE, 0)?;
-    let count = link.read(input)?;
-    input.truncate(count);
+    make_buffer(buffer)?;
+    let count = link.read(buffer)?;
     if count == 0 {
         return Err(LinkError::CutOff);
+    }
+    Ok(count)
+}
+
+/// Makes the buffer, unless an earlier read did.
+fn make_buffer(buffer: &mut Vec<u8>) -> Result<(), AllocError>
+    ensures some { IfOk result (λ done. 0 < length buffer.new.items) }
+    ensures made { IfOk result (λ done. buffer.old.items ≡ []
+        → length buffer.new.items ≡ 131072) }
+{
+    if buffer.is_empty() {
+        buffer.resize(PIECE, 0)?;
     }
     Ok(())
 }

@@ -34,11 +34,11 @@ generations_differ :
 unfolding first second third
 generations_differ = (refl, refl, refl, refl, refl, refl)
 
--- A turn takes 16,384 octets, and no more; and once.
+-- A turn takes 32,786 octets, and no more; and once.
 takes_once :
-    (turn_left (turn_of (Some first)) first owns.Came 16384
+    (turn_left (turn_of (Some first)) first owns.Came 32786
     ≡ Some (record { token = Some first; came = true; asked = false; gave = 0 }))
-    × (turn_left (turn_of (Some first)) first owns.Came 16385 ≡ None)
+    × (turn_left (turn_of (Some first)) first owns.Came 32787 ≡ None)
     × (turn_left (record { token = Some first; came = true; asked = false; gave = 0 }) first
     owns.Came 1 ≡ None)
 unfolding first

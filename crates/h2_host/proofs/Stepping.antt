@@ -34,7 +34,7 @@ same_token turn next is = let same : turn ≡ next = cc in ap (λ (t : Turn). t.
 pub turn_kept : (turn next : Turn) (token : Token) (own : Own) (octets : ℕ)
     → turn_left turn token own octets ≡ Some next → next.token ≡ turn.token
 turn_kept turn next token owns.Came octets is =
-    let may = not_stopped (turn.came || nat_lt 16384 octets) (record turn { came = true }) next
+    let may = not_stopped (turn.came || nat_lt 32786 octets) (record turn { came = true }) next
     (let_through (has_turn turn.token token) _ next is) in
     ap (λ (t : Turn). t.token) (sym may.same)
 turn_kept turn next token owns.Turn octets is =

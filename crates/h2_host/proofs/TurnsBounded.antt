@@ -23,7 +23,7 @@ use Rattle.h2_host.specs.Turns.{has_turn, most_given, most_taken, turn_left}
 -- how many octets a turn still lets a connection take
 pub left_to_take : (came : Bool) → ℕ
 left_to_take true = 0
-left_to_take false = 16384
+left_to_take false = 32786
 
 -- what a step of one connection takes and gives
 takes_of : Own → (octets : ℕ) → ℕ
@@ -64,11 +64,11 @@ not_stopped true value it is = absurd (let no = is in cc)
 not_stopped false value it is = record { stops = refl; same = cc }
 
 -- Octets that have come, once and not too many.
-came_once : (came : Bool) (octets : ℕ) → (came || nat_lt 16384 octets) ≡ false
+came_once : (came : Bool) (octets : ℕ) → (came || nat_lt 32786 octets) ≡ false
     → octets ≤ left_to_take came
 unfolding left_to_take
 came_once true octets is = absurd (let no = is in cc)
-came_once false octets is = let fits = ltb-false 16384 octets is in omega (arith, fits)
+came_once false octets is = let fits = ltb-false 32786 octets is in omega (arith, fits)
 
 -- Where octets have come a turn lets no more be taken.
 none_left : left_to_take true ≡ 0
@@ -88,7 +88,7 @@ counted_less : (turn next : Turn) (token : Token) (own : Own) (octets : ℕ)
     → LeavesLess turn next (takes_of own octets) (gives_of own)
 unfolding takes_of gives_of
 counted_less turn next token owns.Came octets is =
-    let may = not_stopped (turn.came || nat_lt 16384 octets) (record turn { came = true }) next
+    let may = not_stopped (turn.came || nat_lt 32786 octets) (record turn { came = true }) next
     (let_through (has_turn turn.token token) _ next is) in
     let fits = came_once turn.came octets may.stops in
     let came = ap left_to_take (ap (λ (t : Turn). t.came) may.same) in
@@ -268,7 +268,7 @@ module _ {P : Type 0} (steps : P → Own → List ℕ → Answer → P → Type 
       let c = others.0 in
       let d = others.1 in (omega (arith, a, c), omega (arith, b, d))
 
-  most_left : (came : Bool) → left_to_take came ≤ 16384
+  most_left : (came : Bool) → left_to_take came ≤ 32786
   unfolding left_to_take
   most_left true = omega arith
   most_left false = omega arith

@@ -1,11 +1,11 @@
 -- What a host answers of the connection whose turn it is, and of all.
 use Rattle.std.specs.Prelude.{◌≡◌, ◌≤◌, ◌<◌, ◌+◌, ◌-◌, ◌++◌, ℕ, List, [], length}
-use Rattle.std.specs.Prelude.{Bool, true, false}
+use Rattle.std.specs.Prelude.{true, false}
 use Rattle.std.specs.Io.{StartsWith}
 use Rattle.h2_host.specs.declared.state.HostState.{HostState}
 use Rattle.h2_host.specs.declared.token.Token.{Token}
 use Rattle.h2_host.specs.Tokens.{IsAt, IsNow}
-use Rattle.h2_host.specs.Turns.{has_turn, most_given}
+use Rattle.h2_host.specs.Turns.{has_turn, most_given, most_taken}
 
 -- Two slices are first octets of what waits, the first before the second; the first has octets
 -- where any wait.
@@ -28,13 +28,14 @@ pub record LendsInTurn {P : Type 0} (output_of : P → List ℕ) (host : HostSta
   pub not_now : (IsNow host.table.slots.items token → ⊥) → first ++ second ≡ []
   pub not_its_turn : has_turn host.turn.token token ≡ false → first ++ second ≡ []
 
--- Whether octets of the connection that has the token are taken: if it is its turn and none have
--- come in it, that is for the connection to say; else none are.
+-- How many octets of the connection that has the token are taken, at most: if it is its turn and
+-- none have come in it, that is for the connection to say; else none are.
 -- rule: hosts (own) Who has the turn takes octets once, if it takes any
-pub record TakesInTurn {P : Type 0} (takes : P → Bool → Type 0) (host : HostState P)
-    (token : Token) (wants : Bool) : Type 0 where
+pub record TakesInTurn {P : Type 0} (takes : P → ℕ → Type 0) (host : HostState P)
+    (token : Token) (size : ℕ) : Type 0 where
   pub own : (party : P) → IsAt host.table.slots.items token party
-      → has_turn host.turn.token token ≡ true → host.turn.came ≡ false → takes party wants
-  pub came : host.turn.came ≡ true → wants ≡ false
-  pub not_now : (IsNow host.table.slots.items token → ⊥) → wants ≡ false
-  pub not_its_turn : has_turn host.turn.token token ≡ false → wants ≡ false
+      → has_turn host.turn.token token ≡ true → host.turn.came ≡ false → takes party size
+  pub within : size ≤ most_taken
+  pub came : host.turn.came ≡ true → size ≡ 0
+  pub not_now : (IsNow host.table.slots.items token → ⊥) → size ≡ 0
+  pub not_its_turn : has_turn host.turn.token token ≡ false → size ≡ 0

@@ -9,9 +9,10 @@ use Rattle.h2_host.specs.declared.token.Token.{Token}
 use Rattle.h2_host.specs.declared.turn.Turn.{Turn}
 use Rattle.h2_host.specs.Tokens.{is_same_token, slot_at}
 
--- what one turn lets a connection take and give, in octets
+-- what one turn lets a connection take and give, in octets; two frames whose payloads have 16,384
+-- octets have as many as it takes
 abbrev pub most_taken : ℕ
-most_taken = 16384
+most_taken = 32786
 
 abbrev pub most_given : ℕ
 most_given = 65536
@@ -87,7 +88,7 @@ has_turn (Some one) token = is_same_token one token
 -- what is left of a turn after a step of the connection that has it; none if the turn does not
 -- allow it: octets come once, and no more than it lets; it acts once; and what goes in all is no
 -- more than it lets
--- rule: hosts (own) A turn takes 16,384 octets and gives 65,536 at most
+-- rule: hosts (own) A turn takes 32,786 octets and gives 65,536 at most
 abbrev pub counted_in : Turn → Own → (octets : ℕ) → Option Turn
 counted_in turn owns.Came octets =
     if turn.came || nat_lt most_taken octets then None else Some (record turn { came = true })

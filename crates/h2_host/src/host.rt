@@ -212,19 +212,21 @@ impl<P: Party> Host<P> {
         Ok(replies)
     }
 
-    /// Whether the connection has the turn, takes input, and has received none in this turn.
     // rule: hosts (own) Who has the turn takes octets once, if it takes any
     // contract: hosts (own) Who has the turn takes octets once, if it takes any
-    pub fn wants_input(&self, token: Token) -> bool
+    /// Returns how many octets to read now for a connection, at most: what
+    /// [`Party::read_size`] says, if the connection has the turn and has received none in it; 0
+    /// otherwise.
+    pub fn read_size(&self, token: Token) -> usize
         ensures { TakesInTurn P.takes self.now token result }
     {
         let turn = &self.state.turn;
         if !turn.is_of(token) || turn.came {
-            return false;
+            return 0;
         }
         match self.party(token) {
-            Some(party) => party.wants_input(),
-            None => false,
+            Some(party) => party.read_size(),
+            None => 0,
         }
     }
 

@@ -46,8 +46,8 @@ pub fn ready_ones_go_first<P: Party>()
         → GetsTurnBefore first other replies }
 {}
 
-// contract: hosts (own) A turn takes 16,384 octets and gives 65,536 at most
-/// In one turn at most 16,384 octets are taken and at most 65,536 given, in all steps together.
+// contract: hosts (own) A turn takes 32,786 octets and gives 65,536 at most
+/// In one turn at most 32,786 octets are taken and at most 65,536 given, in all steps together.
 pub fn turns_are_bounded<P: Party>()
     ensures taken { (old new : HostState P) (made : List (Made P)) (replies : List (Reply P))
         → IsRun P.steps P.held_of P.ready_of old new made replies → WithinOneTurn made

@@ -5,7 +5,7 @@
 //! is never given again, gives them turns in order, and refuses those that hold more than they may.
 //!
 //! The loop of a driver: wait for transports and time, and report both by [`Host::step`]; then, as
-//! long as [`Host::next_turn`] names a connection, read what it takes ([`Host::wants_input`]), give
+//! long as [`Host::next_turn`] names a connection, read what it takes ([`Host::read_size`]), give
 //! it its octets and its turn, and write its output ([`Host::output`]).
 #![tactic(auto)]
 

@@ -1,12 +1,13 @@
 //! The interface of a connection to its host.
 
-ghost use Rattle.std.specs.Prelude.{◌≡◌, ℕ, List, Bool, length};
+ghost use Rattle.std.specs.Prelude.{◌≡◌, ◌≤◌, ℕ, List, Bool, length};
 ghost use Rattle.h2_host.specs.declared.party.Own.{Own as OwnStep};
 ghost use Rattle.h2_host.specs.declared.party.Own.TheVariants as owns;
 ghost use Rattle.h2_host.specs.declared.party.Answer.{Answer as OwnAnswer};
 ghost use Rattle.h2_host.specs.declared.party.Answer.TheVariants as answers;
 ghost use Rattle.h2_host.specs.Parties.{IsGivenUp, IsRefusal};
 ghost use Rattle.h2_host.specs.Readers.{LendsFirst};
+ghost use Rattle.h2_host.specs.Turns.{most_taken};
 
 /// A step of one connection.
 #[derive(Clone, Copy, Debug, PartialEq, Eq)]
@@ -18,8 +19,8 @@ pub enum Own {
         /// Whether it can be written.
         writes: bool,
     },
-    /// Octets were received: once in a turn, at most [`MOST_TAKEN`](crate::MOST_TAKEN). If they
-    /// are fewer, the transport has no more now.
+    /// Octets were received: once in a turn, at most [`MOST_TAKEN`](crate::MOST_TAKEN). As many
+    /// are read as [`Party::read_size`] says, or fewer.
     Came,
     /// Nothing was received: the transport cannot be read now.
     NoneCame,
@@ -81,8 +82,8 @@ pub trait Party: Drop {
     /// Whether there is something to do in a turn.
     ghost ready_of: { Self → Bool };
 
-    /// Relates a state to the result of [`Party::wants_input`].
-    ghost takes: { Self → Bool → Type 0 };
+    /// Relates a state to the result of [`Party::read_size`].
+    ghost takes: { Self → ℕ → Type 0 };
 
     /// The queued octets of its output, in order.
     ghost output_of: { Self → List ℕ };
@@ -105,9 +106,10 @@ pub trait Party: Drop {
     fn is_ready(&self) -> bool
         ensures { result ≡ ready_of self.now };
 
-    /// Whether it takes input now.
-    fn wants_input(&self) -> bool
-        ensures { takes self.now result };
+    /// Returns how many octets to read now, at most; 0 if it takes no input.
+    fn read_size(&self) -> usize
+        ensures takes { takes self.now result }
+        ensures within { result ≤ most_taken };
 
     /// Returns the first two parts of its queued output, in order. If output is queued, the
     /// first part is not empty.

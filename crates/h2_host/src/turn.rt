@@ -7,8 +7,9 @@ ghost use Rattle.h2_host.specs.Turns.{turn_of};
 use crate::party::Own;
 use crate::token::Token;
 
-/// The maximum number of octets taken in a turn.
-pub const MOST_TAKEN: usize = 16_384;
+/// The maximum number of octets taken in a turn: those of two frames with payloads of 16,384
+/// octets, the greatest length that every end accepts (RFC 9113, section 4.2), and their heads.
+pub const MOST_TAKEN: usize = 32_786;
 
 /// The maximum number of octets given in a turn.
 pub const MOST_GIVEN: usize = 65_536;
@@ -66,7 +67,7 @@ impl Turn {
         }
     }
 
-    // rule: hosts (own) A turn takes 16,384 octets and gives 65,536 at most
+    // rule: hosts (own) A turn takes 32,786 octets and gives 65,536 at most
     /// The turn after a step of the connection that has it.
     fn counted(self, own: Own, octets: usize) -> Option<Turn>
         ensures { result ≡ counted_in self own octets }

@@ -158,7 +158,7 @@ impl<'a, P: Party + Leaves + Widens> Party for Guest<'a, P> {
 
     ghost ready_of = { λ guest. P.ready_of guest.party.value };
 
-    ghost takes = { λ guest wants. P.takes guest.party.value wants };
+    ghost takes = { λ guest size. P.takes guest.party.value size };
 
     ghost output_of = { λ guest. P.output_of guest.party.value };
 
@@ -183,8 +183,8 @@ impl<'a, P: Party + Leaves + Widens> Party for Guest<'a, P> {
         self.party.is_ready()
     }
 
-    fn wants_input(&self) -> bool {
-        self.party.wants_input()
+    fn read_size(&self) -> usize {
+        self.party.read_size()
     }
 
     fn output(&self) -> (&[u8], &[u8]) {

@@ -1,6 +1,6 @@
 -- Octets that come to a connection in its turn, and go: the host refuses neither.
-use Rattle.std.specs.Prelude.{◌≡◌, ◌≤◌, ◌+◌, ◌++◌, ℕ, List, [], Option, length, take}
-use Rattle.std.specs.Prelude.{Bool, true, false, nat_lt, None, Some}
+use Rattle.std.specs.Prelude.{◌≡◌, ◌≤◌, ◌<◌, ◌+◌, ◌++◌, ℕ, List, [], Option, length, take}
+use Rattle.std.specs.Prelude.{true, false, nat_lt, None, Some}
 use Rattle.std.proofs.Common.{arith, refl, subst, sym, ap, ◌∙◌, inl, inr, append-nil}
 use Rattle.std.proofs.Common.{length-append}
 use Rattle.std.proofs.Transfers.{starts_with_trans}
@@ -18,15 +18,15 @@ use Rattle.h2_host.specs.declared.token.Token.{Token}
 use Rattle.h2_host.specs.declared.turn.Turn.{Turn}
 use Rattle.h2_host.specs.Readers.{LendsInTurn, TakesInTurn}
 use Rattle.h2_host.specs.Steps.{AnswersOwn}
-use Rattle.h2_host.specs.Turns.{has_turn, turn_left}
+use Rattle.h2_host.specs.Turns.{has_turn, most_taken, turn_left}
 use Rattle.h2_mio.specs.DriverRuns.{MakesOwnSteps, MakesTurn, IsFirstOfOutput}
 use Rattle.h2_mio.specs.DriverRuns.{no_own_step, octets_came, octets_went}
 
 -- Who has the turn, in which none have come, may be handed octets;
 may_come : (turn : Turn) (token : Token) (count : ℕ) → has_turn turn.token token ≡ true
-    → turn.came ≡ false → count ≤ 16384 → turn_left turn token owns.Came count ≡ None → ⊥
+    → turn.came ≡ false → count ≤ most_taken → turn_left turn token owns.Came count ≡ None → ⊥
 may_come turn token count its came fits none =
-    let below : nat_lt 16384 count ≡ false = grind (arith, nat_tests) in
+    let below : nat_lt 32786 count ≡ false = grind (arith, nat_tests) in
     let some : turn_left turn token owns.Came count ≡ Some (record turn { came = true }) =
     rw (its, came, below) refl in absurd (let no = sym some ∙ none in cc)
 
@@ -42,28 +42,32 @@ may_go turn token count its fits none =
 module _ {P : Type 0} (steps : P → Own → List ℕ → Answer → P → Type 0) (held_of : P → ℕ)
     (output_of : P → List ℕ) (token : Token) where
   -- Who takes octets has the turn, in which none have come: so they are not refused.
-  came_is_own : (takes : P → Bool → Type 0) (old new : HostState P) (octets : List ℕ)
-      (wants : Bool) (reply : Reply P) → TakesInTurn takes old token wants → wants ≡ true
-      → length octets ≤ 16384 → AnswersOwn steps held_of old new token owns.Came octets reply
+  came_is_own : (takes : P → ℕ → Type 0) (old new : HostState P) (octets : List ℕ) (size : ℕ)
+      (reply : Reply P) → TakesInTurn takes old token size → 0 < size
+      → length octets ≤ size → AnswersOwn steps held_of old new token owns.Came octets reply
       → (answer : Answer)
       × AnswersOwn steps held_of old new token owns.Came octets (replies.Own answer)
-  came_is_own takes old new octets wants (replies.Own answer) in_turn is fits so = (answer, so)
-  came_is_own takes old new octets wants replies.Stale in_turn is fits so =
-      absurd (let no = sym is ∙ in_turn.not_now so.0 in cc)
-  came_is_own takes old new octets wants replies.NotNow in_turn is fits so =
+  came_is_own takes old new octets size (replies.Own answer) in_turn some fits so = (answer, so)
+  came_is_own takes old new octets size replies.Stale in_turn some fits so =
+      let none = in_turn.not_now so.0 in absurd (omega (arith, some, none))
+  came_is_own takes old new octets size replies.NotNow in_turn some fits so =
       elim (cases_Bool (has_turn old.turn.token token)) [
         | inl its ↦
             elim (cases_Bool old.turn.came) [
-              | inl came ↦ absurd (let no = sym is ∙ in_turn.came came in cc)
-              | inr none ↦ absurd (may_come old.turn token (length octets) its none fits so.1)
+              | inl came ↦ let none = in_turn.came came in absurd (omega (arith, some, none))
+              | inr none ↦
+                  let within = in_turn.within in
+                  absurd (may_come old.turn token (length octets) its none
+                  (omega (arith, fits, within)) so.1)
             ]
-        | inr other ↦ absurd (let no = sym is ∙ in_turn.not_its_turn other in cc)
+        | inr other ↦
+            let none = in_turn.not_its_turn other in absurd (omega (arith, some, none))
       ]
-  came_is_own takes old new octets wants (replies.Opened other) in_turn is fits so = absurd so
-  came_is_own takes old new octets wants (replies.Full back) in_turn is fits so = absurd so
-  came_is_own takes old new octets wants replies.Passed in_turn is fits so = absurd so
-  came_is_own takes old new octets wants replies.Closed in_turn is fits so = absurd so
-  came_is_own takes old new octets wants (replies.Turn next) in_turn is fits so = absurd so
+  came_is_own takes old new octets size (replies.Opened other) in_turn some fits so = absurd so
+  came_is_own takes old new octets size (replies.Full back) in_turn some fits so = absurd so
+  came_is_own takes old new octets size replies.Passed in_turn some fits so = absurd so
+  came_is_own takes old new octets size replies.Closed in_turn some fits so = absurd so
+  came_is_own takes old new octets size (replies.Turn next) in_turn some fits so = absurd so
 
   -- Whose output is lent has the turn, and so much is left of it: so that it went is not refused.
   went_is_own : (old new : HostState P) (first second : List ℕ) (count : ℕ) (reply : Reply P)
@@ -93,15 +97,15 @@ module _ {P : Type 0} (steps : P → Own → List ℕ → Answer → P → Type 
   went_is_own old new first second count (replies.Turn next) lends some fits so = absurd so
 
   -- Octets that the transport has given come to who takes some.
-  pub came_turn : (takes : P → Bool → Type 0) (given_old given_new taken_old taken_new
-      : Option (List ℕ)) (old new : HostState P) (octets : List ℕ) (wants : Bool)
-      (reply : Reply P) → TakesInTurn takes old token wants → wants ≡ true
-      → length octets ≤ 16384 → AnswersOwn steps held_of old new token owns.Came octets reply
+  pub came_turn : (takes : P → ℕ → Type 0) (given_old given_new taken_old taken_new
+      : Option (List ℕ)) (old new : HostState P) (octets : List ℕ) (size : ℕ)
+      (reply : Reply P) → TakesInTurn takes old token size → 0 < size
+      → length octets ≤ size → AnswersOwn steps held_of old new token owns.Came octets reply
       → Appends given_old given_new octets → Appends taken_old taken_new []
       → MakesTurn steps held_of output_of token given_old given_new taken_old taken_new new old
-  came_turn takes given_old given_new taken_old taken_new old new octets wants reply in_turn is
+  came_turn takes given_old given_new taken_old taken_new old new octets size reply in_turn some
       fits so gave took =
-      let own = came_is_own takes old new octets wants reply in_turn is fits so in
+      let own = came_is_own takes old new octets size reply in_turn some fits so in
       record {
         came = octets;
         went = [];

@@ -7,7 +7,7 @@ ghost use Rattle.h2_mio.specs.DriverRuns.{MakesTurn};
 use crate::moved::{Moved, read_once, write_once};
 use crate::sockets::Socket;
 use crate::transport::Transport;
-use h2_host::{Answer, Host, MOST_TAKEN, Own, Party, Reply, Step, Token};
+use h2_host::{Answer, Host, Own, Party, Reply, Step, Token};
 
 /// The maximum number of writes in a turn, enough for parts of 4,096 octets or more.
 const MOST_WRITES: usize = 16;
@@ -46,8 +46,8 @@ pub(crate) fn give_turn<P: Party, S: Transport>(
     write_output(host, token, &mut socket.stream)
 }
 
-/// Reads once, if the connection takes input. A short read tells the connection that the socket
-/// has no more, unless the peer has ended its side: then the socket stays readable.
+/// Reads once, if the connection takes input. A read of few octets tells the connection that the
+/// socket has no more, unless the peer has ended its side: then the socket stays readable.
 fn take_input<P: Party, S: Transport>(
     host: &mut Host<P>,
     token: Token,
@@ -59,11 +59,11 @@ fn take_input<P: Party, S: Transport>(
         (S.taken socket.new.stream) host.new host.old }
     ensures input { length input.new ≡ length input.old }
 {
-    if !host.wants_input(token) {
+    let size = input.len().min(host.read_size(token));
+    if size == 0 {
         return Fate::Goes;
     }
-    let most = input.len().min(MOST_TAKEN);
-    let room = &mut input[..most];
+    let room = &mut input[..size];
     match read_once(&mut socket.stream, room) {
         Moved::Octets(count) => {
             let step = Step::Own {

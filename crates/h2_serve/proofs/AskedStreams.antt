@@ -8,7 +8,7 @@ use Names.{both_ways, eq-eqb, eqb-true, list_any, or_left, Server, Values, Event
 use Names.{active, MayTake, Took, Failed, TakeAnswer, log_after_take, log_view, grows_call, End}
 use Names.{EndLog, EndRepresents, next_unprocessed, is_server, opened, with_sent, used, Token}
 use Names.{OctetToken, EndToken, Said, SentMessage, said_tokens, said_for, tokens_given}
-use Names.{tokens_out, parts_on, Role}
+use Names.{tokens_out, Role}
 use Rattle.std.proofs.Common.{map as each}
 use Rattle.std.proofs.lemmas.List.{append_cancel_right}
 use Rattle.h2_block.specs.Grouping.{block}
@@ -38,7 +38,7 @@ use Rattle.h2_laws_pair.proofs.HeardCalls.{step_calls}
 use Rattle.h2_laws_pair.proofs.HeardMessages.{is_end, unended}
 use Rattle.h2_laws_pair.proofs.NamedUnprocessed.{log_named}
 use Rattle.h2_ends.specs.Ends.{tokens_handed}
-use Rattle.h2_ends.specs.Represents.{IsSent, SendsInOrder, HandsInOrder}
+use Rattle.h2_ends.specs.Represents.{IsSent, HandsInOrder}
 use Rattle.h2_engines.proofs.SpokenStreams.{IsSpoken, goes_on, has_ended, was_reset, was_asked}
 use Rattle.h2_engines.proofs.SpokenStreams.{was_named, read_keeps, frame_adds, frame_read}
 use Rattle.h2_engines.proofs.SpokenStreams.{call_keeps, is_down}

@@ -1,11 +1,11 @@
 -- What has happened at a server with its handler since its connection began: turns pass, it stays
 -- a server, and of each stream of which a part was handed out something was heard.
 use Rattle.h2_engines.proofs.Names
-use Names.{◌≡◌, ◌≢◌, ◌≤◌, ℕ, Bool, List, [], ◌∷◌, ◌++◌, length, Some, None, inl, inr, ap, ◌∙◌}
+use Names.{◌≡◌, ◌≢◌, ◌≤◌, ℕ, Bool, List, [], ◌∷◌, ◌++◌, length, Some, None, inl, inr, ◌∙◌}
 use Names.{arith, append-nil, refl, sym, subst, Event, Passed}
-use Names.{Act, Answer, Server, Log, EndLog, EndAnswer, EndTook, EndFailed}
-use Names.{EndMayTake, Handed, Part, FieldsPart, OctetsPart, IsReadable, Reads, parts_on, Values}
-use Names.{part_on, phase_after_all, phase_after, after_none, new_end_log, opened, with_sent}
+use Names.{Server, Log, EndLog, EndAnswer, EndTook, EndFailed}
+use Names.{Handed, Part, FieldsPart, OctetsPart, IsReadable, Reads, parts_on, Values}
+use Names.{part_on, phase_after_all, phase_after, new_end_log, opened, with_sent}
 use Names.{TakeAnswer, handed_as, reads_on, Token}
 use Rattle.std.proofs.lemmas.Bool.{cases_eq}
 use Rattle.h2_message.specs.declared.reading.Phase.TheVariants.{AtHead}
@@ -13,7 +13,7 @@ use Rattle.h2_message.proofs.PhaseWhole.{not_readable}
 use Rattle.h2_ends.specs.Ends.{tokens_of_parts, tokens_of_part}
 use Rattle.h2_ends.proofs.EndParts.{handed_elsewhere, readable_here, tokens_with}
 use Rattle.h2_engines.proofs.TakeMessages.{HandsAsRead, handed_after, hands_event, hands_part}
-use Rattle.h2_engines.proofs.TakeMessages.{role_by_call, taken_role, taken_says, HandsSo, SaysOf}
+use Rattle.h2_engines.proofs.TakeMessages.{role_by_call, taken_role, taken_says, SaysOf}
 use Rattle.h2_engines.proofs.TurnsPassed.{turns_of_answer, turns_of_call}
 use Rattle.h2_server.specs.Exchanges.{Handling, Relations}
 use Rattle.h2_server.specs.Steps.{Steps}

@@ -1,10 +1,12 @@
 -- How a connection is served at its beginning and at its end.
 use Rattle.h2_engines.proofs.Names
-use Names.{◌≡◌, ◌<◌, ◌≤◌, ◌≢◌, ℕ, [], List, Ok, Err, Option, None, Result, refl, sym, ◌∙◌, inl}
+use Names.{◌≡◌, ◌<◌, ◌≤◌, ◌≢◌, ℕ, [], List, Ok, Err, Option, Some, None, Result, refl, sym, ◌∙◌, inl, inr}
 use Names.{Appends-nil, Bool, true, false, Server, EndLog, EndRepresents, LinkError, Traffic}
 use Names.{CutsOffAtEnd, EndsServing, IfErr, OnOk, failures_at_end, new_end_log, reader_held, ◌==◌}
 use Names.{reader_next_live, ConnRepresents, Log, ap, nat_lt, or_left, and_from, subst}
 use Rattle.std.proofs.Common.{is_some}
+use Rattle.std.specs.Option.{option_map}
+use Rattle.h2_spec_log.specs.Log.{reader_block_stream}
 use Rattle.std.specs.Prelude.{MatchBool}
 use Rattle.std.proofs.lemmas.Bool.{lt-ltb}
 use Rattle.h2_host.specs.declared.party.Own.TheVariants as owns
@@ -20,7 +22,9 @@ use Rattle.h2_server.specs.Connections.{Calls, input_kept}
 use Rattle.h2_server.specs.Exchanges.{IsEmptied, Relations, handling_of}
 use Rattle.h2_server.specs.Phases.{is_phase_down, is_phase_over}
 use Rattle.h2_server.specs.Steps.{none}
-use Rattle.h2_serve.specs.Endings.{CountsServed, IsErrorOf, IsOfDriving}
+use Rattle.h2_server.specs.Turns.{LosesSo}
+use Rattle.h2_serve.specs.Endings.{CountsServed, IsErrorOf, IsInputCut, IsInputWhole}
+use Rattle.h2_serve.specs.Endings.{IsOfDriving}
 use Rattle.h2_serve.specs.Serving.{Beginning, HasServed, HasWritten, IsLost, IsServing}
 use Rattle.h2_serve.specs.Serving.{StopsServingFor, handling_first, has_stopped, is_cut_off}
 use Rattle.h2_serve.specs.Serving.{is_served}
@@ -128,6 +132,28 @@ cut_off_so log held next true holds few lives is up =
 cut_off_so log held next false holds few lives is up =
     (finishes_at_rest (one_with log) 0 holds lives few (sym is)).1 up
 
+-- No block has begun where none is answered.
+block_none : {A : Type 0} (stream : A → ℕ) (begun : Option A)
+    → false ≡ is_some (option_map stream begun) → begun ≡ None
+block_none stream None is = refl
+block_none stream (Some one) is = absurd (cc)
+
+-- It has ended where it may not inside a field block too.
+pub block_so : (log : Log) (block : Option ℕ) (some : Bool) → block ≡ reader_block_stream log
+    → some ≡ is_some block → log.failed ≡ None → IsAtRest log
+    → MatchBool some (IsInputCut log) (IsInputWhole log)
+block_so log block true is some up rests =
+    inr (
+      up,
+      λ none. let at : reader_block_stream log ≡ None = rw (up, none) refl in
+          let wrong : true ≡ is_some block = some in absurd (cc),
+    )
+block_so log block false is some up rests =
+    record {
+      rests = rests;
+      no_block = block_none (λ begun. begun.stream) log.begun (rw up at (rw is at some));
+    }
+
 module _ {H W : Type 0} {rel : Relations H W} {begin : Beginning H} {now : Traffic}
     (connection lost : Connection H W) (is : HasWritten rel begin now connection)
     (ends : IsLost rel connection lost) where
@@ -154,15 +180,16 @@ module _ {H W : Type 0} {rel : Relations H W} {begin : Beginning H} {now : Traff
       let at_rest = rests begin.values after.log conn_is in
       let (role, heard) = steps_heard begin.values is.serving.has.steps in
       rw counted (is_served connection lost is ends at_rest
-      (answers_each is.serving.represents role at_rest.up at_rest.none_active heard))
+      (answers_each is.serving.represents role at_rest.rests.up at_rest.rests.none_active heard))
   has_served (Err errors.CutOff) cut =
       is_cut_off connection lost is ends (cut begin.values is.serving.after.log conn_is)
   has_served (Err error) so = served_stops error so
 
 -- It was lost, so each of its exchanges is over.
 pub is_lost : {H W : Type 0} {rel : Relations H W} (connection lost : Connection H W)
-    → Calls rel owns.Lost [] connection lost → is_phase_over lost.phase ≡ true
+    → Calls rel owns.Lost [] connection lost → LosesSo rel connection lost
+    → is_phase_over lost.phase ≡ true
     → (is_phase_down connection.phase ≡ true → IsEmptied (handling_of connection.exchanges))
     → IsLost rel connection lost
-is_lost connection lost calls over told =
-    record { calls = calls; told = calls.told told (over_down lost.phase over) }
+is_lost connection lost calls loses over told =
+    record { calls = calls; loses = loses; told = calls.told told (over_down lost.phase over) }

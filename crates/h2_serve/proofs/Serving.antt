@@ -6,6 +6,7 @@ use Names.{EndLog, EndRepresents, EndsWriting, Err, LinkError, StallsAtNoProgres
 use Names.{Code, ConnRepresents, Log, Some, Values, both_ways, error_with}
 use Rattle.h2_frame.specs.declared.code.Code.TheVariants.{InternalError}
 use Rattle.h2_conn.specs.Conn.{octets_queued}
+use Rattle.h2_engines.specs.Failures.{IsOfServer}
 use Rattle.h2_host.specs.declared.party.Own.{Own}
 use Rattle.h2_link.specs.declared.error.LinkError.TheVariants as errors
 use Rattle.h2_server.specs.declared.connection.Connection.{Connection}
@@ -14,7 +15,7 @@ use Rattle.h2_server.specs.Exchanges.{Handling, Relations, handling_of}
 use Rattle.h2_server.specs.Phases.{is_phase_down}
 use Rattle.h2_server.specs.Steps.{Steps}
 use Rattle.h2_server.proofs.StepsMade.{steps_losing, steps_may_lose, steps_then}
-use Rattle.h2_serve.specs.Endings.{IsClosedForMemory, IsErrorOf}
+use Rattle.h2_serve.specs.Endings.{IsClosedForMemory, IsErrorOf, IsOfDriving}
 use Rattle.h2_serve.specs.Serving.{Beginning, HasHandled, HasStoppedServing, HasWrittenLast}
 use Rattle.h2_serve.specs.Serving.{HasWritten, IsServing, StopsServingFor}
 use Rattle.h2_serve.proofs.CallsMade.{calls_make_none, over_down}
@@ -40,6 +41,14 @@ coded_error connection InternalError error is other failed =
     rw is (inr (λ values log there. inr (failed values log there)))
 coded_error connection code error is other failed =
     rw is (other, λ values log there. (code, failed values log there, refl))
+
+-- What ends a server by itself, and is not N4, ends it while it is driven.
+pub of_driving : (error : LinkError) → IsOfServer error → error ≢ errors.CutOff → IsOfDriving error
+of_driving errors.CutOff kind goes = absurd (goes refl)
+of_driving errors.Device kind goes = absurd kind
+of_driving (errors.Reset code) kind goes = absurd kind
+of_driving errors.Refused kind goes = absurd kind
+of_driving error kind goes = tt
 
 -- The error of one that has ended says why it can't be served on.
 pub error_so : {H W : Type 0} (values : Values) (now : Traffic) (connection : Connection H W)

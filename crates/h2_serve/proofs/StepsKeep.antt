@@ -2,7 +2,7 @@
 -- the steps of a server with its handler keep.
 use Rattle.h2_engines.proofs.Names
 use Names.{true, false}
-use Names.{◌≡◌, ℕ, Bool, List, [], Option, Some, None, Ok, Err, Result, inl, inr, Act, Answer}
+use Names.{ℕ, Bool, List, Option, Ok, Err, Result, inl, inr, Act, Answer}
 use Names.{SendData, SendFields, ResetStream, PutOut, Count, Done, Refused, Log, EndLog, Handed}
 use Names.{EndAnswer, EndMayTake, EndRefusal, MayReply, Malformed, Said, with_call, take}
 use Names.{MayAnswer, OutOfMemory, length}

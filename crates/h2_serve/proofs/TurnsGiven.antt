@@ -1,6 +1,6 @@
 -- What a turn makes of a connection that is served, and when it has nothing more to do.
 use Rattle.h2_engines.proofs.Names
-use Names.{◌≡◌, ◌≤◌, ◌<◌, ◌+◌, ℕ, Bool, true, false, List, [], ◌++◌, length, drop, refl, sym, ap}
+use Names.{◌≡◌, ◌≤◌, ◌<◌, ℕ, Bool, true, false, List, [], ◌++◌, length, drop, refl, sym, ap}
 use Names.{◌∙◌, inl, arith, subst, append-nil, both_ways, drop_all, Appends-nil, Count, EndLog, Log}
 use Names.{PutOut, Traffic, Values, ConnRepresents, MayAnswer, end_with_log, given_out, nat_lt}
 use Names.{waiting, output, with_call, drop-take, drop-append_seam, or_parts, eqb-true, ◌==◌, ◌&&◌}

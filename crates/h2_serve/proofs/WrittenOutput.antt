@@ -1,6 +1,6 @@
 -- What writing to a link what waits makes of how a connection is served.
 use Rattle.h2_engines.proofs.Names
-use Names.{◌≡◌, ◌+◌, ℕ, Bool, true, false, List, [], ◌++◌, length, take, drop, refl, sym, ap, ◌∙◌}
+use Names.{◌≡◌, ℕ, Bool, true, false, List, [], ◌++◌, length, take, drop, refl, sym, ap, ◌∙◌}
 use Names.{inl, inr, arith, subst, append-nil, append_assoc, take-append-drop, Appends}
 use Names.{Appends-trans, EndLog, LinkError, Traffic, log_view, returns_before_put_out, cases_Bool}
 use Names.{Err, EndsWriting, IfErr, Ok, Option, Result, StallsAtNoProgress, failures_at_end}

@@ -1,5 +1,5 @@
 -- How a connection that a handler serves over a link ends.
-use Rattle.std.specs.Prelude.{◌≡◌, ◌⊎◌, ℕ, Bool, Some, None, Result, Ok, Err, MatchBool}
+use Rattle.std.specs.Prelude.{◌≡◌, ◌≢◌, ◌⊎◌, ℕ, Bool, Some, None, Result, Ok, Err, MatchBool}
 use Rattle.h2_frame.specs.declared.code.Code.{Code}
 use Rattle.h2_spec_log.specs.Acts.{Values}
 use Rattle.h2_spec_log.specs.Log.{Log}
@@ -40,20 +40,39 @@ IsErrorOf connection errors.Memory =
     → ConnRepresents values connection.server.end.conn log → HasNoConnectionFault log)
 IsErrorOf connection error = ⊥
 
+-- The input has ended where it may: no stream is active, and no part is held of the preface, of a
+-- frame or of a field block (RFC 9113, section 4.3).
+-- rule: engines (own) N4 comes only where the input ended early
+pub record IsInputWhole (log : Log) : Type 0 where
+  pub rests : IsAtRest log
+  pub no_block : log.begun ≡ None
+
+-- The connection is up, and the input has ended where it may not.
+-- rule: engines (own) N4 comes only where the input ended early
+abbrev pub IsInputCut : Log → Type 0
+IsInputCut log = IsCutOff log ⊎ ((log.failed ≡ None) × (log.begun ≢ None))
+
+-- Whatever has happened at an end that is up, whether a part of a frame is held or a stream active.
+-- rule: engines (own) N4 comes only where the input ended early
+abbrev pub IsUnfinishedSo : Conn → Bool → Type 0
+IsUnfinishedSo conn answer =
+    (values : Values) (log : Log) → ConnRepresents values conn log → log.failed ≡ None
+    → MatchBool answer (IsCutOff log) (IsAtRest log)
+
 -- Whatever has happened at an end that is up, whether its input has ended where it may not.
 -- rule: engines (own) N4 comes only where the input ended early
 abbrev pub IsCutOffSo : Conn → Bool → Type 0
 IsCutOffSo conn answer =
     (values : Values) (log : Log) → ConnRepresents values conn log → log.failed ≡ None
-    → MatchBool answer (IsCutOff log) (IsAtRest log)
+    → MatchBool answer (IsInputCut log) (IsInputWhole log)
 
 -- How many requests have come to a connection whose input has ended where it may; or with which
 -- error it has ended: that of a connection that has failed, or N4.
 abbrev pub CountsServed : {H W : Type 0} → Connection H W → Result ℕ LinkError → Type 0
 CountsServed connection (Ok count) =
     (count ≡ connection.exchanges.totals.requests) × ((values : Values) (log : Log)
-    → ConnRepresents values connection.server.end.conn log → IsAtRest log)
+    → ConnRepresents values connection.server.end.conn log → IsInputWhole log)
 CountsServed connection (Err errors.CutOff) =
     (values : Values) (log : Log) → ConnRepresents values connection.server.end.conn log
-    → IsCutOff log
+    → IsInputCut log
 CountsServed connection (Err error) = IsErrorOf connection error

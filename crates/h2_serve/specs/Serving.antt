@@ -18,14 +18,15 @@ use Rattle.h2_link.specs.declared.error.LinkError.TheVariants as errors
 use Rattle.h2_engines.specs.Failures.{HasNoConnectionFault}
 use Rattle.h2_engines.specs.Linked.{Traffic, HasStalled}
 use Rattle.h2_engines.specs.ServerSteps.{error_with}
-use Rattle.h2_engines.specs.Serves.{IsAtRest, IsCutOff, HasReturnedAll}
+use Rattle.h2_engines.specs.Serves.{HasReturnedAll}
 use Rattle.h2_server.specs.declared.connection.Connection.{Connection}
 use Rattle.h2_server.specs.Connections.{Calls, FailsSo, input_kept}
 use Rattle.h2_server.specs.Exchanges.{Handling, IsEmptied, Relations, handling_of}
 use Rattle.h2_server.specs.Phases.{is_phase_down, is_phase_over}
 use Rattle.h2_server.specs.Steps.{Steps}
+use Rattle.h2_server.specs.Turns.{LosesSo}
 use Rattle.h2_serve.specs.Answered.{AnswersEach}
-use Rattle.h2_serve.specs.Endings.{IsClosedForMemory}
+use Rattle.h2_serve.specs.Endings.{IsClosedForMemory, IsInputCut, IsInputWhole}
 
 -- a connection at its beginning: its values, its handler, and what had gone over the link before
 pub record Beginning (H : Type 0) : Type 0 where
@@ -204,6 +205,7 @@ EndsServingFor {H} rel before now old new error =
 -- rule: handlers (own) Of each exchange a handler learns once that it is over, and why
 pub record IsLost {H W : Type 0} (rel : Relations H W) (old new : Connection H W) : Type 0 where
   pub calls : Calls rel owns.Lost [] old new
+  pub loses : LosesSo rel old new
   pub told : IsEmptied (handling_of new.exchanges)
 
 -- How serving a connection has ended: its input has ended where it may, all of that was used and
@@ -214,11 +216,11 @@ pub record IsLost {H W : Type 0} (rel : Relations H W) (old new : Connection H W
 pub data HasServed {H W : Type 0} (rel : Relations H W) (begin : Beginning H) (now : Traffic)
     : Result ℕ LinkError → Type 0 where
   is_served : (connection lost : Connection H W) (is : HasWritten rel begin now connection)
-      → IsLost rel connection lost → IsAtRest is.serving.after.log
+      → IsLost rel connection lost → IsInputWhole is.serving.after.log
       → AnswersEach is.serving.after
       → HasServed rel begin now (Ok connection.exchanges.totals.requests)
   is_cut_off : (connection lost : Connection H W) (is : HasWritten rel begin now connection)
-      → IsLost rel connection lost → IsCutOff is.serving.after.log
+      → IsLost rel connection lost → IsInputCut is.serving.after.log
       → HasServed rel begin now (Err errors.CutOff)
   has_stopped : (connection lost : Connection H W) (error : LinkError)
       → HasStoppedServing rel begin now connection error → IsLost rel connection lost

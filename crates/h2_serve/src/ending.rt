@@ -3,14 +3,14 @@
 ghost use Rattle.std.specs.Prelude.{◌≡◌, ◌<◌, ◌-◌, ◌^◌, false, true};
 ghost use Rattle.h2_engines.specs.Failures.{failures_by};
 ghost use Rattle.h2_engines.specs.Linked.{traffic};
-ghost use Rattle.h2_engines.specs.ServerSteps.{error_with};
 ghost use Rattle.h2_serve.specs.Endings.{IsClosedForMemory, IsErrorOf, IsOfDriving};
 ghost use Rattle.h2_serve.specs.Serving.{EndsServingFor};
 ghost use Rattle.h2_server.specs.Phases.{is_phase_down};
 
 use crate::serve::write_out;
+use h2_engines::error_of_code;
 use h2_link::{Link, LinkError};
-use h2_server::{Bound, CloseReason, Code, Connection, Handler};
+use h2_server::{Bound, CloseReason, Connection, Handler};
 
 // rule: engines (own) N2 has the code with which the connection failed; memory is N3
 /// Writes what waits of a connection that cannot go on, GOAWAY last, and returns the error with
@@ -56,16 +56,4 @@ fn is_closed_for_memory<H: Handler>(connection: &Connection<H>) -> bool
     ensures not { result ≡ false → IsClosedForMemory connection.now → ⊥ }
 {
     matches!(connection.why(), Some(CloseReason::Refused(Bound::Memory)))
-}
-
-// rule: engines (own) N2 has the code with which the connection failed; memory is N3
-/// The error for a connection that failed with this code.
-fn error_of_code(code: Code) -> LinkError
-    ensures error { result ≡ error_with code }
-    ensures kind { IsOfDriving result }
-{
-    match code {
-        Code::InternalError => LinkError::Memory,
-        code => LinkError::Stream(code.number()),
-    }
 }

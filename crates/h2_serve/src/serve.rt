@@ -1,23 +1,23 @@
 //! Serves a connection over a link.
 
-ghost use Rattle.std.specs.Prelude.{◌≡◌, ◌<◌, ◌-◌, ◌^◌, IfErr, OnOk, length, not, true};
+ghost use Rattle.std.specs.Prelude.{◌≡◌, ◌<◌, ◌-◌, ◌^◌, [], IfErr, Ok, OnOk, length, not, true};
+ghost use Rattle.std.specs.Io.KnownBytes.{Appends};
 ghost use Rattle.h2_flow.specs.ConfigValues.{values_of};
 ghost use Rattle.h2_engines.specs.Failures.{CutsOffAtEnd, EndsServing, EndsWriting};
 ghost use Rattle.h2_engines.specs.Failures.{failures_at_end};
 ghost use Rattle.h2_engines.specs.Linked.{traffic};
-ghost use Rattle.h2_serve.specs.Endings.{CountsServed, IsCutOffSo, IsOfDriving};
+ghost use Rattle.h2_link.specs.Links.{Gives, failures_after};
+ghost use Rattle.h2_serve.specs.Endings.{CountsServed, IsCutOffSo, IsOfDriving, IsUnfinishedSo};
 ghost use Rattle.h2_serve.specs.Serving.{DrivesServing, SendsServing, ServesBy, TakesServing};
 ghost use Rattle.h2_serve.specs.Serving.{TurnsServing, WritesServing};
 ghost use Rattle.h2_server.specs.Phases.{is_phase_down};
 
 use crate::ending::{end_early, error_of};
 use h2_engines::write_waiting;
-use h2_link::{Link, LinkError};
+use h2_host::MOST_TAKEN;
+use h2_link::{Link, LinkError, LinkFault};
 use h2_server::{Config, Conn, Connection, ConnectionLimits, Handler};
 use std::alloc::Global;
-
-/// The maximum number of octets per read.
-const PIECE: usize = 16_384;
 
 /// The maximum number of octets asked of a handler at a time.
 const PART: usize = 16_384;
@@ -51,8 +51,8 @@ const PART: usize = 16_384;
 ///   and then GOAWAY with ENHANCE_YOUR_CALM, was written; if that write failed, the error is N1 or
 ///   N5. (If an allocation of the handler is refused, serving goes on, and its request gets what
 ///   `HandlerFault` says.)
-/// - [`LinkError::CutOff`] (N4): the input ended inside the preface or a frame, or while a stream
-///   was active.
+/// - [`LinkError::CutOff`] (N4): the input ended inside the preface, a frame or a field block
+///   (section 4.3), or while a stream was active.
 /// - [`LinkError::NoProgress`] (N5): a write accepted no octet, or 2^64 - 1 rounds were made.
 pub fn serve_handler<H: Handler, L: Link>(
     alloc: Global,
@@ -74,7 +74,7 @@ pub fn serve_handler<H: Handler, L: Link>(
     let Ok(mut connection) = Connection::new(alloc, config, limits, 0, handler) else {
         return Err(LinkError::Memory);
     };
-    let mut input = vec![in alloc; 0u8; PIECE]?;
+    let mut input = vec![in alloc; 0u8; MOST_TAKEN]?;
     let mut room = vec![in alloc; 0u8; PART]?;
     let driven = drive(&mut connection, &mut input, &mut room, link);
     let served = count_of(&connection);
@@ -96,9 +96,16 @@ fn count_of<H: Handler>(connection: &Connection<H>) -> Result<u64, LinkError>
     Ok(connection.requests())
 }
 
-/// Whether a connection is inside the preface or a frame, or a stream is active.
+/// Whether a connection is inside the preface, a frame or a field block, or a stream is active.
 fn is_cut_off(conn: &Conn) -> bool
     ensures { IsCutOffSo conn.now result }
+{
+    is_unfinished(conn) || conn.block_stream().is_some()
+}
+
+/// Whether a connection is inside the preface or a frame, or a stream is active.
+fn is_unfinished(conn: &Conn) -> bool
+    ensures { IsUnfinishedSo conn.now result }
 {
     conn.held() > 0 || conn.next_live(0).is_some()
 }
@@ -123,7 +130,7 @@ fn drive<H: Handler, L: Link>(
 {
     for _ in 0..u64::MAX {
         send_all(connection, room, link)?;
-        let count = link.read(input)?;
+        let count = read_some(connection, input, link)?;
         if count == 0 {
             return Ok(());
         }
@@ -132,11 +139,33 @@ fn drive<H: Handler, L: Link>(
     Err(LinkError::NoProgress)
 }
 
+/// Reads at most as many octets as the connection says ([`Connection::read_size`]), and returns how
+/// many were read: 0 once the input has ended.
+fn read_some<H: Handler, L: Link>(
+    connection: &Connection<H>,
+    input: &mut [u8],
+    link: &mut L,
+) -> Result<usize, LinkFault>
+    requires fails { L.faults link.old < 2 ^ 64 - 1 }
+    requires some { 0 < length input.old }
+    ensures length { length input.new ≡ length input.old }
+    ensures gives { Gives (L.given link.old) (L.given link.new) result input.new }
+    ensures takes_none { Appends (L.taken link.old) (L.taken link.new) [] }
+    ensures ended { result ≡ Ok 0 → L.ended link.new ≡ true }
+    ensures stalled { L.stalled link.new ≡ L.stalled link.old }
+    ensures failures { L.faults link.new ≡ failures_after (L.faults link.old) result }
+{
+    // Of one that takes input the size is not 0; a read into no room would look like the end.
+    let size = input.len().min(connection.read_size().max(1));
+    link.read(&mut input[..size])
+}
+
 /// Hands octets that were read to a connection. One that is down then drops them.
 fn take_in<H: Handler>(connection: &mut Connection<H>, octets: &[u8])
     ensures { TakesServing H.Handler octets.now connection.old connection.new }
 {
-    connection.set_ready(true, true);
+    // A link never says that there is more to read now, so a read may wait: credit goes first.
+    connection.set_ready(false, true);
     if !connection.is_down() {
         connection.receive(octets);
     }

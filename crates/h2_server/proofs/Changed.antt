@@ -16,6 +16,7 @@ use Rattle.h2_server.specs.declared.watch.Watch.{Watch}
 use Rattle.h2_server.specs.Connections.{ConnectionWidens, GoesAway, KeepsTold, MakesOwn}
 use Rattle.h2_server.specs.Connections.{NotesEnding, NotesFailing, moved_of}
 use Rattle.h2_server.specs.Exchanges.{Relations}
+use Rattle.h2_server.proofs.FailingCodes.{widen_up_so}
 
 module _ {H W : Type 0} where
   -- Only what is counted has changed since.
@@ -111,5 +112,7 @@ widened {H} {W} old mid new count result done answers is same counted =
       result = result;
       answers = answers;
       is_done = is;
+      up = widen_up_so old (record mid { holds = new.holds; ready = new.ready }) count result
+          answers (ap (λ (c : Connection H W). c.phase) same);
       rest = ap (λ (c : Connection H W). record c { holds = new.holds; ready = new.ready }) same;
     })

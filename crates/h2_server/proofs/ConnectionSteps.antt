@@ -2,7 +2,8 @@
 use Rattle.std.proofs.Common.{◌≡◌, ◌⊎◌, ◌∙◌, inl, inr, refl, sym, subst, ap, append-nil, drop}
 use Rattle.std.proofs.lemmas.List.{drop-append-le}
 use Rattle.std.specs.Prelude.{ℕ, Bool, true, false, List, [], ◌++◌, ◌||◌, ◌≤◌, length}
-use Rattle.std.specs.Prelude.{Err}
+use Rattle.std.specs.Prelude.{Err, None, Option, Some}
+use Rattle.h2_frame.specs.declared.code.Code.{Code}
 use Rattle.h2_spec_log.specs.Acts.{Values}
 use Rattle.h2_ends.specs.declared.roles.EndAs.{EndAs}
 use Rattle.h2_ends.specs.Ends.{EndLog}
@@ -15,10 +16,10 @@ use Rattle.h2_server.specs.declared.exchanges.Exchanges.{Exchanges}
 use Rattle.h2_server.specs.declared.limits.ConnectionLimits.{ConnectionLimits}
 use Rattle.h2_server.specs.declared.stop.Stop.{Stop}
 use Rattle.h2_server.specs.declared.stop.Stop.TheVariants as stops
-use Rattle.h2_server.specs.Connections.{IsSameOrRefused, IsSameOrStopped, MadeOwn}
-use Rattle.h2_server.specs.Connections.{Makes, MakesOwn, phase_passed}
-use Rattle.h2_server.specs.Connections.{input_kept, phase_stopped}
+use Rattle.h2_server.specs.Connections.{IsSameOrRefused, MadeOwn, Makes, MakesOwn, input_kept}
+use Rattle.h2_server.specs.Connections.{phase_passed}
 use Rattle.h2_server.specs.Exchanges.{Handling, Relations, handling_of}
+use Rattle.h2_server.specs.Failing.{IsSameOrStopped, StopsAt, phase_stopped}
 use Rattle.h2_server.specs.Steps.{Handles, HandlesPiece, Steps, loses_by, none}
 use Rattle.h2_server.specs.Phases.{is_phase_down, is_phase_failing, is_phase_over}
 use Rattle.h2_server.proofs.FailingPhase.{KeepsFailing}
@@ -26,16 +27,18 @@ use Rattle.h2_server.proofs.GoneOutput.{Gives}
 use Rattle.h2_server.proofs.StepsMade.{steps_losing, steps_may_lose, steps_then}
 
 -- What can't go on has failed or is closed; closed, where something may have been lost.
-pub stopped_down : (stop : Stop) (time : ℕ) → is_phase_down (phase_stopped stop time) ≡ true
-stopped_down (stops.Failed code) time = refl
-stopped_down stops.TooManyResets time = refl
-stopped_down stops.Memory time = refl
+pub stopped_down : (stop : Stop) (failed : Option Code) (time : ℕ)
+    → is_phase_down (phase_stopped stop failed time) ≡ true
+stopped_down stops.Failed (Some code) time = refl
+stopped_down stops.Failed None time = refl
+stopped_down stops.TooManyResets failed time = refl
+stopped_down stops.Memory failed time = refl
 
-pub lossy_over : (stop : Stop) (time : ℕ) → loses_by stop ≡ true
-    → is_phase_over (phase_stopped stop time) ≡ true
-lossy_over (stops.Failed code) time loses = absurd (cc)
-lossy_over stops.TooManyResets time loses = absurd (cc)
-lossy_over stops.Memory time loses = refl
+pub lossy_over : (stop : Stop) (failed : Option Code) (time : ℕ) → loses_by stop ≡ true
+    → is_phase_over (phase_stopped stop failed time) ≡ true
+lossy_over stops.Failed failed time loses = absurd (cc)
+lossy_over stops.TooManyResets failed time loses = absurd (cc)
+lossy_over stops.Memory failed time loses = refl
 
 -- If one of two loses something, the connection is closed then.
 both_lost : (one two : Bool) {mid end : Bool} → (one ≡ true → mid ≡ true)
@@ -269,23 +272,23 @@ module _ {H W : Type 0} {rel : Relations H W} where
       }
 
   -- It can't go on once first ones of a piece were used.
-  pub stops_then : (one mid two : Connection H W) (came piece : List ℕ) (stop : Stop) (time : ℕ)
+  pub stops_then : (one mid two : Connection H W) (came piece : List ℕ) (stop : Stop)
       → input_kept one ++ came ≡ piece
       → HandlesPiece rel piece one.server.end (handling_of one.exchanges) mid.server.end
       (handling_of mid.exchanges) (Err stop)
-      → KeepsFailing one mid → MakesOwn rel [] mid two → two.phase ≡ phase_stopped stop time
+      → KeepsFailing one mid → MakesOwn rel [] mid two → StopsAt stop mid two.phase
       → Makes rel came [] one two
-  stops_then one mid two came piece stop time all first keeps second phase values end is =
+  stops_then one mid two came piece stop all first keeps second (failed, so, phase) values end is =
       let (used, rest, split, (after, made, there)) = first values end is in
       let then = second values after there in record {
         used = used;
         rest = rest;
         order = all ∙ split;
-        kept = inr (ap is_phase_down phase ∙ stopped_down stop time);
+        kept = inr (ap is_phase_down phase ∙ stopped_down stop failed mid.watch.time);
         loses = loses_by stop || then.loses;
         closed = both_lost (loses_by stop) then.loses
-            (λ loses. ap is_phase_over phase ∙ lossy_over stop time loses) (λ over. over)
-            then.closed;
+            (λ loses. ap is_phase_over phase ∙ lossy_over stop failed mid.watch.time loses)
+            (λ over. over) then.closed;
         after = then.after;
         steps = subst (λ (octets : List ℕ). Steps rel (loses_by stop || then.loses) then.after
             (handling_of two.exchanges) octets [] end (handling_of one.exchanges))

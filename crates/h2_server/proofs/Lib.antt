@@ -6,6 +6,7 @@ mod CreditReturned
 mod CreditSteps
 mod EndedExchanges
 mod Expired
+mod FailingCodes
 mod FailingPhase
 mod GoneOutput
 mod KeptMaps

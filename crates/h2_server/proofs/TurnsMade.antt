@@ -1,5 +1,5 @@
 -- What is known of a connection after a turn, and after a write.
-use Rattle.std.proofs.Common.{◌≡◌, ◌⊎◌, ◌∙◌, ap, refl, sym, subst, inl, inr, arith, append_assoc}
+use Rattle.std.proofs.Common.{◌≡◌, ◌∙◌, ap, refl, sym, inl, inr, arith, append_assoc}
 use Rattle.std.proofs.Common.{is_some}
 use Rattle.std.proofs.lemmas.Bool.{cases_Bool, false≢true}
 use Rattle.std.proofs.lemmas.List.{drop-drop, length-drop, take-append-drop, take_min}
@@ -26,9 +26,9 @@ use Rattle.h2_server.specs.Connections.{FailsSo, IsSameOrRefused, MakesOwn, Note
 use Rattle.h2_server.specs.Connections.{NotesPhaseFrom, input_kept}
 use Rattle.h2_server.specs.Credit.{HandlesCredit}
 use Rattle.h2_server.specs.Exchanges.{Relations, handling_of}
-use Rattle.h2_server.specs.Phases.{is_phase_down, is_phase_failing, is_phase_over}
-use Rattle.h2_server.specs.Steps.{Handles, Steps}
-use Rattle.h2_server.specs.Turns.{KeepsDown, KeepsUp, Turns, Wrote}
+use Rattle.h2_server.specs.Phases.{is_phase_down, is_phase_over}
+use Rattle.h2_server.specs.Steps.{Handles}
+use Rattle.h2_server.specs.Turns.{KeepsDown, KeepsUp, Turns, Wrote, WroteUp}
 use Rattle.h2_server.proofs.ConnectionSteps.{made_then}
 use Rattle.h2_server.proofs.GoneOutput.{as_many}
 use Rattle.h2_server.proofs.StepsMade.{steps_then}
@@ -80,6 +80,35 @@ of_done : {P : Type 0} (result : Result (Unit {0}) Refusal) → is_err result �
     → P
 of_done (Ok done) some p = p
 of_done (Err refusal) some p = absurd (cc)
+
+-- What was removed of the output was given out by one call.
+counted_of : {one two : End} (asked : ℕ) (result : Result ℕ Refusal) → is_err result ≡ false
+    → EndAnswers one (PutOut asked) (answer_by (λ given. Count given) result) two
+    → (given : ℕ) × EndAnswers one (PutOut asked) (Count given) two
+counted_of asked (Ok given) some answers = (given, answers)
+counted_of asked (Err refusal) some answers = absurd (cc)
+
+pub removed_up : {H W : Type 0} (count gone waits : ℕ) (old new : Connection H W)
+    (result : Result ℕ Refusal) → is_err result ≡ false
+    → EndAnswers old.server.end (PutOut gone) (answer_by (λ given. Count given) result)
+    new.server.end
+    → waits ≡ length (octets_queued old.server.end.conn) → gone ≡ min count waits
+    → new.exchanges ≡ old.exchanges → input_kept new ≡ input_kept old → WroteUp count old new
+removed_up count gone waits old new result some answers queued least exchanges input up =
+    let asked = least ∙ ap (min count) queued in (
+      counted_of _ result some (rw asked at answers),
+      (exchanges, input),
+    )
+
+-- So it is once that was noted.
+pub noted_up : {H W : Type 0} (count : ℕ) (old mid new : Connection H W) → WroteUp count old mid
+    → KeepsUp mid new → NotesPhaseFrom mid.phase mid new.phase → WroteUp count old new
+noted_up count old mid new wrote keeps notes up =
+    let was = wrote (was_up mid new.phase notes up) in
+    let kept = keeps up in (
+      (was.0.0, rw kept.0 was.0.1),
+      (kept.1.0 ∙ was.1.0, kept.1.1 ∙ was.1.1),
+    )
 
 module _ {H W : Type 0} {rel : Relations H W} where
   -- Of one that is down nothing is to be shown.

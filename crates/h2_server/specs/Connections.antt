@@ -19,6 +19,7 @@ use Rattle.h2_ends.specs.Represents.{EndAnswers, EndRepresents}
 use Rattle.h2_host.specs.declared.party.Bound.TheVariants as bounds
 use Rattle.h2_host.specs.declared.party.Own.{Own}
 use Rattle.h2_host.specs.declared.party.Own.TheVariants as owns
+use Rattle.h2_host.specs.Turns.{most_taken}
 use Rattle.h2_server.specs.declared.connection.Connection.{Connection}
 use Rattle.h2_server.specs.declared.connection.Phase.{Phase}
 use Rattle.h2_server.specs.declared.connection.Phase.TheVariants.{Open, Ending, Failing, Over}
@@ -32,16 +33,17 @@ use Rattle.h2_server.specs.declared.limits.ConnectionLimits.{ConnectionLimits}
 use Rattle.h2_server.specs.declared.reason.CloseReason.{CloseReason}
 use Rattle.h2_server.specs.declared.reason.CloseReason.TheVariants as reasons
 use Rattle.h2_server.specs.declared.stop.Stop.{Stop}
-use Rattle.h2_server.specs.declared.stop.Stop.TheVariants as stops
 use Rattle.h2_server.specs.declared.watch.Watch.{Watch}
 use Rattle.h2_server.specs.Activity.{IsActivity}
 use Rattle.h2_server.specs.Deadlines.{overdue_of}
 use Rattle.h2_server.specs.Deferring.{IsPending}
-use Rattle.h2_server.specs.Exchanges.{Handling, IsEmptied, Relations, awake, exchange_at}
+use Rattle.h2_server.specs.Exchanges.{IsEmptied, Relations, awake, exchange_at}
 use Rattle.h2_server.specs.Exchanges.{handling_of}
+use Rattle.h2_server.specs.Failing.{FailsServerWith, HasNotFailed, IsSameOrStopped, IsUpSo}
+use Rattle.h2_server.specs.Failing.{KeepsUpSo, LateFails, NotesCode, NotesFailed, StoppedBy}
 use Rattle.h2_server.specs.Floods.{flood_of}
 use Rattle.h2_server.specs.Phases.{is_phase_down, is_phase_failing, is_phase_open, is_phase_over}
-use Rattle.h2_server.specs.Sending.{HasNothing}
+use Rattle.h2_server.specs.Sending.{HasNothing, SendsAgain}
 use Rattle.h2_server.specs.Steps.{Handles, HandlesPiece, Steps}
 use Rattle.h2_server.specs.Watching.{readiness_after, watch_noted, watch_passed}
 
@@ -161,28 +163,10 @@ AsksAgain (owns.Ready reads writes) old new = WakesEach old new
 AsksAgain (owns.Passed now) old new = (is_phase_down new.phase ≡ true) ⊎ WakesEach old new
 AsksAgain own old new = Unit {0}
 
--- The server was ended with ENHANCE_YOUR_CALM: a GOAWAY is queued, unless it had failed before.
-abbrev pub EndsCalm : {H W : Type 0} → (old new : Connection H W) → Type 0
-EndsCalm old new =
-    (answer : log.Answer) × EndAnswers old.server.end (Fail EnhanceYourCalm) answer new.server.end
-
--- One that is refused ends so.
+-- The server of one that is refused is failed with ENHANCE_YOUR_CALM.
 abbrev pub RefusesSo : {H W : Type 0} → Own → (old new : Connection H W) → Type 0
-RefusesSo (owns.Refused bound) old new = EndsCalm old new
+RefusesSo (owns.Refused bound) old new = FailsServerWith EnhanceYourCalm old new
 RefusesSo own old new = Unit {0}
-
--- where it is once it can't go on
-abbrev pub phase_stopped : Stop → (time : ℕ) → Phase
-phase_stopped (stops.Failed code) time = Failing (reasons.Failed code) time
-phase_stopped stops.TooManyResets time = Failing (reasons.Failed EnhanceYourCalm) time
-phase_stopped stops.Memory time = Over (reasons.Refused bounds.Memory)
-
--- It is where it was, or it can't go on; one that is down is where it was.
-abbrev pub IsSameOrStopped : (old : Phase) → (time : ℕ) → (new : Phase) → Type 0
-IsSameOrStopped (Over why) time new = new ≡ Over why
-IsSameOrStopped (Failing why since) time new = new ≡ Failing why since
-IsSameOrStopped phase time new =
-    (new ≡ phase) ⊎ ((stop : Stop) × (new ≡ phase_stopped stop time))
 
 -- It is where it was, or memory was refused; one that is closed is where it was.
 abbrev pub IsSameOrRefused : (old new : Phase) → Type 0
@@ -268,8 +252,8 @@ pub record IsAllSent {H W : Type 0} (connection : Connection H W) : Type 0 where
       → ConnRepresents values connection.server.end.conn log → HasNothing log connection.exchanges
   pub answered : IsPending connection.exchanges.kept.entries false
 
--- Where one that is open is after a call: it ends for what is a flood; and it is closed only where
--- its client has ended its side, and nothing waits.
+-- Where one that is open, and whose server has not failed, is after a call: it ends for what is a
+-- flood; and it is closed only where its client has ended its side, and nothing waits.
 abbrev pub NotesOpen : {H W : Type 0} → Option Flood → (old : Connection H W) → (new : Phase)
     → Type 0
 NotesOpen (Some flood) old new = new ≡ Failing (reasons.Flood flood) old.watch.time
@@ -289,16 +273,18 @@ abbrev pub GoesOnEnding : Option Flood → (time : ℕ) → CloseReason → (sin
 GoesOnEnding None time why since new = new ≡ Ending why since
 GoesOnEnding (Some flood) time why since new = new ≡ Failing (reasons.Flood flood) time
 
--- Where one that shuts down is after a call: closed once it is drained, and not before.
+-- Where one that shuts down is after a call: failing, where its server has failed; else closed once
+-- it is drained, and not before.
 -- rule: hosts (own) A connection ends for what is above its budget
 abbrev pub NotesEnding : {H W : Type 0} → (old : Connection H W) → CloseReason → (since : ℕ)
     → (new : Phase) → Type 0
 NotesEnding old why since new =
-    (IsConnectionDrained old true × (new ≡ Over why))
+    NotesFailed old new
+    ⊎ (HasNotFailed old × ((IsConnectionDrained old true × (new ≡ Over why))
     ⊎ (IsConnectionDrained old false × ((counts : FloodCounts)
     × AreCounts old.server.end.conn old.exchanges.totals.refused counts
     × GoesOnEnding (flood_of old.watch.budget.before counts old.watch.limits.floods)
-    old.watch.time why since new))
+    old.watch.time why since new))))
 
 -- Where one that has failed is after a call: closed once it is drained, and not before.
 abbrev pub NotesFailing : {H W : Type 0} → (old : Connection H W) → CloseReason → (since : ℕ)
@@ -313,9 +299,10 @@ NotesFailing old why since new =
 abbrev pub NotesPhaseFrom : {H W : Type 0} → Phase → (old : Connection H W) → (new : Phase)
     → Type 0
 NotesPhaseFrom Open old new =
-    (counts : FloodCounts)
+    NotesFailed old new
+    ⊎ (HasNotFailed old × ((counts : FloodCounts)
     × AreCounts old.server.end.conn old.exchanges.totals.refused counts
-    × NotesOpen (flood_of old.watch.budget.before counts old.watch.limits.floods) old new
+    × NotesOpen (flood_of old.watch.budget.before counts old.watch.limits.floods) old new))
 NotesPhaseFrom (Ending why since) old new = NotesEnding old why (since_moved old since) new
 NotesPhaseFrom (Failing why since) old new = NotesFailing old why (since_moved old since) new
 NotesPhaseFrom (Over why) old new = new ≡ Over why
@@ -378,6 +365,19 @@ TakesNow connection answer =
     (values : Values) (log : Log) → ConnRepresents values connection.server.end.conn log
     → answer ≡ takes_now connection log
 
+-- How many octets it takes, at most: two frames have as many whose payloads have 16,384 octets, but
+-- for what is held of an incomplete frame, and one has them at least; none where it takes none. So
+-- a read that is full ends where a frame ends, if a long body comes in such frames.
+-- rule: hosts (own) The frames of a long body are read whole
+abbrev pub read_size : {H W : Type 0} → Connection H W → Log → ℕ
+read_size connection log =
+    if takes_now connection log then most_taken - min (reader_held log) 16393 else 0
+
+abbrev pub ReadsNow : {H W : Type 0} → Connection H W → ℕ → Type 0
+ReadsNow connection size =
+    (values : Values) (log : Log) → ConnRepresents values connection.server.end.conn log
+    → size ≡ read_size connection log
+
 -- Where nothing can be sent, nothing is noted to be.
 abbrev pub SendsSo : {H W : Type 0} → Connection H W → (sends : Bool) → Type 0
 SendsSo connection sends = sends ≡ false → (values : Values) (log : Log)
@@ -439,11 +439,16 @@ pub record Calls {H W : Type 0} (rel : Relations H W) (own : Own) (octets : List
   pub made : is_phase_over old.phase ≡ false → MakesPhase own old mid.phase
   pub refused : is_phase_over old.phase ≡ false → RefusesSo own old mid
   pub idle : IdleGoesAway own old mid
+  pub late : LateFails own old mid
+  pub stopped : StoppedBy rel own old mid
   pub asks : AsksAgain own old mid
+  pub sends : SendsAgain own mid.exchanges
   pub readiness : mid.readiness ≡ readiness_after own octets (keeps_none old) old.readiness
   pub watch : WatchesBy own gone old mid.watch
   pub notes : MakesOwn rel [] mid new
   pub noted : NotesPhase mid new.phase
+  pub code : NotesCode mid new
+  pub up : IsUpSo new
   pub told : KeepsTold old new
   pub same : new.readiness ≡ mid.readiness
   pub watched : NotesWatch mid.phase mid new.watch
@@ -461,6 +466,7 @@ pub record ConnectionLeaves {H W : Type 0} (rel : Relations H W) (old new : Conn
       → new ≡ record old { holds = new.holds; ready = new.ready }
   pub told : KeepsTold old new
   pub phase : phase_left old.phase reasons.Asked old.watch.time new.phase
+  pub up : KeepsUpSo old new
   pub readiness : new.readiness ≡ old.readiness
   pub watch : new.watch ≡ old.watch
   pub counted : IsCounted new
@@ -480,6 +486,7 @@ pub record ConnectionWidens {H W : Type 0} (old : Connection H W) (count : ℕ) 
   pub answers : EndAnswers old.server.end (Widen count) (answer_by (λ done. Done) result)
       new.server.end
   pub is_done : done ≡ is_ok result
+  pub up : KeepsUpSo old new
   pub rest : new ≡ record old {
     server = new.server;
     holds = new.holds;

@@ -6,6 +6,7 @@ pub mod Credit
 pub mod Deadlines
 pub mod Deferring
 pub mod Exchanges
+pub mod Failing
 pub mod Floods
 pub mod Giving
 pub mod Limits

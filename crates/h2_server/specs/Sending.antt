@@ -1,5 +1,5 @@
 -- What a server with a handler can send.
-use Rattle.std.specs.Prelude.{◌≡◌, ◌<◌, ◌≤◌, ℕ, Bool, true, false, List, ℤ, pos, negsuc, min}
+use Rattle.std.specs.Prelude.{◌≡◌, ◌<◌, ◌≤◌, ℕ, true, false, List, ℤ, pos, negsuc, min}
 use Rattle.std.specs.Prelude.{Option, Some, None, if◌then◌else◌}
 use Rattle.h2_spec_log.specs.Acts.{Values}
 use Rattle.h2_spec_log.specs.CallRules.{reader_room}
@@ -8,6 +8,8 @@ use Rattle.h2_spec_log.specs.Log.{Log, waiting}
 use Rattle.h2_spec_log.specs.LogView.{log_view}
 use Rattle.h2_conn.specs.declared.conn.Conn.{Conn}
 use Rattle.h2_conn.specs.Conn.{ConnRepresents}
+use Rattle.h2_host.specs.declared.party.Own.{Own}
+use Rattle.h2_host.specs.declared.party.Own.TheVariants as owns
 use Rattle.h2_server.specs.declared.exchange.Exchange.{Exchange}
 use Rattle.h2_server.specs.declared.exchanges.Exchanges.{Exchanges}
 use Rattle.h2_server.specs.Exchanges.{exchange_at, is_part_due_at}
@@ -52,3 +54,10 @@ NoneCanAsk log above entries = (id : ℕ) → above < id → asked_on log id ent
 pub record HasNothing {H W : Type 0} (log : Log) (exchanges : Exchanges H W) : Type 0 where
   pub bodies : exchanges.more ≡ false
   pub parts : waiting log < full_output → NoneCanAsk log 0 exchanges.kept.entries
+
+-- Once the transport has no more octets for now, it is noted that more can be sent: credit that was
+-- held back.
+-- rule: 6.9 (own) Before a read that may wait credit is returned for all that is used
+abbrev pub SendsAgain : {H W : Type 0} → Own → Exchanges H W → Type 0
+SendsAgain owns.NoneCame exchanges = exchanges.more ≡ true
+SendsAgain own exchanges = Unit {0}

@@ -1,5 +1,5 @@
 -- What a loop that reads and writes knows of a connection after a turn, and after a write.
-use Rattle.std.specs.Prelude.{◌≡◌, ℕ, true, false, List, [], ◌++◌, take}
+use Rattle.std.specs.Prelude.{◌≡◌, ℕ, true, false, List, [], ◌++◌, length, min, take}
 use Rattle.h2_spec_log.specs.Acts.{Count, PutOut, Values}
 use Rattle.h2_spec_log.specs.CallRules.{returns_before_put_out}
 use Rattle.h2_spec_log.specs.LogCalls.{MayAnswer, with_call}
@@ -7,13 +7,14 @@ use Rattle.h2_spec_log.specs.LogView.{log_view}
 use Rattle.h2_conn.specs.Conn.{octets_queued}
 use Rattle.h2_ends.specs.Ends.{EndLog}
 use Rattle.h2_ends.specs.EndTakes.{end_with_log}
-use Rattle.h2_ends.specs.Represents.{EndRepresents}
+use Rattle.h2_ends.specs.Represents.{EndAnswers, EndRepresents}
 use Rattle.h2_server.specs.declared.connection.Connection.{Connection}
 use Rattle.h2_server.specs.Connections.{FailsSo, MadeOwn, input_kept}
 use Rattle.h2_server.specs.Credit.{HasReturnedUsed}
 use Rattle.h2_server.specs.Exchanges.{Relations, handling_of}
 use Rattle.h2_server.specs.Phases.{is_phase_down, is_phase_over}
 use Rattle.h2_server.specs.Steps.{Steps}
+use Rattle.h2_server.specs.Telling.{EndsEach}
 
 -- Of one that is up after it, nothing has changed of its server, its exchanges and its input. Of
 -- one that was down, the server has not changed.
@@ -24,6 +25,16 @@ KeepsUp old new = is_phase_down new.phase ≡ false
 
 abbrev pub KeepsDown : {H W : Type 0} → (old new : Connection H W) → Type 0
 KeepsDown old new = is_phase_down old.phase ≡ true → new.server ≡ old.server
+
+-- What a loss of its transport makes of a connection: its server is as it was. If it was not
+-- closed, its handler is told of each exchange that it is over, and nothing else; else nothing has
+-- changed of its exchanges.
+-- rule: handlers (own) Of each exchange a handler learns once that it is over, and why
+pub record LosesSo {H W : Type 0} (rel : Relations H W) (old new : Connection H W) : Type 0 where
+  pub server : new.server ≡ old.server
+  pub ends : is_phase_over old.phase ≡ false
+      → EndsEach rel (handling_of new.exchanges) (handling_of old.exchanges)
+  pub same : is_phase_over old.phase ≡ true → new.exchanges ≡ old.exchanges
 
 -- What was made in a turn of a connection that is up after it. First octets of those that were kept
 -- were used, and the others are kept; steps of the server with its handler were made; and where the
@@ -63,6 +74,15 @@ pub record WroteSo {H W : Type 0} (rel : Relations H W) (count : ℕ) (values : 
       → gone ≡ take count (octets_queued old.server.end.conn)
   pub split : is_phase_down old.phase ≡ true → FailsSo old.phase end
       → octets_queued old.server.end.conn ≡ gone ++ octets_queued new.server.end.conn
+
+-- Of one that is up once so many octets were written, one call has given out as many as waited, at
+-- most, and nothing has changed of its exchanges and its input.
+-- rule: hosts (own) A connection gives out what has gone of its output, and nothing else
+abbrev pub WroteUp : {H W : Type 0} → (count : ℕ) → (old new : Connection H W) → Type 0
+WroteUp count old new = is_phase_down new.phase ≡ false
+    → ((given : ℕ) × EndAnswers old.server.end
+    (PutOut (min count (length (octets_queued old.server.end.conn)))) (Count given) new.server.end)
+    × ((new.exchanges ≡ old.exchanges) × (input_kept new ≡ input_kept old))
 
 abbrev pub Wrote : {H W : Type 0} → Relations H W → (count : ℕ) → (old new : Connection H W)
     → Type 0

@@ -2,7 +2,6 @@
 use Rattle.std.specs.Prelude.{ℕ, Bool, true, false, List, max, length, nat_le, ◌&&◌, ◌||◌}
 use Rattle.h2_host.specs.declared.party.Own.{Own}
 use Rattle.h2_host.specs.declared.party.Own.TheVariants as owns
-use Rattle.h2_host.specs.Turns.{most_taken}
 use Rattle.h2_server.specs.declared.deadlines.Activity.{Activity}
 use Rattle.h2_server.specs.declared.floods.FloodCounts.{FloodCounts}
 use Rattle.h2_server.specs.declared.limits.ConnectionLimits.{ConnectionLimits}
@@ -40,13 +39,17 @@ watch_noted watch activity = record watch {
 abbrev pub new_readiness : Readiness
 new_readiness = record { reads = false; writes = true; ended = false; took = false }
 
+-- a read of fewer octets is taken to have read all that can be read now
+abbrev pub full_read : ℕ
+full_read = 16384
+
 -- what is known of the transport after a call, with these octets, of a connection that kept none
--- that came before, or did: fewer octets than a turn takes are all that can be read now
+-- that came before, or did
 abbrev pub readiness_after : Own → (octets : List ℕ) → (kept_none : Bool) → Readiness → Readiness
 readiness_after (owns.Ready reads writes) octets kept_none readiness =
     record readiness { reads = reads || readiness.reads; writes = writes || readiness.writes }
 readiness_after owns.Came octets kept_none readiness = record readiness {
-  reads = readiness.reads && nat_le most_taken (length octets);
+  reads = readiness.reads && nat_le full_read (length octets);
   took = readiness.took || kept_none;
 }
 readiness_after owns.NoneCame octets kept_none readiness = record readiness { reads = false }

@@ -1,12 +1,12 @@
 //! The calls of a connection.
 
-ghost use Rattle.std.specs.Prelude.{◌≡◌, [], OnErr, OnOk, length, true};
+ghost use Rattle.std.specs.Prelude.{◌≡◌, [], OnErr, OnOk, false, length, true};
 ghost use Rattle.h2_host.specs.declared.party.Own.TheVariants as owns;
 ghost use Rattle.h2_server.specs.ConnectionSteps.{ChangesExchanges, Expires, Ticks};
 ghost use Rattle.h2_server.specs.Connections.{Calls, ConnectionLeaves, ConnectionWidens, IsCounted};
 ghost use Rattle.h2_server.specs.Deferring.{ResetsBy, RespondsBy};
-ghost use Rattle.h2_server.specs.Phases.{is_phase_over};
-ghost use Rattle.h2_server.specs.Turns.{Turns, Wrote};
+ghost use Rattle.h2_server.specs.Phases.{is_phase_down, is_phase_over};
+ghost use Rattle.h2_server.specs.Turns.{LosesSo, Turns, Wrote, WroteUp};
 
 use crate::connection::Connection;
 use crate::deferring::ExchangeRefusal;
@@ -29,12 +29,15 @@ impl<H: Handler> Connection<H> {
     // contract: hosts (own) A connection uses the octets that came to it, in order
     // contract: hosts (own) A connection ends for what is above its budget
     // contract: hosts (own) A connection that ends goes on as long as bodies move
-    /// Takes octets that were received. If there are fewer than
-    /// [`MOST_TAKEN`](h2_host::MOST_TAKEN) (16,384), the transport is taken to have no more for
-    /// now. A call takes at most 16 parts of requests (passed to the handler or dropped): one if
-    /// more than a tenth of a flood budget is spent, none while 65,536 octets of output or more
-    /// wait or earlier input is still kept. Octets that it does not take are kept for the next
-    /// turns. A connection that is down drops all octets.
+    /// Takes octets that were received; [`Connection::read_size`] says how many to read. If there
+    /// are fewer than 16,384, the transport is taken to have no more for now. A call takes at most
+    /// 16 parts of requests (passed to the handler or dropped): one if more than a tenth of a flood
+    /// budget is spent, none while 65,536 octets of output or more wait or earlier input is still
+    /// kept. Octets that it does not take are kept for the next turns. A connection that is down
+    /// drops all octets.
+    ///
+    /// If the server fails, the connection fails with its code ([`CloseReason::Failed`]); after
+    /// 1,000 resets, with ENHANCE_YOUR_CALM.
     pub fn receive(&mut self, octets: &[u8])
         ensures { Calls H.Handler owns.Came octets.now self.old self.new }
     {
@@ -42,11 +45,15 @@ impl<H: Handler> Connection<H> {
         self.note();
     }
 
-    /// Says that nothing was received: the transport cannot be read now.
+    /// Says that nothing was received: the transport cannot be read now. Credit that was held back
+    /// is returned in the next turn, for which the connection is ready unless 65,536 octets of
+    /// output or more wait.
     pub fn receive_none(&mut self)
-        ensures { Calls H.Handler owns.NoneCame [] self.old self.new }
+        ensures calls { Calls H.Handler owns.NoneCame [] self.old self.new }
+        ensures turn { is_phase_down self.new.phase ≡ false → self.new.exchanges.more ≡ true }
     {
         self.readiness.reads = false;
+        self.exchanges.more = true;
         self.note();
     }
 
@@ -76,6 +83,9 @@ impl<H: Handler> Connection<H> {
     /// `room` is scratch space for a part of a response, of which at most the first 65,536 octets
     /// are used. If it is empty, the handler is asked for no part, and the connection stays ready
     /// while there is a part to ask for.
+    ///
+    /// If the server fails, the connection fails with its code ([`CloseReason::Failed`]); after
+    /// 1,000 resets, with ENHANCE_YOUR_CALM.
     pub fn advance(&mut self, room: &mut [u8])
         ensures calls { Calls H.Handler owns.Turn [] self.old self.new }
         ensures turns { Turns H.Handler self.old self.new }
@@ -91,6 +101,7 @@ impl<H: Handler> Connection<H> {
     pub fn written(&mut self, count: usize)
         ensures calls { Calls H.Handler (owns.Went count) [] self.old self.new }
         ensures wrote { Wrote H.Handler count self.old self.new }
+        ensures up { WroteUp count self.old self.new }
     {
         self.take_away(count);
         self.note();
@@ -109,6 +120,7 @@ impl<H: Handler> Connection<H> {
     /// closed connection stays as it is.
     pub fn lose(&mut self)
         ensures calls { Calls H.Handler owns.Lost [] self.old self.new }
+        ensures loses { LosesSo H.Handler self.old self.new }
         ensures over { is_phase_over self.new.phase ≡ true }
     {
         self.finish_up(CloseReason::Lost);
@@ -117,7 +129,9 @@ impl<H: Handler> Connection<H> {
 
     // contract: hosts (own) A connection ends for what has taken too long
     /// Says which time it is, in milliseconds. A time that is earlier than the last one counts as
-    /// the last one. What has taken too long ends an open connection ([`CloseReason::Late`]); a
+    /// the last one. What has taken too long ends an open connection ([`CloseReason::Late`]): an
+    /// idle one begins a graceful shutdown, as in [`Connection::leave`]; any other fails, with
+    /// SETTINGS_TIMEOUT if the opening took too long, and otherwise with ENHANCE_YOUR_CALM. A
     /// closing one is closed once [`closing`](crate::ConnectionLimits::closing) has passed, and
     /// keeps its reason. From the next turn on, the handler is asked again for the parts for which
     /// it returned [`Part::Later`](crate::Part::Later). A deferred response that was not given in

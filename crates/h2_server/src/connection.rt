@@ -31,6 +31,10 @@ pub(crate) enum Phase {
 
 /// One served connection: a server, the handler of its requests, its deadlines and its flood
 /// budget. It does no input or output, and reads no clock.
+///
+/// After each call, a connection that is not down has a server that has not failed. If the server
+/// has failed, the connection fails with its code ([`CloseReason::Failed`]). A flood that exceeds
+/// its budget fails the connection with ENHANCE_YOUR_CALM ([`CloseReason::Flood`]).
 #[derive(Drop)]
 pub struct Connection<H: Handler> {
     pub(crate) server: Server,

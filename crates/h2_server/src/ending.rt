@@ -1,13 +1,17 @@
 //! How a connection ends.
 
 ghost use Rattle.std.specs.Prelude.{◌≡◌, [], false, true};
-ghost use Rattle.h2_spec_log.specs.Acts.{Answer, Fail};
-ghost use Rattle.h2_ends.specs.Represents.{EndAnswers};
-ghost use Rattle.h2_server.specs.Connections.{EndsCalm, GoesAway, KeepsExchanges, KeepsTold};
-ghost use Rattle.h2_server.specs.Connections.{MakesOwn, phase_left, phase_stopped};
+ghost use Rattle.h2_frame.specs.declared.code.Code.TheVariants.{EnhanceYourCalm};
+ghost use Rattle.h2_server.specs.Connections.{GoesAway, KeepsExchanges, KeepsTold, MakesOwn};
+ghost use Rattle.h2_server.specs.Connections.{phase_left};
+ghost use Rattle.h2_server.specs.Exchanges.{handling_of};
+ghost use Rattle.h2_server.specs.Failing.{FailsServerWith, KeepsUpSo, StopsAt, StopsByCode};
 ghost use Rattle.h2_server.specs.Phases.{is_phase_open, is_phase_over};
+ghost use Rattle.h2_server.specs.Telling.{EndsEach};
+ghost use Rattle.h2_server.specs.Turns.{LosesSo};
 ghost use Rattle.h2_server.specs.declared.connection.Phase.TheVariants as phases;
 ghost use Rattle.h2_server.specs.declared.reason.CloseReason.TheVariants as reasons;
+ghost use Rattle.h2_server.specs.declared.stop.Stop.TheVariants as stops;
 
 use crate::connection::{Connection, Phase};
 use crate::handler::Handler;
@@ -22,8 +26,7 @@ impl<H: Handler> Connection<H> {
     pub(crate) fn fail(&mut self, code: Code, why: CloseReason)
         ensures makes { MakesOwn H.Handler [] self.old self.new }
         ensures told { KeepsTold self.old self.new }
-        ensures failed { (answer : Answer) × EndAnswers self.old.server.end (Fail code) answer
-            self.new.server.end }
+        ensures failed { FailsServerWith code self.old self.new }
         ensures phase { self.new.phase ≡ phases.Failing why self.old.watch.time }
         ensures readiness { self.new.readiness ≡ self.old.readiness }
         ensures watch { self.new.watch ≡ self.old.watch }
@@ -46,6 +49,7 @@ impl<H: Handler> Connection<H> {
         ensures kept { KeepsExchanges self.old self.new }
         ensures rest { is_phase_open self.old.phase ≡ false → self.new ≡ self.old }
         ensures phase { phase_left self.old.phase why self.old.watch.time self.new.phase }
+        ensures up { KeepsUpSo self.old self.new }
         ensures readiness { self.new.readiness ≡ self.old.readiness }
         ensures watch { self.new.watch ≡ self.old.watch }
     {
@@ -62,21 +66,40 @@ impl<H: Handler> Connection<H> {
         };
     }
 
-    /// Ends a connection that cannot go on.
+    // rule: hosts (own) A connection ends for what is above its budget
+    /// Ends a connection that cannot go on: with the code with which its server has failed, or with
+    /// ENHANCE_YOUR_CALM after too many resets.
     pub(crate) fn stop(&mut self, stop: Stop)
         ensures makes { MakesOwn H.Handler [] self.old self.new }
         ensures told { KeepsTold self.old self.new }
-        ensures phase { self.new.phase ≡ phase_stopped stop self.old.watch.time }
+        ensures phase { StopsAt stop self.old self.new.phase }
+        ensures code { StopsByCode self.old self.new }
         ensures readiness { self.new.readiness ≡ self.old.readiness }
         ensures watch { self.new.watch ≡ self.old.watch }
     {
         match stop {
-            Stop::Failed(code) => self.fail(code, CloseReason::Failed(code)),
+            Stop::Failed => self.stop_failed(),
             Stop::TooManyResets => {
                 let code = Code::EnhanceYourCalm;
                 self.fail(code, CloseReason::Failed(code));
             }
             Stop::Memory => self.refuse(Bound::Memory),
+        }
+    }
+
+    /// Ends a connection whose server has failed, with its code; where the server has not failed,
+    /// an allocation was refused.
+    fn stop_failed(&mut self)
+        ensures makes { MakesOwn H.Handler [] self.old self.new }
+        ensures told { KeepsTold self.old self.new }
+        ensures phase { StopsAt stops.Failed self.old self.new.phase }
+        ensures code { StopsByCode self.old self.new }
+        ensures readiness { self.new.readiness ≡ self.old.readiness }
+        ensures watch { self.new.watch ≡ self.old.watch }
+    {
+        match self.server.conn().failed() {
+            Some(code) => self.fail(code, CloseReason::Failed(code)),
+            None => self.refuse(Bound::Memory),
         }
     }
 
@@ -88,7 +111,7 @@ impl<H: Handler> Connection<H> {
         ensures phase { self.new.phase ≡ phases.Over (reasons.Refused bound) }
         ensures readiness { self.new.readiness ≡ self.old.readiness }
         ensures watch { self.new.watch ≡ self.old.watch }
-        ensures calm { EndsCalm self.old self.new }
+        ensures calm { FailsServerWith EnhanceYourCalm self.old self.new }
     {
         self.fail(Code::EnhanceYourCalm, CloseReason::Refused(bound));
         self.finish(CloseReason::Refused(bound));
@@ -99,6 +122,8 @@ impl<H: Handler> Connection<H> {
         ensures makes { MakesOwn H.Handler [] self.old self.new }
         ensures told { KeepsTold self.old self.new }
         ensures server { self.new.server ≡ self.old.server }
+        ensures ends { EndsEach H.Handler (handling_of self.new.exchanges)
+            (handling_of self.old.exchanges) }
         ensures phase { self.new.phase ≡ phases.Over why }
         ensures readiness { self.new.readiness ≡ self.old.readiness }
         ensures watch { self.new.watch ≡ self.old.watch }
@@ -112,6 +137,7 @@ impl<H: Handler> Connection<H> {
     /// Closes the connection, unless it is closed.
     pub(crate) fn finish_up(&mut self, why: CloseReason)
         ensures makes { MakesOwn H.Handler [] self.old self.new }
+        ensures loses { LosesSo H.Handler self.old self.new }
         ensures told { KeepsTold self.old self.new }
         ensures over { is_phase_over self.old.phase ≡ true → self.new.phase ≡ self.old.phase }
         ensures phase { is_phase_over self.old.phase ≡ false → self.new.phase ≡ phases.Over why }
@@ -132,7 +158,8 @@ impl<H: Handler> Connection<H> {
         ensures over { is_phase_over self.old.phase ≡ true → self.new.phase ≡ self.old.phase }
         ensures phase { is_phase_over self.old.phase ≡ false
             → self.new.phase ≡ phases.Over (reasons.Refused bound) }
-        ensures calm { is_phase_over self.old.phase ≡ false → EndsCalm self.old self.new }
+        ensures calm { is_phase_over self.old.phase ≡ false
+            → FailsServerWith EnhanceYourCalm self.old self.new }
         ensures readiness { self.new.readiness ≡ self.old.readiness }
         ensures watch { self.new.watch ≡ self.old.watch }
     {

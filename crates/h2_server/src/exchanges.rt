@@ -80,7 +80,7 @@ pub(crate) struct Exchanges<H: Handler> {
     /// A number below which no exchange is open whose response the server was given whole: that of
     /// the first stream on which one may be, or else [`NO_STREAM`].
     pub(crate) first_given: u32,
-    /// Whether more may be sent of complete bodies.
+    /// Whether more may be sent: of complete bodies, or credit that was held back.
     pub(crate) more: bool,
 }
 

@@ -11,8 +11,8 @@
 //! - [`Connection::receive`] with the octets that were read, as long as
 //!   [`Connection::wants_read`], [`Connection::receive_none`] when there is nothing to read for
 //!   now, and [`Connection::receive_end`] once the client has ended its side;
-//! - [`Connection::advance`], the connection's turn, after each of these, and as long as
-//!   [`Connection::wants_turn`];
+//! - [`Connection::advance`], the connection's turn, as long as [`Connection::wants_turn`], which
+//!   may be true after each of these;
 //! - a write of [`Connection::output`], and then [`Connection::written`] with the number of octets
 //!   written, or [`Connection::written_none`] if none could be;
 //! - [`Connection::tick`] with the time, several times a second, and [`Connection::lose`] once the

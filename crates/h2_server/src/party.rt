@@ -7,7 +7,7 @@ use h2_host::{Answer, Own, Party};
 impl<H: Handler> Party for Connection<H> {
     ghost use Rattle.h2_conn.specs.Conn.{octets_queued};
     ghost use Rattle.h2_server.specs.ConnectionSteps.{ConnectionSteps};
-    ghost use Rattle.h2_server.specs.Connections.{TakesNow};
+    ghost use Rattle.h2_server.specs.Connections.{ReadsNow};
 
     ghost steps = { λ old own octets answer new.
         ConnectionSteps H.Handler old own octets answer new };
@@ -16,7 +16,7 @@ impl<H: Handler> Party for Connection<H> {
 
     ghost ready_of = { λ connection. connection.ready };
 
-    ghost takes = { λ connection wants. TakesNow connection wants };
+    ghost takes = { λ connection size. ReadsNow connection size };
 
     ghost output_of = { λ connection. octets_queued connection.server.end.conn };
 
@@ -36,8 +36,8 @@ impl<H: Handler> Party for Connection<H> {
         Connection::is_ready(self)
     }
 
-    fn wants_input(&self) -> bool {
-        self.wants_read()
+    fn read_size(&self) -> usize {
+        Connection::read_size(self)
     }
 
     fn output(&self) -> (&[u8], &[u8]) {

@@ -1,12 +1,13 @@
 //! The creation of a served connection, and its queries.
 
-ghost use Rattle.std.specs.Prelude.{◌≡◌, [], IfErr, IfOk, length, nat_lt, true};
+ghost use Rattle.std.specs.Prelude.{◌≡◌, ◌≤◌, [], IfErr, IfOk, length, nat_lt, true};
 ghost use Rattle.h2_conn.specs.Conn.{octets_queued};
 ghost use Rattle.h2_ends.specs.Represents.{EndRepresents, new_end_log};
 ghost use Rattle.h2_flow.specs.ConfigValues.{values_of};
 ghost use Rattle.h2_host.specs.Readers.{LendsFirst};
-ghost use Rattle.h2_server.specs.Connections.{IsCounted, TakesNow, WantsTurn, input_kept};
-ghost use Rattle.h2_server.specs.Connections.{is_open_and_receiving};
+ghost use Rattle.h2_host.specs.Turns.{most_taken};
+ghost use Rattle.h2_server.specs.Connections.{IsCounted, ReadsNow, TakesNow, WantsTurn};
+ghost use Rattle.h2_server.specs.Connections.{input_kept, is_open_and_receiving};
 ghost use Rattle.h2_server.specs.Watching.{new_readiness, new_watch};
 ghost use Rattle.h2_server.specs.declared.connection.Phase.TheVariants as phases;
 ghost use Rattle.h2_server.specs.declared.stop.Stop.TheVariants as stops;
@@ -22,6 +23,7 @@ use crate::reason::CloseReason;
 use crate::stop::Stop;
 use crate::watch::{Readiness, Watch};
 use h2_ends::{Config, Conn, Server};
+use h2_host::MOST_TAKEN;
 use std::alloc::Global;
 
 impl<H: Handler> Connection<H> {
@@ -108,6 +110,24 @@ impl<H: Handler> Connection<H> {
         let may = !self.readiness.ended && self.kept.is_empty();
         let is_up = !self.is_down() && self.server.conn().failed().is_none();
         may && is_up && !self.server.is_full()
+    }
+
+    // rule: hosts (own) The frames of a long body are read whole
+    // contract: hosts (own) The frames of a long body are read whole
+    /// Returns how many octets to read now, at most: 0 if it takes no input
+    /// ([`Connection::wants_read`]). Otherwise they are as many as two frames have whose payloads
+    /// have 16,384 octets ([`MOST_TAKEN`]), less what is held of an incomplete frame, but never
+    /// fewer than one such frame has. So a read that is full ends where a frame ends, if a client
+    /// sends a long body in such frames; and a frame that is received whole is not copied before
+    /// its handler gets it.
+    pub fn read_size(&self) -> usize
+        ensures reads { ReadsNow self.now result }
+        ensures within { result ≤ most_taken }
+    {
+        if !self.wants_read() {
+            return 0;
+        }
+        MOST_TAKEN - self.server.conn().held().min(MOST_TAKEN / 2)
     }
 
     /// Whether output is queued.

@@ -12,14 +12,16 @@ pub enum CloseReason {
     Ended,
     /// A graceful shutdown was asked for ([`Connection::leave`](crate::Connection::leave)).
     Asked,
-    /// Something took too long.
+    /// Something took too long. The code is SETTINGS_TIMEOUT for [`Timeout::Opening`], and
+    /// ENHANCE_YOUR_CALM otherwise; an idle connection shuts down with NO_ERROR.
     Late(Timeout),
-    /// The peer flooded the connection.
+    /// The peer flooded the connection. The code is ENHANCE_YOUR_CALM.
     Flood(Flood),
     /// It, or all connections together, held too much memory, or an allocation was refused.
     Refused(Bound),
     /// The transport failed.
     Lost,
-    /// The connection failed with this code.
+    /// The connection failed with this code: its server had failed with it, or it is
+    /// ENHANCE_YOUR_CALM after 1,000 resets.
     Failed(Code),
 }

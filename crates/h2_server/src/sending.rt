@@ -63,8 +63,8 @@ impl<H: Handler> Exchanges<H> {
             (handling_of self.old) server.new.end (handling_of self.new)) }
         ensures room { length room.new ≡ length room.old }
     {
-        if let Some(code) = server.conn().failed() {
-            return Err(Stop::Failed(code));
+        if server.conn().failed().is_some() {
+            return Err(Stop::Failed);
         }
         self.return_credit(server, waits)?;
         self.give_waiting(server)?;

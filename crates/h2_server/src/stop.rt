@@ -3,14 +3,15 @@
 ghost use Rattle.std.specs.Prelude.{OnOk};
 ghost use Rattle.h2_server.specs.Credit.{IsDoneOrFull, IsEndDoneOrFull};
 
-use h2_ends::{Code, EndRefusal, Refusal, Server};
+use h2_ends::{EndRefusal, Refusal, Server};
 use std::alloc::AllocError;
 
 /// Why a connection cannot go on.
 #[derive(Clone, Copy, Debug, PartialEq, Eq)]
 pub enum Stop {
-    /// The connection failed with this code; its GOAWAY is queued.
-    Failed(Code),
+    /// The connection has failed ([`Conn::failed`](crate::Conn::failed) returns the code); its
+    /// GOAWAY is queued.
+    Failed,
     /// An allocation was refused. No GOAWAY is queued, and a part of a request or of a response may
     /// be lost: close the connection.
     Memory,
@@ -32,7 +33,7 @@ impl From<AllocError> for Stop {
 /// Why a call was refused: the connection has failed, or else an allocation was refused.
 pub(crate) fn stop_of(server: &Server) -> Stop {
     match server.conn().failed() {
-        Some(code) => Stop::Failed(code),
+        Some(_) => Stop::Failed,
         None => Stop::Memory,
     }
 }

@@ -89,7 +89,7 @@ impl<H: Handler> Exchanges<H> {
     {
         let taken = match server.take(piece) {
             Ok(taken) => taken,
-            Err(fault) => return Err(Stop::Failed(fault.code)),
+            Err(_) => return Err(Stop::Failed),
         };
         let used = taken.used;
         let due = match taken.event {

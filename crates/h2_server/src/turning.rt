@@ -3,21 +3,23 @@
 ghost use Rattle.std.specs.Prelude.{◌≡◌, ◌≤◌, ◌++◌, [], ℕ, List, IfErr, IfOk, drop, false, length};
 ghost use Rattle.std.specs.Prelude.{take, true};
 ghost use Rattle.h2_host.specs.declared.party.Own.TheVariants as owns;
-ghost use Rattle.h2_server.specs.Connections.{GivesGone, IsSameOrRefused, IsSameOrStopped};
-ghost use Rattle.h2_server.specs.Connections.{KeepsTold, Makes, MakesOwn, TakesOfKept, WakesEach};
-ghost use Rattle.h2_server.specs.Connections.{WatchesBy};
-ghost use Rattle.h2_server.specs.Connections.{input_kept};
-ghost use Rattle.h2_server.specs.Connections.{keeps_none};
+ghost use Rattle.h2_server.specs.Connections.{GivesGone, IsSameOrRefused, KeepsTold, Makes};
+ghost use Rattle.h2_server.specs.Connections.{MakesOwn, TakesOfKept, WakesEach, WatchesBy};
+ghost use Rattle.h2_server.specs.Connections.{input_kept, keeps_none};
+ghost use Rattle.h2_server.specs.Failing.{IsSameOrStopped, Stopped};
 ghost use Rattle.h2_server.specs.Watching.{readiness_after};
 ghost use Rattle.h2_server.specs.Exchanges.{handling_of};
 ghost use Rattle.h2_server.specs.Steps.{HandlesPiece};
-ghost use Rattle.h2_server.specs.Turns.{Turns, Wrote};
+ghost use Rattle.h2_server.specs.Turns.{Turns, Wrote, WroteUp};
 ghost use Rattle.h2_server.specs.Phases.{is_phase_down};
 
 use crate::connection::Connection;
 use crate::handler::Handler;
 use crate::stop::Stop;
-use h2_host::{Bound, MOST_TAKEN};
+use h2_host::Bound;
+
+/// A read of fewer octets is taken to have read all that can be read now.
+const FULL_READ: usize = 16_384;
 
 /// The maximum number of parts of requests passed to the handler in a turn: it bounds the work
 /// of many small requests.
@@ -41,17 +43,18 @@ impl<H: Handler> Connection<H> {
 
     // rule: hosts (own) A connection uses the octets that came to it, in order
     /// Takes input, and keeps what is too much for this turn. If there are fewer octets than
-    /// [`MOST_TAKEN`], the transport has no more for now.
+    /// [`FULL_READ`], the transport has no more for now.
     pub(crate) fn take_input(&mut self, octets: &[u8])
         ensures makes { Makes H.Handler octets.now [] self.old self.new }
         ensures told { KeepsTold self.old self.new }
         ensures phase { IsSameOrStopped self.old.phase self.old.watch.time self.new.phase }
+        ensures stopped { Stopped H.Handler self.old self.new }
         ensures readiness { self.new.readiness ≡ readiness_after owns.Came octets.now
             (keeps_none self.old) self.old.readiness }
         ensures watch { self.new.watch ≡ self.old.watch }
     {
         self.readiness.took = self.readiness.took || self.used >= self.kept.len();
-        self.readiness.reads = self.readiness.reads && octets.len() >= MOST_TAKEN;
+        self.readiness.reads = self.readiness.reads && octets.len() >= FULL_READ;
         if self.is_down() {
             return;
         }
@@ -107,6 +110,7 @@ impl<H: Handler> Connection<H> {
         ensures told { KeepsTold self.old self.new }
         ensures room { length room.new ≡ length room.old }
         ensures phase { IsSameOrStopped self.old.phase self.old.watch.time self.new.phase }
+        ensures stopped { Stopped H.Handler self.old self.new }
         ensures readiness { self.new.readiness ≡ readiness_after owns.Turn [] true
             self.old.readiness }
         ensures watch { self.new.watch ≡ self.old.watch }
@@ -164,6 +168,7 @@ impl<H: Handler> Connection<H> {
         ensures told { KeepsTold self.old self.new }
         ensures room { length room.new ≡ length room.old }
         ensures phase { IsSameOrStopped self.old.phase self.old.watch.time self.new.phase }
+        ensures stopped { Stopped H.Handler self.old self.new }
         ensures readiness { self.new.readiness ≡ self.old.readiness }
         ensures watch { self.new.watch ≡ self.old.watch }
     {
@@ -187,6 +192,7 @@ impl<H: Handler> Connection<H> {
             × GivesGone (owns.Went count) self.old gone self.new
             × WatchesBy (owns.Went count) gone self.old self.new.watch }
         ensures wrote { Wrote H.Handler count self.old self.new }
+        ensures up { WroteUp count self.old self.new }
         ensures told { KeepsTold self.old self.new }
         ensures phase { IsSameOrRefused self.old.phase self.new.phase }
         ensures readiness { self.new.readiness ≡ self.old.readiness }
@@ -202,6 +208,7 @@ impl<H: Handler> Connection<H> {
         ensures makes { (gone : List ℕ) × MakesOwn H.Handler gone self.old self.new
             × GivesGone (owns.Went count) self.old gone self.new × (result ≡ length gone) }
         ensures wrote { Wrote H.Handler count self.old self.new }
+        ensures up { WroteUp count self.old self.new }
         ensures told { KeepsTold self.old self.new }
         ensures phase { IsSameOrRefused self.old.phase self.new.phase }
         ensures readiness { self.new.readiness ≡ self.old.readiness }

@@ -10,7 +10,8 @@ ghost use Rattle.h2_server.specs.Connections.{NotesEnding, NotesFailing, NotesPh
 ghost use Rattle.h2_server.specs.Connections.{WatchesBy, phase_late, phase_passed};
 ghost use Rattle.h2_server.specs.Connections.{since_moved, watch_moved};
 ghost use Rattle.h2_server.specs.Deadlines.{overdue_of};
-ghost use Rattle.h2_server.specs.Phases.{is_phase_failing};
+ghost use Rattle.h2_server.specs.Failing.{IsUpSo, LateFails, LateFailsAt, NotesCode, NotesCodeIn};
+ghost use Rattle.h2_server.specs.Phases.{is_phase_failing, is_phase_over};
 ghost use Rattle.h2_server.specs.Turns.{KeepsDown, KeepsUp};
 ghost use Rattle.h2_server.specs.declared.connection.Phase.TheVariants as phases;
 ghost use Rattle.h2_server.specs.declared.deadlines.Timeout.TheVariants as timeouts;
@@ -33,6 +34,7 @@ impl<H: Handler> Connection<H> {
         ensures phase { phase_passed self.old.phase self.old.watch.deadlines self.old.watch.limits
             (max self.old.watch.time now) self.new.phase }
         ensures idle { IdleGoesAway (owns.Passed now) self.old self.new }
+        ensures late { LateFails (owns.Passed now) self.old self.new }
         ensures asks { AsksAgain (owns.Passed now) self.old self.new }
         ensures readiness { self.new.readiness ≡ self.old.readiness }
         ensures watch { WatchesBy (owns.Passed now) [] self.old self.new.watch }
@@ -51,6 +53,7 @@ impl<H: Handler> Connection<H> {
             self.old.watch.time self.new.phase }
         ensures idle { overdue_of self.old.watch.deadlines self.old.watch.limits.times
             self.old.watch.time ≡ Some timeouts.Idle → GoesAway self.old self.new }
+        ensures late { LateFailsAt self.old.watch.time self.old self.new }
         ensures kept { KeepsExchanges self.old self.new }
         ensures readiness { self.new.readiness ≡ self.old.readiness }
         ensures watch { self.new.watch ≡ self.old.watch }
@@ -75,6 +78,7 @@ impl<H: Handler> Connection<H> {
             self.old.watch.time) self.old.phase self.old.watch.time self.new.phase }
         ensures idle { overdue_of self.old.watch.deadlines self.old.watch.limits.times
             self.old.watch.time ≡ Some timeouts.Idle → GoesAway self.old self.new }
+        ensures late { LateFailsAt self.old.watch.time self.old self.new }
         ensures kept { KeepsExchanges self.old self.new }
         ensures readiness { self.new.readiness ≡ self.old.readiness }
         ensures watch { self.new.watch ≡ self.old.watch }
@@ -130,16 +134,21 @@ impl<H: Handler> Connection<H> {
     }
 
     // rule: hosts (own) A connection ends for what is above its budget
-    /// What follows from each call: checks whether a flood budget is exceeded and whether a client
-    /// that has ended its side has got everything, and counts what is held.
+    /// What follows from each call: checks whether the server has failed, whether a flood budget is
+    /// exceeded (the code is ENHANCE_YOUR_CALM), and whether a client that has ended its side has
+    /// got everything, and counts what is held.
     pub(crate) fn note(&mut self)
         ensures makes { MakesOwn H.Handler [] self.old self.new }
         ensures told { KeepsTold self.old self.new }
         ensures up { KeepsUp self.old self.new }
         ensures down { KeepsDown self.old self.new }
         ensures phase { NotesPhase self.old self.new.phase }
+        ensures code { NotesCode self.old self.new }
+        ensures server_up { IsUpSo self.new }
         ensures readiness { self.new.readiness ≡ self.old.readiness }
         ensures watch { NotesWatch self.old.phase self.old self.new.watch }
+        ensures closed { is_phase_over self.old.phase ≡ true
+            → self.new.exchanges ≡ self.old.exchanges }
         ensures counted { IsCounted self.new }
     {
         self.note_phase();
@@ -154,8 +163,11 @@ impl<H: Handler> Connection<H> {
         ensures up { KeepsUp self.old self.new }
         ensures down { KeepsDown self.old self.new }
         ensures phase { NotesPhase self.old self.new.phase }
+        ensures code { NotesCode self.old self.new }
+        ensures server_up { IsUpSo self.new }
         ensures readiness { self.new.readiness ≡ self.old.readiness }
         ensures watch { NotesWatch self.old.phase self.old self.new.watch }
+        ensures closed { is_phase_over self.old.phase ≡ true → self.new ≡ self.old }
     {
         match self.phase {
             Phase::Open => self.note_open(),
@@ -172,18 +184,26 @@ impl<H: Handler> Connection<H> {
     }
 
     // rule: hosts (own) A connection ends for what is above its budget
-    /// Updates the timers after a call of an open connection, and checks whether a flood budget is
-    /// exceeded, and whether a client that has ended its side has got everything.
+    /// Updates the timers after a call of an open connection, and checks whether its server has
+    /// failed, whether a flood budget is exceeded, and whether a client that has ended its side has
+    /// got everything.
     fn note_open(&mut self)
         ensures makes { MakesOwn H.Handler [] self.old self.new }
         ensures told { KeepsTold self.old self.new }
         ensures up { KeepsUp self.old self.new }
         ensures phase { self.old.phase ≡ phases.Open → NotesPhase self.old self.new.phase }
+        ensures code { self.old.phase ≡ phases.Open
+            → NotesCodeIn self.new.phase self.old self.new }
+        ensures server_up { IsUpSo self.new }
         ensures readiness { self.new.readiness ≡ self.old.readiness }
         ensures watch { NotesWatch phases.Open self.old self.new.watch }
     {
         let activity = self.activity();
         self.watch.note(activity);
+        if let Some(code) = self.server.conn().failed() {
+            self.fail(code, CloseReason::Failed(code));
+            return;
+        }
         if let Some(flood) = self.watch.flood(self.counts()) {
             self.fail(Code::EnhanceYourCalm, CloseReason::Flood(flood));
             return;
@@ -194,16 +214,22 @@ impl<H: Handler> Connection<H> {
     }
 
     // rule: hosts (own) A connection ends for what is above its budget
-    /// Checks after a call of a connection that shuts down whether its output is drained, or a
-    /// flood budget is exceeded.
+    /// Checks after a call of a connection that shuts down whether its server has failed, its
+    /// output is drained, or a flood budget is exceeded.
     fn note_ending(&mut self, why: CloseReason, since: u64)
         ensures makes { MakesOwn H.Handler [] self.old self.new }
         ensures told { KeepsTold self.old self.new }
         ensures up { KeepsUp self.old self.new }
         ensures phase { NotesEnding self.old why since self.new.phase }
+        ensures code { NotesCodeIn self.new.phase self.old self.new }
+        ensures server_up { IsUpSo self.new }
         ensures readiness { self.new.readiness ≡ self.old.readiness }
         ensures watch { self.new.watch ≡ self.old.watch }
     {
+        if let Some(failed) = self.server.conn().failed() {
+            self.fail(failed, CloseReason::Failed(failed));
+            return;
+        }
         if self.server.is_drained() {
             self.finish(why);
             return;

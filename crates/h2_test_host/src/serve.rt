@@ -7,7 +7,6 @@
 //!   beside one that is answered. `sharing`: whole bodies beside parts. `using`: credit of what a
 //!   part uses.
 
-mod asked;
 mod differing;
 mod echoing;
 mod faulty;

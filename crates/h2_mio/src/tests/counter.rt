@@ -1,6 +1,6 @@
 //! A party that stores what it receives.
 
-use h2_host::{Answer, Own, Party};
+use h2_host::{Answer, MOST_TAKEN, Own, Party};
 use std::alloc::Global;
 
 /// A party that stores what it receives, and counts what was sent. It is always ready.
@@ -38,6 +38,7 @@ impl<'a> Counter<'a> {
 
 impl Party for Counter<'_> {
     ghost use Rattle.std.specs.Prelude.{⊤, ◌≡◌, drop, true};
+    ghost use Rattle.h2_host.specs.Turns.{most_taken};
 
     ghost steps = { λ _ _ _ _ _. ⊤ };
 
@@ -45,7 +46,7 @@ impl Party for Counter<'_> {
 
     ghost ready_of = { λ _. true };
 
-    ghost takes = { λ _ wants. wants ≡ true };
+    ghost takes = { λ _ size. size ≡ most_taken };
 
     ghost output_of = { λ counter. drop counter.went counter.put.now };
 
@@ -69,8 +70,8 @@ impl Party for Counter<'_> {
         true
     }
 
-    fn wants_input(&self) -> bool {
-        true
+    fn read_size(&self) -> usize {
+        MOST_TAKEN
     }
 
     /// Two octets, and the others.

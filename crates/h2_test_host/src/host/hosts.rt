@@ -1,7 +1,7 @@
 //! Calls of a host, and what it refuses.
 
 use crate::host::till::Till;
-use h2_host::{Answer, Bound, Host, Limits, Made, Own, Reply, Step, Token};
+use h2_host::{Answer, Bound, Host, Limits, MOST_TAKEN, Made, Own, Reply, Step, Token};
 use std::alloc::Global;
 use std::collections::VecDeque;
 
@@ -42,8 +42,8 @@ fn kept(host: &Host<Till>, token: Token) -> Option<usize> {
 fn takes_and_gives(alloc: Global) -> Option<bool> {
     let mut host = Host::new(alloc, LIMITS).ok()?;
     let token = open(alloc, &mut host, 10)?;
-    let is_next = host.next_turn() == Some(token) && host.wants_input(token);
-    let came = goes(&mut host, token, Own::Came, b"12345") && !host.wants_input(token);
+    let is_next = host.next_turn() == Some(token) && host.read_size(token) == MOST_TAKEN;
+    let came = goes(&mut host, token, Own::Came, b"12345") && host.read_size(token) == 0;
     let again = is_not_now(&mut host, token, Own::Came, b"1");
     let acts = goes(&mut host, token, Own::Turn, &[])
         && is_not_now(&mut host, token, Own::Turn, &[]);
@@ -67,7 +67,7 @@ fn bounded_turn(alloc: Global) -> Option<bool> {
     };
     let none_yet = is_not_now(&mut host, token, Own::Turn, &[]);
     let _ = host.next_turn();
-    let octets = [0u8; 16_385];
+    let octets = [0u8; MOST_TAKEN + 1];
     let too_many = is_not_now(&mut host, token, Own::Came, &octets);
     let (first, second) = host.output(token);
     let lent = first.len() == 50_000 && second.len() == 15_536;
@@ -78,7 +78,7 @@ fn bounded_turn(alloc: Global) -> Option<bool> {
     Some(none_yet && too_many && lent && went && left && more)
 }
 
-// rule (best): hosts (own) A turn takes 16,384 octets and gives 65,536 at most
+// rule (best): hosts (own) A turn takes 32,786 octets and gives 65,536 at most
 #[test]
 fn a_turn_is_bounded(rt: HostRuntime) {
     assert!(rt; bounded_turn(rt.alloc()) == Some(true));
@@ -123,11 +123,11 @@ fn takes_once(alloc: Global) -> Option<bool> {
     let mut host = Host::new(alloc, LIMITS).ok()?;
     let first = open(alloc, &mut host, 1)?;
     let second = open(alloc, &mut host, 1)?;
-    let before = host.wants_input(first);
+    let before = host.read_size(first);
     let _ = host.next_turn();
-    let now = host.wants_input(first) && !host.wants_input(second);
-    let came = goes(&mut host, first, Own::Came, b"1") && !host.wants_input(first);
-    Some(!before && now && came)
+    let now = host.read_size(first) == MOST_TAKEN && host.read_size(second) == 0;
+    let came = goes(&mut host, first, Own::Came, b"1") && host.read_size(first) == 0;
+    Some(before == 0 && now && came)
 }
 
 // rule (best): hosts (own) Who has the turn takes octets once, if it takes any

@@ -1,6 +1,6 @@
 //! A party that counts octets.
 
-use h2_host::{Answer, Own, Party};
+use h2_host::{Answer, MOST_TAKEN, Own, Party};
 
 /// A party that keeps count of the octets that it has taken, and holds so many; what is written of
 /// its output it holds no more.
@@ -32,7 +32,8 @@ impl Till {
 }
 
 impl Party for Till {
-    ghost use Rattle.std.specs.Prelude.{⊤, ◌≡◌, ◌||◌, ◌++◌, nat_lt, not};
+    ghost use Rattle.std.specs.Prelude.{⊤, ◌≡◌, ◌||◌, ◌++◌, if◌then◌else◌, nat_lt};
+    ghost use Rattle.h2_host.specs.Turns.{most_taken};
 
     ghost steps = { λ _ _ _ _ _. ⊤ };
 
@@ -40,7 +41,7 @@ impl Party for Till {
 
     ghost ready_of = { λ till. till.over || nat_lt 0 till.kept };
 
-    ghost takes = { λ till wants. wants ≡ not till.over };
+    ghost takes = { λ till size. size ≡ (if till.over then 0 else most_taken) };
 
     ghost output_of = { λ till. till.put.items ++ till.put.items };
 
@@ -72,8 +73,8 @@ impl Party for Till {
         self.over || self.kept > 0
     }
 
-    fn wants_input(&self) -> bool {
-        !self.over
+    fn read_size(&self) -> usize {
+        if self.over { 0 } else { MOST_TAKEN }
     }
 
     fn output(&self) -> (&[u8], &[u8]) {

@@ -62,8 +62,8 @@ impl Party for Counted<'_> {
         true
     }
 
-    fn wants_input(&self) -> bool {
-        false
+    fn read_size(&self) -> usize {
+        0
     }
 
     fn output(&self) -> (&[u8], &[u8]) {

@@ -1,10 +1,20 @@
 //! What a handler has heard of a response.
 
+use crate::asked::link_of;
 use crate::receive::hearing::Hearing;
 use h2_ends::{Config, Message};
 use h2_receive::{FetchError, HandlerFault, LinkError, fetch_handler};
-use h2_test_kit::{RESPONSE, link_of};
-use std::alloc::Global;
+use std::alloc::{AllocError, Global};
+
+/// What a server of the default configuration writes for GET of `/`: SETTINGS, the acknowledgment
+/// of the client's, HEADERS with `:status` 200 and `content-length` 6, and DATA.
+const RESPONSE: &[u8] = b"\
+    \x00\x00\x18\x04\x00\x00\x00\x00\x00\
+    \x00\x01\x00\x00\x10\x00\x00\x03\x00\x00\x00\x64\
+    \x00\x04\x00\x00\xff\xff\x00\x06\x00\x01\x00\x00\
+    \x00\x00\x00\x04\x01\x00\x00\x00\x00\
+    \x00\x00\x04\x01\x04\x00\x00\x00\x01\x88\x5c\x81\x73\
+    \x00\x00\x06\x00\x01\x00\x00\x00\x01GET /\n";
 
 /// A request for `/`; none when out of memory. With `breaks` it has a field that no request may
 /// have (RFC 9113, section 8.2.2).
@@ -20,7 +30,7 @@ fn request(alloc: Global, breaks: bool) -> Option<Message> {
 /// were heard, and whether the handler has learned once how.
 fn hears(
     alloc: Global,
-    octets: &[&[u8]],
+    octets: &[u8],
     most: usize,
     hearing: Hearing,
     heads: u32,
@@ -42,7 +52,7 @@ fn whole_response_is_heard(rt: HostRuntime) {
     let alloc = rt.alloc();
     for most in [1usize, 7, 16_384] {
         let hearing = Hearing::new(alloc, false);
-        let heard = hears(alloc, &[RESPONSE], most, hearing, 1, b"GET /\n", Ok(()));
+        let heard = hears(alloc, RESPONSE, most, hearing, 1, b"GET /\n", Ok(()));
         assert!(rt; heard, "{most}");
     }
 }
@@ -54,28 +64,28 @@ fn part_is_refused(rt: HostRuntime) {
     let alloc = rt.alloc();
     let refused = Err(FetchError::Handler(HandlerFault::Failed));
     let hearing = Hearing::new(alloc, true);
-    assert!(rt; hears(alloc, &[RESPONSE], 7, hearing, 1, b"", refused));
+    assert!(rt; hears(alloc, RESPONSE, 7, hearing, 1, b"", refused));
 }
 
 /// RST_STREAM of stream 1 with CANCEL.
 const CANCEL: &[u8] = b"\0\0\x04\x03\0\0\0\0\x01\0\0\0\x08";
 
-/// Whether a fetch ends so where these come in place of the last frame of the response, which has
-/// 15 octets.
+/// The response with these octets in place of its last frame, which has 15 octets.
+fn response_with(alloc: Global, last: &[u8]) -> Result<Vec<u8>, AllocError> {
+    let mut octets = Vec::from_slice(alloc, RESPONSE)?;
+    octets.truncate(RESPONSE.len().saturating_sub(15));
+    octets.extend_from_slice(last)?;
+    Ok(octets)
+}
+
+/// Whether a fetch ends so where these come in place of the last frame of the response.
 fn ends_with(alloc: Global, last: &[u8], error: LinkError) -> bool {
-    let Some(first) = RESPONSE.get(..RESPONSE.len().saturating_sub(15)) else {
+    let Ok(octets) = response_with(alloc, last) else {
         return false;
     };
     let hearing = Hearing::new(alloc, false);
-    hears(
-        alloc,
-        &[first, last],
-        7,
-        hearing,
-        1,
-        b"",
-        Err(FetchError::Link(error)),
-    )
+    let ended = Err(FetchError::Link(error));
+    hears(alloc, &octets, 7, hearing, 1, b"", ended)
 }
 
 // rule: engines (own) A handler hears a response part by part, as it comes
@@ -88,7 +98,7 @@ fn response_is_cut_off_or_reset(rt: HostRuntime) {
 /// Whether a request that breaks a rule is refused at once, with nothing written.
 fn is_refused_at_once(alloc: Global) -> bool {
     let mut hearing = Hearing::new(alloc, false);
-    let (Some(message), Ok(mut link)) = (request(alloc, true), link_of(alloc, &[], 1)) else {
+    let (Some(message), Ok(mut link)) = (request(alloc, true), link_of(alloc, b"", 1)) else {
         return false;
     };
     let ended = fetch_handler(alloc, &mut link, Config::default(), message, &mut hearing);

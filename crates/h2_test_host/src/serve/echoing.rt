@@ -2,7 +2,7 @@
 
 ghost use Rattle.std.specs.Prelude.{◌≡◌};
 
-use crate::serve::asked::{asked, link_of};
+use crate::asked::{asked, link_of};
 use h2_ends::{Config, Message};
 use h2_engines::{Link, LinkError, MemoryLink, serve_link};
 use h2_serve::serve_handler;
@@ -76,38 +76,11 @@ fn is_cut_off_as(alloc: Global) -> bool {
 }
 
 // rule: engines (own) A handler answers over any link
-// (A read of fewer octets than there is room for may be followed by one that waits.)
 #[test]
 fn as_serve_link_answers(rt: HostRuntime) {
-    for most in [1usize, 24, 16_383] {
+    for most in [1usize, 24, 16_383, 16_384] {
         assert!(rt; answers_as(rt.alloc(), most), "{most}");
     }
-}
-
-/// By how many octets the output is shorter than that of `serve_link` where reads fill their room;
-/// none where one of them fails.
-fn octets_saved(alloc: Global) -> Option<usize> {
-    let octets = all_asked(alloc)?;
-    let (Ok(mut first), Ok(mut second)) = (
-        link_of(alloc, &octets, 16_384),
-        link_of(alloc, &octets, 16_384),
-    ) else {
-        return None;
-    };
-    let served = serve_link(alloc, &mut first, Config::default());
-    let echoed = echoes(alloc, &mut second);
-    if served != Ok(4) || echoed != Ok(4) {
-        return None;
-    }
-    first.output().len().checked_sub(second.output().len())
-}
-
-// rule: 6.9 (own) Credit is returned by half of a window
-// Two WINDOW_UPDATE of 13 octets are saved for each read whose credit waits.
-#[test]
-fn credit_waits_for_half_of_a_window(rt: HostRuntime) {
-    let saved = octets_saved(rt.alloc()).unwrap_or(0);
-    assert!(rt; saved > 0 && saved % 26 == 0, "{saved}");
 }
 
 // rule: engines (own) A handler answers over any link

@@ -2,7 +2,7 @@
 
 ghost use Rattle.std.specs.Prelude.{◌≡◌};
 
-use crate::serve::asked::{asked, link_of, place_of};
+use crate::asked::{asked, link_of, place_of};
 use h2_ends::{Config, Message};
 use h2_engines::MemoryLink;
 use h2_serve::{Buffered, Field, HandlerFault, LinkError, Request, Service, serve_handler};

@@ -2,7 +2,7 @@
 
 ghost use Rattle.std.specs.Prelude.{◌≡◌};
 
-use crate::serve::asked::{asked, link_of, ok_head, place_of};
+use crate::asked::{asked, link_of, ok_head, place_of};
 use h2_ends::{Config, Message};
 use h2_engines::{Link, MemoryLink};
 use h2_serve::{Cause, FieldList, Handler, HandlerFault, Part, Reply, serve_handler};

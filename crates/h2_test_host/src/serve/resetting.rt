@@ -2,7 +2,7 @@
 
 ghost use Rattle.std.specs.Prelude.{◌≡◌};
 
-use crate::serve::asked::{link_of, output_of, place_of};
+use crate::asked::{link_of, output_of, place_of};
 use h2_ends::{Client, Config, Message};
 use h2_engines::{Link, MemoryLink};
 use h2_serve::serve_handler;

@@ -14,50 +14,50 @@ returns-in_err-input-clause-drives g c course end is sent =
     rw (answer.1, answer.2)
     (going_ends _ old _ c.in_err-input.ensures.err (drives_first _ old course end is sent).going)
 
-pub returns-in_err-write_out-clause-drives : goal.returns-in_err-write_out-clause-drives
-returns-in_err-write_out-clause-drives g c course end is sent =
-    let answer = err_from_is_err_and c.from_residual-in_err-write_out.result
-    c.from_residual-in_err-write_out.ensures.1 in
-    rw (answer.1, answer.2) (sent_last _ (g.M.Machine.held c.write_out.new.machine)
-    c.in_err-write_out.field-0.0 (c.loop.invariant.drives course end is sent)
-    c.in_err-write_out.ensures.kept c.in_err-write_out.ensures.writes
-    c.in_err-write_out.ensures.err)
+pub returns-in_err-write_all-clause-drives : goal.returns-in_err-write_all-clause-drives
+returns-in_err-write_all-clause-drives g c course end is sent =
+    let answer = err_from_is_err_and c.from_residual-in_err-write_all.result
+    c.from_residual-in_err-write_all.ensures.1 in
+    rw (answer.1, answer.2) (sent_last _ (g.M.Machine.held c.write_all.new.self)
+    c.in_err-write_all.field-0.0 (c.loop.invariant.drives course end is sent)
+    c.in_err-write_all.ensures.kept c.in_err-write_all.ensures.writes
+    c.in_err-write_all.ensures.err)
 
-pub returns-in_err-send_waiting-clause-drives : goal.returns-in_err-send_waiting-clause-drives
-returns-in_err-send_waiting-clause-drives g c course end is sent =
-    let answer = err_from_is_err_and c.from_residual-in_err-send_waiting.result
-    c.from_residual-in_err-send_waiting.ensures.1 in
-    let go = written_on (g.M.Machine.held c.write_out.new.machine)
-    (c.loop.invariant.drives course end is sent) c.in_ok-write_out.ensures.kept
-    c.in_ok-write_out.ensures.writes in
-    rw (answer.1, answer.2) (waiting_last (g.M.Machine.held c.send_waiting.new.machine) go
-    c.in_err-send_waiting.ensures.kept c.in_err-send_waiting.field-0.0
-    c.in_err-send_waiting.ensures.sends)
+pub returns-in_err-send-clause-drives : goal.returns-in_err-send-clause-drives
+returns-in_err-send-clause-drives g c course end is sent =
+    let answer = err_from_is_err_and c.from_residual-in_err-send.result
+    c.from_residual-in_err-send.ensures.1 in
+    let go = written_on (g.M.Machine.held c.write_all.new.self)
+    (c.loop.invariant.drives course end is sent) c.in_ok-write_all.ensures.kept
+    c.in_ok-write_all.ensures.writes in
+    rw (answer.1, answer.2) (waiting_last (g.M.Machine.held c.send.new.self) go
+    c.in_err-send.ensures.kept c.in_err-send.field-0.0
+    c.in_err-send.ensures.sends)
 
 pub loop-preserved-then-is_full : goal.loop-preserved-then-is_full
 loop-preserved-then-is_full g c =
     record {
-      failures = c.in_ok-write_out.ensures.failures ∙ c.loop.invariant.failures;
+      failures = c.in_ok-write_all.ensures.failures ∙ c.loop.invariant.failures;
       room = c.loop.invariant.room;
-      drives = λ course end is sent. waiting_on (g.M.Machine.held c.send_waiting.new.machine)
-          (written_on (g.M.Machine.held c.write_out.new.machine)
-          (c.loop.invariant.drives course end is sent) c.in_ok-write_out.ensures.kept
-          c.in_ok-write_out.ensures.writes) c.in_ok-send_waiting.ensures.kept
-          c.in_ok-send_waiting.ensures.sends;
+      drives = λ course end is sent. waiting_on (g.M.Machine.held c.send.new.self)
+          (written_on (g.M.Machine.held c.write_all.new.self)
+          (c.loop.invariant.drives course end is sent) c.in_ok-write_all.ensures.kept
+          c.in_ok-write_all.ensures.writes) c.in_ok-send.ensures.kept
+          c.in_ok-send.ensures.sends;
     }
 
 pub returns-then-count-eq0-clause-drives : goal.returns-then-count-eq0-clause-drives
 returns-then-count-eq0-clause-drives g c course end is sent =
-    let self = g.M.Machine.held c.write_out.new.machine in
+    let self = g.M.Machine.held c.write_all.new.self in
     let all = sent_on self (rw c.conn.ensures at c.waiting-is_full.ensures.count)
     c.if-is_full.false (c.loop.invariant.drives course end is sent)
-    c.in_ok-write_out.ensures.kept c.in_ok-write_out.ensures.writes in
+    c.in_ok-write_all.ensures.kept c.in_ok-write_all.ensures.writes in
     read_ends _ self all (gives_none _ _ c.read.new.buffer c.in_ok-count.count
     c.if-count-eq0.true c.in_ok-count.ensures.gives.1) c.in_ok-count.ensures.takes_none
 
 pub returns-then-count-eq0-clause-ended : goal.returns-then-count-eq0-clause-ended
 returns-then-count-eq0-clause-ended g c =
-    meets_end (g.L.Link.ended c.write_out.new.link) c.in_ok-count.ensures.ended
+    meets_end (g.L.Link.ended c.write_all.new.link) c.in_ok-count.ensures.ended
     c.if-count-eq0.true
     (c.deref_mut.ensures.len ∙ c.loop.input.ok.0 ∙ c.loop.invariant.room)
 
@@ -65,9 +65,9 @@ pub returns-in_err-count-clause-drives : goal.returns-in_err-count-clause-drives
 returns-in_err-count-clause-drives g c course end is sent =
     let answer = err_from_is_err_and c.from_residual-in_err-count.result
     c.from_residual-in_err-count.ensures.1 in
-    let self = g.M.Machine.held c.write_out.new.machine in
+    let self = g.M.Machine.held c.write_all.new.self in
     let go = written_on self (c.loop.invariant.drives course end is sent)
-    c.in_ok-write_out.ensures.kept c.in_ok-write_out.ensures.writes in
+    c.in_ok-write_all.ensures.kept c.in_ok-write_all.ensures.writes in
     rw (answer.1, answer.2)
     (read_fails _ self go c.in_err-count.ensures.gives c.in_err-count.ensures.takes_none)
 
@@ -75,9 +75,9 @@ pub returns-in_err-is_whole-clause-drives : goal.returns-in_err-is_whole-clause-
 returns-in_err-is_whole-clause-drives g c course end is sent =
     let answer = err_from_is_err_and c.from_residual-in_err-is_whole.result
     c.from_residual-in_err-is_whole.ensures.1 in
-    let go = written_on (g.M.Machine.held c.write_out.new.machine)
-    (c.loop.invariant.drives course end is sent) c.in_ok-write_out.ensures.kept
-    c.in_ok-write_out.ensures.writes in
+    let go = written_on (g.M.Machine.held c.write_all.new.self)
+    (c.loop.invariant.drives course end is sent) c.in_ok-write_all.ensures.kept
+    c.in_ok-write_all.ensures.writes in
     rw (answer.1, answer.2) (taken_last _ (g.M.Machine.held c.take_all.new.machine)
     (take c.in_ok-count.count c.deref.result.now) c.in_err-is_whole.field-0.0 (read_on _ go
     (gives_piece _ _ c.in_ok-count.count c.loop.input.len c.read.new.buffer
@@ -88,9 +88,9 @@ returns-in_err-is_whole-clause-drives g c course end is sent =
 
 pub returns-then-is_whole-clause-drives : goal.returns-then-is_whole-clause-drives
 returns-then-is_whole-clause-drives g c course end is sent =
-    let go = written_on (g.M.Machine.held c.write_out.new.machine)
-    (c.loop.invariant.drives course end is sent) c.in_ok-write_out.ensures.kept
-    c.in_ok-write_out.ensures.writes in
+    let go = written_on (g.M.Machine.held c.write_all.new.self)
+    (c.loop.invariant.drives course end is sent) c.in_ok-write_all.ensures.kept
+    c.in_ok-write_all.ensures.writes in
     taken_whole _ (g.M.Machine.held c.take_all.new.machine)
     (take c.in_ok-count.count c.deref.result.now) c.if-is_whole.true (read_on _ go
     (gives_piece _ _ c.in_ok-count.count c.loop.input.len c.read.new.buffer
@@ -98,20 +98,20 @@ returns-then-is_whole-clause-drives g c course end is sent =
     (c.in_ok-count.ensures.length ∙ c.deref_mut.ensures.len) c.in_ok-count.ensures.gives.1)
     c.in_ok-count.ensures.takes_none) c.in_ok-is_whole.ensures.takes
 
-pub returns-in_err-send_waiting-2-clause-drives : goal.returns-in_err-send_waiting-2-clause-drives
-returns-in_err-send_waiting-2-clause-drives g c course end is sent =
-    let answer = err_from_is_err_and c.from_residual-in_err-send_waiting-2.result
-    c.from_residual-in_err-send_waiting-2.ensures.1 in
-    let go = written_on (g.M.Machine.held c.write_out.new.machine)
-    (c.loop.invariant.drives course end is sent) c.in_ok-write_out.ensures.kept
-    c.in_ok-write_out.ensures.writes in
-    rw (answer.1, answer.2) (waiting_last (g.M.Machine.held c.send_waiting-in-loop.new.machine)
+pub returns-in_err-send-2-clause-drives : goal.returns-in_err-send-2-clause-drives
+returns-in_err-send-2-clause-drives g c course end is sent =
+    let answer = err_from_is_err_and c.from_residual-in_err-send-2.result
+    c.from_residual-in_err-send-2.ensures.1 in
+    let go = written_on (g.M.Machine.held c.write_all.new.self)
+    (c.loop.invariant.drives course end is sent) c.in_ok-write_all.ensures.kept
+    c.in_ok-write_all.ensures.writes in
+    rw (answer.1, answer.2) (waiting_last (g.M.Machine.held c.send-in-loop.new.self)
     (taken_on c.if-is_whole.false (read_on _ go (gives_piece _ _ c.in_ok-count.count
     c.loop.input.len c.read.new.buffer (drop (length c.read.new.buffer) c.loop.input.items)
     c.deref.result.now c.deref.ensures.value (c.in_ok-count.ensures.length
     ∙ c.deref_mut.ensures.len) c.in_ok-count.ensures.gives.1) c.in_ok-count.ensures.takes_none)
-    c.in_ok-is_whole.ensures.takes) c.in_err-send_waiting-2.ensures.kept
-    c.in_err-send_waiting-2.field-0.0 c.in_err-send_waiting-2.ensures.sends)
+    c.in_ok-is_whole.ensures.takes) c.in_err-send-2.ensures.kept
+    c.in_err-send-2.field-0.0 c.in_err-send-2.ensures.sends)
 
 pub returns-clause-drives : goal.returns-clause-drives
 returns-clause-drives g c course end is sent =
@@ -130,20 +130,20 @@ pub loop-preserved : goal.loop-preserved
 loop-preserved g c =
     record {
       failures = c.in_ok-is_whole.ensures.failures ∙ c.in_ok-count.ensures.failures
-          ∙ c.in_ok-write_out.ensures.failures ∙ c.loop.invariant.failures;
+          ∙ c.in_ok-write_all.ensures.failures ∙ c.loop.invariant.failures;
       room = sym
           (length_refill c.loop.input.len c.loop.input.items c.read.new.buffer c.loop.input.ok.0)
           ∙ c.loop.input.ok.0 ∙ c.loop.invariant.room;
       drives = λ course end is sent.
-          let go = written_on (g.M.Machine.held c.write_out.new.machine)
-          (c.loop.invariant.drives course end is sent) c.in_ok-write_out.ensures.kept
-          c.in_ok-write_out.ensures.writes in
-          waiting_on (g.M.Machine.held c.send_waiting-in-loop.new.machine) (taken_on
+          let go = written_on (g.M.Machine.held c.write_all.new.self)
+          (c.loop.invariant.drives course end is sent) c.in_ok-write_all.ensures.kept
+          c.in_ok-write_all.ensures.writes in
+          waiting_on (g.M.Machine.held c.send-in-loop.new.self) (taken_on
           c.if-is_whole.false (read_on _ go (gives_piece _ _ c.in_ok-count.count c.loop.input.len
           c.read.new.buffer (drop (length c.read.new.buffer) c.loop.input.items)
           c.deref.result.now c.deref.ensures.value (c.in_ok-count.ensures.length
           ∙ c.deref_mut.ensures.len) c.in_ok-count.ensures.gives.1)
           c.in_ok-count.ensures.takes_none)
-          c.in_ok-is_whole.ensures.takes) c.in_ok-send_waiting-2.ensures.kept
-          c.in_ok-send_waiting-2.ensures.sends;
+          c.in_ok-is_whole.ensures.takes) c.in_ok-send-2.ensures.kept
+          c.in_ok-send-2.ensures.sends;
     }

@@ -14,7 +14,7 @@ returns-then-not-writes-clause-ends g c =
 pub returns-in-Ok-clause-ends : goal.returns-in-Ok-clause-ends
 returns-in-Ok-clause-ends g c =
     let old = g.M.Machine.held c.args.machine.now in
-    rw c.if-not-writes.false (ends_written _ _ old (g.M.Machine.held c.write_out.new.machine)
+    rw c.if-not-writes.false (ends_written _ _ old (g.M.Machine.held c.write_all.new.self)
     c.args.error c.in-Ok.field-0 (end_down old.end c.failed.result
     (rw c.conn.ensures at c.failed.ensures) (sym c.is_some.ensures ∙ c.if-is_some.true))
     c.in-Ok.ensures.kept c.in-Ok.ensures.writes)
@@ -22,7 +22,7 @@ returns-in-Ok-clause-ends g c =
 pub returns-in-Err-clause-ends : goal.returns-in-Err-clause-ends
 returns-in-Err-clause-ends g c =
     let old = g.M.Machine.held c.args.machine.now in
-    rw c.if-not-writes.false (ends_not_written _ _ old (g.M.Machine.held c.write_out.new.machine)
+    rw c.if-not-writes.false (ends_not_written _ _ old (g.M.Machine.held c.write_all.new.self)
     c.args.error c.in-Err.unwritten (end_down old.end c.failed.result
     (rw c.conn.ensures at c.failed.ensures) (sym c.is_some.ensures ∙ c.if-is_some.true))
     c.in-Err.ensures.kept c.in-Err.ensures.writes c.in-Err.ensures.err)

@@ -3,20 +3,20 @@ use Rattle.h2_engines.proofs.Names.{refl, ap, ◌∙◌, arith, err_from_is_err_
 use Rattle.h2_engines.proofs.WithoutLinkPutOut.{machine_put, machine_refused, machine_unsent}
 use Rattle.h2_engines.proofs.machine.put_out.Goals as goal
 
-pub returns-in_err-send_waiting-clause-puts : goal.returns-in_err-send_waiting-clause-puts
-returns-in_err-send_waiting-clause-puts g c =
+pub returns-in_err-send-clause-puts : goal.returns-in_err-send-clause-puts
+returns-in_err-send-clause-puts g c =
     let answer = err_from_is_err_and c.from_residual.result c.from_residual.ensures.1 in
     rw (answer.1, answer.2)
     (machine_unsent (g.M.Machine.held c.args.machine.now)
-    (g.M.Machine.held c.send_waiting.new.machine) c.args.count _ _
-    c.in_err-send_waiting.field-0.0 c.in_err-send_waiting.ensures.sends refl)
+    (g.M.Machine.held c.send.new.self) c.args.count _ _
+    c.in_err-send.field-0.0 c.in_err-send.ensures.sends refl)
 
 pub returns-clause-puts : goal.returns-clause-puts
 returns-clause-puts g c =
-    machine_put (g.M.Machine.held c.args.machine.now) (g.M.Machine.held c.send_waiting.new.machine)
+    machine_put (g.M.Machine.held c.args.machine.now) (g.M.Machine.held c.send.new.self)
     (g.M.Machine.held c.give_out.new.self) c.args.count c.in_ok-given.given c.args.out.now.items
-    c.give_out.new.out.items c.in_ok-send_waiting.field-0 (omega arith)
-    c.in_ok-send_waiting.ensures.sends (rw c.in_ok-given.ensures.ok at c.give_out.ensures.answers)
+    c.give_out.new.out.items c.in_ok-send.field-0 (omega arith)
+    c.in_ok-send.ensures.sends (rw c.in_ok-given.ensures.ok at c.give_out.ensures.answers)
     (rw c.in_ok-given.ensures.ok at c.give_out.ensures.ok)
 
 pub returns-in_err-given-clause-puts : goal.returns-in_err-given-clause-puts
@@ -25,7 +25,7 @@ returns-in_err-given-clause-puts g c =
     c.from_residual-in_err-given.ensures.1 in
     let (refused, refusal, same, made, ends) = c.in_err-given.ensures.err in
     rw (answer.1, answer.2) (machine_refused (g.M.Machine.held c.args.machine.now)
-    (g.M.Machine.held c.send_waiting.new.machine) (g.M.Machine.held c.give_out.new.self)
-    c.args.count refused c.in_ok-send_waiting.field-0 (omega arith)
-    c.in_ok-send_waiting.ensures.sends (rw same at c.give_out.ensures.answers)
+    (g.M.Machine.held c.send.new.self) (g.M.Machine.held c.give_out.new.self)
+    c.args.count refused c.in_ok-send.field-0 (omega arith)
+    c.in_ok-send.ensures.sends (rw same at c.give_out.ensures.answers)
     (ends ∙ ap error_after made) (rw same at c.give_out.ensures.err))

@@ -11,10 +11,10 @@ returns-in_err-send_all-clause-reads g c =
     rw (answer.1, answer.2) (read_unsent c.args.credit _ _ _ _ _ c.in_err-send_all.field-0.0
     c.in_err-send_all.ensures.err c.in_err-send_all.ensures.sends)
 
-pub returns-in_err-resize-clause-reads : goal.returns-in_err-resize-clause-reads
-returns-in_err-resize-clause-reads g c =
-    let answer = err_from_is_err_and c.from_residual-in_err-resize.result
-    c.from_residual-in_err-resize.ensures.1 in
+pub returns-in_err-make_buffer-clause-reads : goal.returns-in_err-make_buffer-clause-reads
+returns-in_err-make_buffer-clause-reads g c =
+    let answer = err_from_is_err_and c.from_residual-in_err-make_buffer.result
+    c.from_residual-in_err-make_buffer.ensures.1 in
     rw (answer.1, answer.2) (read_fails c.args.credit _ _ _ _ _ tt (Appends-nil _)
     c.in_ok-send_all.ensures.sends _ (Appends-nil _) errors.Memory (λ start end up. inl (inl up)))
 
@@ -35,6 +35,6 @@ returns-then-count-eq0-clause-reads g c =
 pub returns-clause-reads : goal.returns-clause-reads
 returns-clause-reads g c =
     read_some c.args.credit _ _ _ _ _ tt c.in_ok-count.ensures.takes_none
-    c.in_ok-send_all.ensures.sends _ (rw c.truncate.ensures.items (gives_piece _ _
-    c.in_ok-count.count c.resize.new.self.len c.read.new.buffer _ _ refl
-    (c.in_ok-count.ensures.length ∙ c.deref_mut.ensures.len) c.in_ok-count.ensures.gives.1))
+    c.in_ok-send_all.ensures.sends _ c.in_ok-count.count (gives_piece _ _ c.in_ok-count.count
+    c.make_buffer.new.buffer.len c.read.new.buffer _ _ refl
+    (c.in_ok-count.ensures.length ∙ c.deref_mut.ensures.len) c.in_ok-count.ensures.gives.1)

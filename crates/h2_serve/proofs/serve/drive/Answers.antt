@@ -1,9 +1,8 @@
 -- In each round what can be sent is written, and octets are read and taken.
-use Rattle.h2_engines.proofs.Names.{ℕ, refl, sym, ◌<◌, ◌∙◌, arith, length, subst}
+use Rattle.h2_engines.proofs.Names.{Ok, ap, refl, sym, ◌∙◌, arith, length}
 use Rattle.h2_engines.proofs.Names.{err_from_is_err_and}
 use Rattle.h2_engines.proofs.MachineDrives.{gives_none}
 use Rattle.h2_link.specs.declared.error.LinkError.TheVariants as errors
-use Rattle.h2_serve.proofs.ServedEnds.{ends_input}
 use Rattle.h2_serve.proofs.Serving.{serves_now, serving_still, stops_out, stops_so, written_still}
 use Rattle.h2_serve.proofs.serve.drive.Goals as goal
 
@@ -28,15 +27,13 @@ returns-in_err-count-clause-drives g c =
 
 pub returns-then-count-eq0-clause-drives : goal.returns-then-count-eq0-clause-drives
 returns-then-count-eq0-clause-drives g c begin was =
-    written_still (gives_none _ _ c.read.new.buffer c.in_ok-count.count
+    written_still (gives_none _ _ c.read_some.new.input c.in_ok-count.count
     c.if-count-eq0.true c.in_ok-count.ensures.gives.1) c.in_ok-count.ensures.takes_none
     (c.in_ok-send_all.ensures.sends begin (c.loop.invariant.drives begin was).serving).0
 
 pub returns-then-count-eq0-clause-ended : goal.returns-then-count-eq0-clause-ended
 returns-then-count-eq0-clause-ended g c =
-    ends_input (g.L.Link.ended c.send_all.new.link) _ c.in_ok-count.ensures.ended
-    c.if-count-eq0.true
-    (subst (λ (n : ℕ). 0 < n) (sym c.loop.invariant.room) c.requires.some)
+    c.in_ok-count.ensures.ended (ap Ok c.if-count-eq0.true)
 
 pub loop-preserved : goal.loop-preserved
 loop-preserved g c =

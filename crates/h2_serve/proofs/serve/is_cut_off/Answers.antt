@@ -1,9 +1,13 @@
 -- By what a connection answers of itself.
-use Rattle.h2_serve.proofs.ServedEnds.{cut_off_so}
+use Rattle.h2_engines.proofs.Names.{inl}
+use Rattle.h2_serve.proofs.ServedEnds.{block_so}
 use Rattle.h2_serve.proofs.serve.is_cut_off.Goals as goal
 
-pub returns-else-held-gt0 : goal.returns-else-held-gt0
-returns-else-held-gt0 c values log is up =
-    cut_off_so log c.held.result c.next_live.result c.is_some.result
-    (c.held.ensures.value values log is) c.if-held-gt0.false
-    (c.next_live.ensures.number values log is) c.is_some.ensures up
+pub returns-else-is_unfinished : goal.returns-else-is_unfinished
+returns-else-is_unfinished c values log is up =
+    block_so log c.block_stream.result c.is_some.result (c.block_stream.ensures values log is)
+    c.is_some.ensures up (c.if-is_unfinished.ensures values log is up)
+
+pub returns-then-is_unfinished : goal.returns-then-is_unfinished
+returns-then-is_unfinished c values log is up =
+    rw c.if-is_unfinished.true (inl (c.if-is_unfinished.ensures values log is up))

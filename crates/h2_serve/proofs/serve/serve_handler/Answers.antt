@@ -69,7 +69,7 @@ returns-in_err-driven-clause-serves g c =
     let stopped = c.in_err-driven.ensures.drives begin first in
     rw (answer.1, answer.2) (has_stopped c.drive-driven.new.connection c.lose.new.self
     c.in_err-driven.field-0.0 stopped (is_lost c.drive-driven.new.connection c.lose.new.self
-    c.lose.ensures.calls c.lose.ensures.over stopped.told))
+    c.lose.ensures.calls c.lose.ensures.loses c.lose.ensures.over stopped.told))
 
 pub returns-in_err-driven-clause-cut_off : goal.returns-in_err-driven-clause-cut_off
 returns-in_err-driven-clause-cut_off g c =
@@ -103,8 +103,8 @@ returns-clause-serves g c =
     c.in-Ok.ensures.kept c.in-Ok.ensures.phase in
     let written = c.in_ok-driven.ensures.drives begin first in
     has_served c.drive-driven.new.connection c.lose.new.self written
-    (is_lost c.drive-driven.new.connection c.lose.new.self c.lose.ensures.calls c.lose.ensures.over
-    written.serving.told) c.count_of-served.result c.count_of-served.ensures
+    (is_lost c.drive-driven.new.connection c.lose.new.self c.lose.ensures.calls c.lose.ensures.loses
+    c.lose.ensures.over written.serving.told) c.count_of-served.result c.count_of-served.ensures
 
 pub returns-clause-ended : goal.returns-clause-ended
 returns-clause-ended g c = ends_well c.count_of-served.result _ c.in_ok-driven.ensures.ended

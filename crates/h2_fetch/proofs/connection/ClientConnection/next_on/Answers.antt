@@ -5,10 +5,10 @@ use Rattle.h2_fetch.proofs.connection.ClientConnection.next_on.Goals as goal
 
 pub returns-in-Some-clause-next : goal.returns-in-Some-clause-next
 returns-in-Some-clause-next g c =
-    answers_kept _ c.args.self.now _ c.args.id refl refl refl c.in-Some.came
+    answers_kept _ c.args.self.now _ c.args.id refl refl c.in-Some.came
     c.in-Some.ensures
 
 pub returns-in-None-clause-next : goal.returns-in-None-clause-next
 returns-in-None-clause-next g c =
-    answers_later _ c.args.self.now _ c.args.id refl refl refl _ c.wait_for.new.self
+    answers_later _ c.args.self.now _ c.args.id refl refl _ c.wait_for.new.self
     c.wait_for.result c.in-None.ensures c.wait_for.ensures.waits

@@ -6,4 +6,4 @@ use Rattle.h2_fetch.proofs.connection.ClientConnection.widen.Goals as goal
 pub returns : goal.returns
 returns c =
     widens_several c.args.count c.widen.result c.args.self.now _ (omega arith) c.widen.ensures refl
-    refl refl
+    refl

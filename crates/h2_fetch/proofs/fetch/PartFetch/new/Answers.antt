@@ -1,5 +1,5 @@
 -- By the lemmas on a new client's request.
-use Rattle.h2_engines.proofs.Names.{◌≡◌, rules, Malformed, message_value, error_after, ◌≢◌}
+use Rattle.h2_engines.proofs.Names.{◌≡◌, rules, Malformed, message_value, error_after, ◌≢◌, refl}
 use Rattle.h2_engines.proofs.FetcherStart.{refused_as_broken, refused_as_large}
 use Rattle.h2_engines.proofs.FetcherStart.{refused_otherwise}
 use Rattle.h2_engines.proofs.ResponderFaults.{call_ends_client}
@@ -11,7 +11,7 @@ use Rattle.h2_fetch.proofs.fetch.PartFetch.new.Goals as goal
 pub returns-in-Ok-request-clause-ok : goal.returns-in-Ok-request-clause-ok
 returns-in-Ok-request-clause-ok c =
     begins_fetch (message_value c.args.message) _ c.args.config.in_range c.in-Ok.ensures.ok
-    c.in-Ok-request.ensures c.new-in-Ok-request.ensures.items
+    c.in-Ok-request.ensures refl
 
 pub returns-in-Err-default-BadMessage-clause-refused :
     goal.returns-in-Err-default-BadMessage-clause-refused

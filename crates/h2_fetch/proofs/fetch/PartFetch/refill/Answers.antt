@@ -1,11 +1,18 @@
 -- By the lemma on a piece that is read.
-use Rattle.h2_engines.proofs.Names.{refl, ◌∙◌}
+use Rattle.h2_engines.proofs.Names.{Ok, Err, refl, err_from_is_err_and}
 use Rattle.h2_fetch.proofs.Refilling.{refilled}
 use Rattle.h2_fetch.proofs.fetch.PartFetch.refill.Goals as goal
 
+pub returns-in_err-self-clause-refills : goal.returns-in_err-self-clause-refills
+returns-in_err-self-clause-refills g c =
+    let answer = err_from_is_err_and c.from_residual.result c.from_residual.ensures.1 in
+    rw (answer.1, answer.2) (refilled _ _ c.args.self.now _ _ _
+    (Err c.in_err-self.field-0.0) refl tt refl
+    (rw c.conn.ensures at c.credit_before-credit.ensures)
+    c.in_err-self.ensures.reads)
+
 pub returns-clause-refills : goal.returns-clause-refills
 returns-clause-refills g c =
-    refilled _ _ c.args.self.now _ c.len-last.result _ c.read_piece.result refl refl
-    (c.len-last.ensures ∙ c.args.self.now.input.ok.0)
+    refilled _ _ c.args.self.now _ _ _ (Ok c.in_ok-self.field-0) refl (refl, refl) refl
     (rw c.conn.ensures at c.credit_before-credit.ensures)
-    c.read_piece.ensures.reads
+    c.in_ok-self.ensures.reads

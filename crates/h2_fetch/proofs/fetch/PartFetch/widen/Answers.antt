@@ -6,4 +6,4 @@ use Rattle.h2_fetch.proofs.fetch.PartFetch.widen.Goals as goal
 pub returns-clause-widens : goal.returns-clause-widens
 returns-clause-widens c =
     widens_fetch c.args.count c.widen.result c.args.self.now _ (omega arith) c.widen.ensures refl
-    refl refl
+    refl

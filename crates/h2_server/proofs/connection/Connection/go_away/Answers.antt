@@ -1,10 +1,14 @@
 use Rattle.std.proofs.Common.{◌∙◌, ap, inl, inr, refl, sym}
+use Rattle.std.proofs.lemmas.Bool.{false≢true}
 use Rattle.h2_server.specs.Exchanges.{handling_of}
 use Rattle.h2_server.specs.Phases.{is_phase_down}
+use Rattle.h2_server.specs.declared.connection.Phase.TheVariants as phases
 use Rattle.h2_server.proofs.FailingPhase.{call_failing, up_failing}
 use Rattle.h2_server.proofs.ConnectionSteps.{handles_then, own_handles, own_same}
 use Rattle.h2_server.proofs.StepsMade.{called_handles}
 use Rattle.h2_server.proofs.Changed.{away_done, away_refused}
+use Rattle.h2_server.proofs.FailingCodes.{away_up_so, down_up_so}
+use Rattle.h2_server.proofs.connection.Connection.go_away.Goals.{in-Open, in_default}
 use Rattle.h2_server.proofs.connection.Connection.go_away.Goals as goal
 
 pub returns-then-not-matches-clause-makes : goal.returns-then-not-matches-clause-makes
@@ -53,3 +57,23 @@ returns-then-is_err-clause-kept g c = inl (ap is_phase_down c.fail.ensures.phase
 
 pub returns-clause-kept : goal.returns-clause-kept
 returns-clause-kept g c = inr refl
+
+pub returns-then-not-matches-clause-up : goal.returns-then-not-matches-clause-up
+returns-then-not-matches-clause-up g c = λ values end is up. up
+
+pub returns-then-is_err-clause-up : goal.returns-then-is_err-clause-up
+returns-then-is_err-clause-up g c =
+    down_up_so c.args.self.now c.fail.new.self (ap is_phase_down c.fail.ensures.phase)
+
+pub returns-clause-up : goal.returns-clause-up
+returns-clause-up g c =
+    let old = c.args.self.now in
+    away_up_so old (record old {
+      server = c.go_away.new.self;
+      phase = phases.Ending c.args.why old.watch.time;
+    })
+    (away_done c.go_away.result (sym c.is_err.ensures.value ∙ c.if-is_err.false)
+    c.go_away.ensures) (elim c.match-matches.branch [
+      | in-Open w ↦ ap is_phase_down w.in-Open.is
+      | in_default w ↦ absurd (false≢true (sym w.matches-is ∙ c.if-not-matches.false))
+    ])

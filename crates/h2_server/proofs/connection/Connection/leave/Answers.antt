@@ -1,5 +1,6 @@
 use Rattle.h2_server.proofs.ConnectionSteps.{own_counted}
 use Rattle.h2_server.proofs.Changed.{counted_away, told_counted}
+use Rattle.h2_server.proofs.FailingCodes.{up_counted}
 use Rattle.h2_server.proofs.connection.Connection.leave.Goals as goal
 
 pub returns : goal.returns
@@ -14,6 +15,9 @@ returns g c =
       told = told_counted c.args.self.now c.go_away.new.self c.count.new.self
           same c.go_away.ensures.told;
       phase = rw same c.go_away.ensures.phase;
+      up = λ values end is was.
+          up_counted c.go_away.new.self c.count.new.self same
+          (c.go_away.ensures.up values end is was);
       readiness = rw same c.go_away.ensures.readiness;
       watch = rw same c.go_away.ensures.watch;
       counted = c.count.ensures.counted;

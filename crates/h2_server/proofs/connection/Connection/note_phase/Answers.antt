@@ -3,6 +3,7 @@ use Rattle.h2_server.specs.declared.connection.Phase.{Phase}
 use Rattle.h2_server.specs.Connections.{NotesPhaseFrom, has_moved}
 use Rattle.h2_server.proofs.ConnectionSteps.{own_same}
 use Rattle.h2_server.proofs.Changed.{notes_ending, notes_failing, own_watched}
+use Rattle.h2_server.proofs.FailingCodes.{code_moved}
 use Rattle.h2_server.proofs.connection.Connection.note_phase.Goals as goal
 
 pub returns-in-Ending-clause-makes : goal.returns-in-Ending-clause-makes
@@ -33,3 +34,8 @@ returns-in-Failing-clause-phase g c =
 
 pub returns-in-Over-clause-makes : goal.returns-in-Over-clause-makes
 returns-in-Over-clause-makes g c = own_same _ _ refl refl refl (λ is. is)
+
+pub returns-in-Ending-clause-code : goal.returns-in-Ending-clause-code
+returns-in-Ending-clause-code g c =
+    λ up. code_moved c.args.self.now c.restarted-since.new.self c.note_ending.new.self _
+    c.restarted-since.ensures.rest c.note_ending.ensures.code

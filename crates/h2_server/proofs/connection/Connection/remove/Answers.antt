@@ -6,7 +6,7 @@ use Rattle.h2_server.specs.Phases.{is_phase_down, is_phase_over}
 use Rattle.h2_server.proofs.FailingPhase.{call_failing}
 use Rattle.h2_server.proofs.ConnectionSteps.{own_gives, own_same, own_then}
 use Rattle.h2_server.proofs.GoneOutput.{gone_size, removed_gives, unremoved_gives}
-use Rattle.h2_server.proofs.TurnsMade.{wrote_none, wrote_refused, wrote_some}
+use Rattle.h2_server.proofs.TurnsMade.{removed_up, wrote_none, wrote_refused, wrote_some}
 use Rattle.h2_server.proofs.connection.Connection.remove.Goals as goal
 
 pub returns-then-is_over-clause-makes : goal.returns-then-is_over-clause-makes
@@ -80,3 +80,10 @@ returns-clause-wrote g c =
     c.consume.result (sym c.is_err.ensures.value ∙ c.if-is_err.false)
     c.consume.ensures.answers queued c.min-gone.ensures) refl refl
     (call_failing _ _ _ _ c.consume.ensures.answers (λ is. is)))
+
+pub returns-clause-up : goal.returns-clause-up
+returns-clause-up g c =
+    removed_up c.args.count c.min-gone.result c.waiting.result c.args.self.now
+    (record c.args.self.now { server = c.consume.new.self }) c.consume.result
+    (sym c.is_err.ensures.value ∙ c.if-is_err.false) c.consume.ensures.answers
+    (rw c.conn.ensures at c.waiting.ensures.queued) c.min-gone.ensures refl refl

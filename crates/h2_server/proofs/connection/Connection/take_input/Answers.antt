@@ -6,6 +6,10 @@ use Rattle.h2_server.specs.Phases.{is_phase_down}
 use Rattle.h2_server.proofs.FailingPhase.{up_failing}
 use Rattle.h2_server.proofs.ConnectionSteps.{drops, kept_order, stops_then, uses_kept, uses_then}
 use Rattle.h2_server.proofs.Turned.{kept_appended}
+use Rattle.std.proofs.Common.{Err}
+use Rattle.h2_server.specs.Phases.{is_phase_failing}
+use Rattle.h2_server.proofs.FailingCodes.{goes_on, not_failing, stopped_at, was_down}
+use Rattle.h2_server.proofs.StepsMade.{piece_handles}
 use Rattle.h2_server.proofs.connection.Connection.take_input.Goals as goal
 
 pub returns-then-is_down-clause-makes : goal.returns-then-is_down-clause-makes
@@ -15,7 +19,7 @@ returns-then-is_down-clause-makes g c =
 pub returns-in-Err-clause-makes : goal.returns-in-Err-clause-makes
 returns-in-Err-clause-makes g c =
     stops_then c.args.self.now c.take_first.new.self _ c.args.octets.now c.args.octets.now
-    c.in-Err.stop _ (ap (λ (kept : List ℕ). kept ++ c.args.octets.now) c.in-Err.ensures.none)
+    c.in-Err.stop (ap (λ (kept : List ℕ). kept ++ c.args.octets.now) c.in-Err.ensures.none)
     c.in-Err.ensures.piece
     (up_failing _ _ (ap is_phase_down c.take_first.ensures.phase
     ∙ sym c.is_down.ensures ∙ c.if-is_down.false)) c.stop.ensures.makes c.stop.ensures.phase
@@ -43,3 +47,22 @@ returns-else-is_err-clause-makes g c =
     c.in-Ok.ensures.kept)
     (up_failing _ _ (ap is_phase_down c.take_first.ensures.phase
     ∙ sym c.is_down.ensures ∙ c.if-is_down.false))
+
+pub returns-then-is_down-clause-stopped : goal.returns-then-is_down-clause-stopped
+returns-then-is_down-clause-stopped g c =
+    was_down c.args.self.now _ (sym c.is_down.ensures ∙ c.if-is_down.true)
+
+pub returns-in-Err-clause-stopped : goal.returns-in-Err-clause-stopped
+returns-in-Err-clause-stopped g c =
+    stopped_at c.args.self.now c.take_first.new.self c.stop.new.self
+    (piece_handles c.args.octets.now (Err c.in-Err.stop) c.in-Err.ensures.piece)
+    c.stop.ensures.code
+
+pub returns-then-is_err-clause-stopped : goal.returns-then-is_err-clause-stopped
+returns-then-is_err-clause-stopped g c =
+    not_failing c.args.self.now c.refuse.new.self (ap is_phase_failing c.refuse.ensures.phase)
+
+pub returns-else-is_err-clause-stopped : goal.returns-else-is_err-clause-stopped
+returns-else-is_err-clause-stopped g c =
+    goes_on c.args.self.now _ (ap is_phase_down c.take_first.ensures.phase
+    ∙ sym c.is_down.ensures ∙ c.if-is_down.false)

@@ -5,6 +5,9 @@ use Rattle.h2_server.proofs.ConnectionSteps.{stops_then, uses_then}
 use Rattle.h2_server.proofs.TurnsMade.{turns_after, turns_down}
 use Rattle.h2_server.specs.Phases.{is_phase_down}
 use Rattle.h2_server.proofs.ConnectionSteps.{stopped_down}
+use Rattle.std.proofs.Common.{Err}
+use Rattle.h2_server.proofs.FailingCodes.{stopped_after, stopped_at}
+use Rattle.h2_server.proofs.StepsMade.{any_handles, piece_handles}
 use Rattle.h2_server.proofs.connection.Connection.turn.Goals as goal
 
 pub returns-in-Ok-clause-makes : goal.returns-in-Ok-clause-makes
@@ -19,7 +22,7 @@ returns-in-Ok-clause-makes g c =
 pub returns-in-Err-clause-makes : goal.returns-in-Err-clause-makes
 returns-in-Err-clause-makes g c =
     let kept = input_kept c.args.self.now in
-    stops_then c.args.self.now c.take_waiting.new.self _ [] kept c.in-Err.stop _
+    stops_then c.args.self.now c.take_waiting.new.self _ [] kept c.in-Err.stop
     (append-nil kept) c.in-Err.ensures.takes
     (same_failing _ _ c.take_waiting.ensures.same c.take_waiting.ensures.phase) c.stop.ensures.makes
     c.stop.ensures.phase
@@ -31,4 +34,17 @@ returns-in-Ok-clause-turns g c =
 
 pub returns-in-Err-clause-turns : goal.returns-in-Err-clause-turns
 returns-in-Err-clause-turns g c =
-    turns_down _ _ (ap is_phase_down c.stop.ensures.phase ∙ stopped_down c.in-Err.stop _)
+    let (failed, so, phase) = c.stop.ensures.phase in
+    turns_down _ _ (ap is_phase_down phase ∙ stopped_down c.in-Err.stop failed _)
+
+pub returns-in-Ok-clause-stopped : goal.returns-in-Ok-clause-stopped
+returns-in-Ok-clause-stopped g c =
+    let (used, handles, split) = c.in-Ok.ensures.takes in
+    stopped_after c.args.self.now c.take_waiting.new.self c.send.new.self (any_handles handles)
+    c.take_waiting.ensures.phase c.send.ensures.stopped
+
+pub returns-in-Err-clause-stopped : goal.returns-in-Err-clause-stopped
+returns-in-Err-clause-stopped g c =
+    stopped_at c.args.self.now c.take_waiting.new.self c.stop.new.self
+    (piece_handles (input_kept c.args.self.now) (Err c.in-Err.stop) c.in-Err.ensures.takes)
+    c.stop.ensures.code

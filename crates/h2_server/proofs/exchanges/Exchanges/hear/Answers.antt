@@ -10,8 +10,7 @@ use Rattle.h2_server.proofs.exchanges.Exchanges.hear.Goals as goal
 
 pub returns-in-Err-clause-err : goal.returns-in-Err-clause-err
 returns-in-Err-clause-err g c =
-    failed_handles (handling_of c.args.self.now) c.args.piece.now c.in-Err.fault
-    (Failed c.in-Err.fault.code)
+    failed_handles (handling_of c.args.self.now) c.args.piece.now _ Failed
     (rw c.in-Err.is at c.take.follows.holds-at-none)
 
 pub returns-in_err-due-in-Some-clause-err : goal.returns-in_err-due-in-Some-clause-err

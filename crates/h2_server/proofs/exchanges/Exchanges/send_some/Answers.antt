@@ -3,8 +3,8 @@ use Rattle.h2_server.proofs.CreditSteps.{then_credit_on}
 use Rattle.h2_server.proofs.StepsMade.{nothing_handles, then_handles}
 use Rattle.h2_server.proofs.exchanges.Exchanges.send_some.Goals as goal
 
-pub returns-in-Some-clause-handles : goal.returns-in-Some-clause-handles
-returns-in-Some-clause-handles g c =
+pub returns-then-is_some-clause-handles : goal.returns-then-is_some-clause-handles
+returns-then-is_some-clause-handles g c =
     nothing_handles c.args.server.now.end (handling_of c.args.self.now)
 
 pub returns-in_err-give_waiting-clause-handles : goal.returns-in_err-give_waiting-clause-handles
