@@ -4,14 +4,14 @@
  *
  * It ends with 0 where it is. Each client gives a request with a body, and the server answers with
  * the same octets; blocks of fields are encoded and decoded. In between places are used wrongly,
- * which they refuse. */
+ * which they refuse. Before all that a client widens its window, and gets more at once. */
 #include "belkjoef.h"
 #include <malloc.h>
 #include <stdio.h>
 #include <stdlib.h>
 #include <string.h>
 
-enum { PIECE = 16384, BODY = 1000, START = 100 };
+enum { PIECE = 16384, BODY = 1000, START = 100, FIRST = 65535, MORE = 100000 };
 
 static void check(const char *what, int error) {
   const char *text;
@@ -94,6 +94,59 @@ static void in_parts(bj_end *client, bj_end *server, const bj_field *asks) {
   want("SETTINGS", (int)asked, 1);
   want("an open block", bj_block_stream(server, &stream), BJ_NONE);
   want("the peer's greatest frame", (int)settings.max_frame, 16384);
+}
+
+/* Carries all that may be sent from one end to another, which returns no credit. Returns how many
+ * octets of bodies come. */
+static size_t carry_kept(bj_end *from, bj_end *to) {
+  static uint8_t piece[PIECE];
+  size_t count, sent, all = 0;
+  for (;;) {
+    bj_event event;
+    size_t at = 0;
+    check("pump", bj_pump(from, &sent));
+    check("put_out", bj_put_out(from, piece, sizeof(piece), &count));
+    if (count == 0)
+      return all;
+    do {
+      check("take", bj_take(to, piece + at, count - at, &event));
+      at += event.used;
+      if (event.kind == BJ_BODY)
+        all += event.length;
+    } while (at < count || event.kind != BJ_NOTHING);
+  }
+}
+
+/* A client that widens its window: a server sends 65,535 octets and as many more before any credit
+ * comes back, and the next one after that. */
+static void widened(void) {
+  static const bj_field asks[] = {BJ_FIELD(":method", "GET"), BJ_FIELD(":scheme", "http"),
+                                  BJ_FIELD(":path", "/"), BJ_FIELD("user-agent", "churn")};
+  static const bj_field answers[] = {BJ_FIELD(":status", "200"), BJ_FIELD("server", "churn")};
+  static uint8_t body[FIRST + MORE + 1];
+  bj_end client = BJ_EMPTY_PLACE, server = BJ_EMPTY_PLACE;
+  bj_config config;
+  uint32_t stream, granted;
+  size_t unsent;
+  bj_config_default(&config);
+  config.initial_window = sizeof(body);
+  check("client", bj_client_new(&config, &client));
+  check("server", bj_server_new(&config, &server));
+  want("a window of nothing more", bj_widen(&client, 0), BJ_WINDOW_TOO_LARGE);
+  check("widen", bj_widen(&client, MORE));
+  check("granted", bj_granted(&client, &granted));
+  want("what is granted", (int)granted, FIRST + MORE);
+  check("request", bj_request(&client, asks, 4, BJ_NO_OCTETS, &stream));
+  carry_kept(&client, &server);
+  check("respond", bj_respond(&server, stream, answers, 2, body, sizeof(body)));
+  want("what comes at once", (int)carry_kept(&server, &client), FIRST + MORE);
+  check("unsent", bj_unsent(&server, stream, &unsent));
+  want("what waits", (int)unsent, 1);
+  check("release_all", bj_release_all(&client));
+  carry_kept(&client, &server);
+  want("what comes then", (int)carry_kept(&server, &client), 1);
+  check("free", bj_free(&client));
+  check("free", bj_free(&server));
 }
 
 /* Blocks of fields, encoded and decoded. */
@@ -234,6 +287,7 @@ int main(int count, char **words) {
   bj_config config;
   bj_config_default(&config);
   memset(body, 'b', sizeof(body));
+  widened();
   size_t before = 0;
   for (long i = 0; i < START + times; i++) {
     if (i == START)

@@ -177,6 +177,24 @@ fn a_long_body_waits_for_windows() {
 }
 
 #[test]
+fn a_wider_window_lets_more_come_at_once() {
+    let mut pair = Pair::new(&Config { initial_window: 200_000, ..Config::default() });
+    assert_eq!(pair.server.widen(0), Err(Error::WindowTooLarge));
+    assert_eq!(pair.server.widen(100_000), Ok(()));
+    assert_eq!(pair.server.granted(), 165_535);
+    assert_eq!(pair.down(), []);
+    assert_eq!(pair.client.room(0), Some(165_535));
+    let stream = pair.client.request(&fields(&POST), &[7; 200_000]).unwrap();
+    assert_eq!(bodies(&pair.up()).len(), 165_535);
+    assert_eq!(pair.client.unsent(stream), 34_465);
+    assert_eq!(pair.down(), []); // nothing is released
+    assert_eq!(bodies(&pair.up()).len(), 0);
+    pair.server.release_all().unwrap();
+    pair.down();
+    assert_eq!(bodies(&pair.up()).len(), 34_465);
+}
+
+#[test]
 fn a_release_is_of_what_is_owed() {
     let mut pair = Pair::new(&Config::default());
     let stream = pair.client.request(&fields(&POST), &[7; 100]).unwrap();

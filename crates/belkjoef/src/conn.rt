@@ -146,7 +146,10 @@ fn make(alloc: Global, conn: Conn, place: &mut BjConn) -> i32
             place.keep(held);
             OK
         }
-        Err(_) => MEMORY,
+        Err(failed) => {
+            drop(failed);
+            MEMORY
+        }
     }
 }
 

@@ -107,6 +107,9 @@ fn make(alloc: Global, side: Side, end: &mut BjEnd) -> i32
             end.keep(held);
             OK
         }
-        Err(_) => MEMORY,
+        Err(failed) => {
+            drop(failed);
+            MEMORY
+        }
     }
 }

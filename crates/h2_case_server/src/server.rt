@@ -10,7 +10,7 @@
 //!   client sends the preface and SETTINGS without values, and the output is taken away.
 //! - `send OCTETS`: the client sends octets, as `take` of one end of a connection has them
 //!   (`h2_case_conn::conn`). Then the host gives turns as `h2_mio` does, until no connection is
-//!   ready: a read of at most 16,384 octets, the act, and at most 16 writes. `send slowly OCTETS`:
+//!   ready: a read (of two frames at most), the act, and at most 16 writes. `send slowly OCTETS`:
 //!   one octet after another, with turns after each. `client`: the preface, and SETTINGS without
 //!   values. `queue OCTETS`: nobody has a turn yet. `turns N`: at most N turns are given; the names
 //!   of the clients that have them.

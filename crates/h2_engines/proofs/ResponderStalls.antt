@@ -3,7 +3,7 @@ use Rattle.h2_engines.proofs.Names.{◌≡◌, ℕ, ◌∷◌, None, Result, Ok,
 use Rattle.h2_engines.proofs.Names.{PutOut, Refused, Log, MayAnswer, accepts, lacks, LinkError}
 use Rattle.h2_engines.proofs.Names.{StallsAtNoProgress, EndRefusal, EndLog, call_calls}
 use Rattle.h2_engines.proofs.Names.{end_with_log, with_call, error_after, Traffic, StallsWriting}
-use Rattle.h2_engines.proofs.Names.{conditions, first_of, MayPump, EndsAfter, ◌≢◌, refuses, fails}
+use Rattle.h2_engines.proofs.Names.{conditions, first_of, MayPump, ◌≢◌, refuses, fails}
 use Rattle.h2_spec_log.specs.declared.refusal.Refusal.TheVariants as reasons
 use Rattle.h2_link.specs.declared.error.LinkError.TheVariants as errors
 use Rattle.h2_ends.specs.declared.refusal.EndRefusal.TheVariants as refusals
@@ -47,11 +47,9 @@ stalls_no_more now end count refusal may is =
     })
 
 -- A pump is refused only so where the connection is up.
-pub pump_ends : (end after : EndLog) (answer : Result ℕ EndRefusal) (error : LinkError)
-    → end.log.failed ≡ None → MayPump end answer after
-    → EndsAfter answer (Err error) → error ≡ errors.Memory
-unfolding MayPump EndsAfter
-pump_ends end after (Ok count) error up may ends = absurd ends
-pump_ends end after (Err (refusals.Conn reasons.Closed)) error up may ends = absurd (may.0 up)
-pump_ends end after (Err (refusals.Conn reasons.Memory)) error up may ends = ends
-pump_ends end after (Err other) error up may ends = absurd may
+pub pump_refused : (end after : EndLog) (refusal : EndRefusal) → end.log.failed ≡ None
+    → MayPump end (Err refusal) after → refusal ≡ refusals.Conn reasons.Memory
+unfolding MayPump
+pump_refused end after (refusals.Conn reasons.Closed) up may = absurd (may.0 up)
+pump_refused end after (refusals.Conn reasons.Memory) up may = refl
+pump_refused end after other up may = absurd may

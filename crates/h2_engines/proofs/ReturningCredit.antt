@@ -3,8 +3,8 @@ use Rattle.h2_engines.proofs.Names
 use Names.{◌≡◌, ◌≢◌, ◌≤◌, ◌<◌, ◌^◌, ℕ, length, None, Result, Ok, Err, refl, sym, ap, ◌∙◌, subst}
 use Names.{inl, inr, arith, cases_Bool, if◌then◌else◌, Bool, Values, Answer, Release, Log, log_view}
 use Names.{active, owed_inactive, with_call, IsTypedAct, End, EndLog, EndRefusal, end_with_log}
-use Names.{EndRepresents, EndAnswers, MayReleaseAll, MayAnswer, LinkError, ConnRepresents}
-use Names.{error_after, owed, ReturnsCredit}
+use Names.{EndRepresents, EndAnswers, MayReleaseAll, MayAnswer, ConnRepresents}
+use Names.{owed, ReturnsCredit}
 use Rattle.std.proofs.Common.{is_some}
 use Rattle.h2_spec_log.specs.CallRules.{reader_owed}
 use Rattle.h2_spec_log.specs.LogView.{stream_of_log}
@@ -20,7 +20,6 @@ use Rattle.h2_engines.proofs.ServeLinkLogs.{StaysOn, call_goes, released_stays, 
 use Rattle.h2_engines.proofs.TakeMessages.{keeps_by_call}
 use Rattle.h2_engines.proofs.TurnsPassed.{turns_of_call, turns_of_release}
 use Rattle.h2_ends.specs.declared.refusal.EndRefusal.TheVariants as refusals
-use Rattle.h2_link.specs.declared.error.LinkError.TheVariants as errors
 use Rattle.h2_spec_log.specs.declared.refusal.Refusal.TheVariants as reasons
 
 -- What `owed` answers of any log that the connection of an end represents.
@@ -123,14 +122,10 @@ one_memory end id (refusals.Conn refusal) answer up some may by other =
 one_memory end id refusal answer up some may by other = absurd by
 
 pub returned_memory : (credit : Credit) (end : EndLog) (refusal : EndRefusal) (after : EndLog)
-    (error : LinkError) → end.log.failed ≡ None → MayReturnCredit credit end (Err refusal) after
-    → refusal ≢ refusals.Conn reasons.OutputFull → error ≡ error_after refusal
-    → error ≡ errors.Memory
-returned_memory Kept end refusal after error up may other is = absurd (cc)
-returned_memory All end refusal after error up may other is =
-    is ∙ ap error_after (all_memory end refusal after up may other)
-returned_memory (On id) end refusal after error up (owes_none none done same) other is =
-    absurd (cc)
-returned_memory (On id) end refusal after error up (releases_owed answer some typed may by same)
-    other is =
-    is ∙ ap error_after (one_memory end id refusal answer up some may by other)
+    → end.log.failed ≡ None → MayReturnCredit credit end (Err refusal) after
+    → refusal ≢ refusals.Conn reasons.OutputFull → refusal ≡ refusals.Conn reasons.Memory
+returned_memory Kept end refusal after up may other = absurd (cc)
+returned_memory All end refusal after up may other = all_memory end refusal after up may other
+returned_memory (On id) end refusal after up (owes_none none done same) other = absurd (cc)
+returned_memory (On id) end refusal after up (releases_owed answer some typed may by same) other =
+    one_memory end id refusal answer up some may by other

@@ -12,7 +12,7 @@ use Rattle.h2_engines.specs.Sending.{sends_nothing}
 use Rattle.h2_engines.specs.declared.sending.Credit.{Credit}
 use Rattle.h2_engines.specs.declared.sending.Credit.TheVariants.{All}
 use Rattle.h2_engines.proofs.MachineLaws.{pumps_at, releases_at}
-use Rattle.h2_engines.proofs.ResponderStalls.{pump_ends}
+use Rattle.h2_engines.proofs.ResponderStalls.{pump_refused}
 use Rattle.h2_engines.proofs.ReturningCredit.{returned_memory, returned_stays, returned_turns}
 use Rattle.h2_engines.proofs.ServeLinkLogs.{writes_given, StaysOn, pumped_stays, stays_same}
 use Rattle.h2_engines.proofs.ServeLinkLogs.{stays_none, stays_twice}
@@ -71,10 +71,13 @@ pumps_then credit before middle after released (Ok sent) (Ok done) up may all pu
     sends_more middle released sent up may all pumped
 pumps_then credit before middle after released (Err refusal) (Ok done) up may all pumped ends =
     absurd ends
-pumps_then credit before middle after released answer (Err error) up may all pumped ends =
+pumps_then credit before middle after released (Ok sent) (Err error) up may all pumped ends =
+    absurd ends
+pumps_then credit before middle after released (Err refusal) (Err error) up may all pumped ends =
     let stays = returned_stays credit before released middle may in
-    pumps_no_more middle released answer error
-    (pump_ends _ _ answer _ (stays.goes.failed ∙ up) pumped ends) up may pumped
+    let memory = pump_refused middle after refusal (stays.goes.failed ∙ up) pumped in
+    pumps_no_more middle released error (ends ∙ ap error_after memory) up may all
+    (rw memory at pumped)
 
 module _ (credit : Credit) (old : End) (failed : Option Code) (reads : ReadsFailed old.conn failed)
     (none : is_some failed ≡ false) where
@@ -105,9 +108,10 @@ module _ (credit : Credit) (old : End) (failed : Option Code) (reads : ReadsFail
       values end represents =
       let up = is_up old.conn failed values end.log reads none represents.streams.conn in
       let (after, may, now) = returns values end represents up in
-      let memory = returned_memory credit end refused after error up (rw same at may)
-      (λ is. other (same ∙ ap Err is)) (ends ∙ ap error_after made) in
-      (after, now, returns_none answer error memory up may)
+      let why = returned_memory credit end refused after up (rw same at may)
+      (λ is. other (same ∙ ap Err is)) in
+      let said : answer ≡ Err (refusals.Conn reasons.Memory) = same ∙ ap Err why in
+      (after, now, returns_none error (ends ∙ ap error_after (made ∙ why)) up (rw said at may))
 
 -- What holds of an end, and still does once credit was returned and after a pump, holds after
 -- both.
@@ -122,11 +126,12 @@ sent_holds P credit returning pump was (sends_nothing failed same) = rw same was
 sent_holds P credit returning pump {before} {after} was
     (sends_more middle released sent up may all pumped) =
     pump middle after (Ok sent) (returning before middle released was may) pumped
-sent_holds P credit returning pump {before} {after} was (returns_none released error is up may) =
-    returning before after released was may
+sent_holds P credit returning pump {before} {after} was (returns_none error is up may) =
+    returning before after (Err (refusals.Conn reasons.Memory)) was may
 sent_holds P credit returning pump {before} {after} was
-    (pumps_no_more middle released sent error is up may pumped) =
-    pump middle after sent (returning before middle released was may) pumped
+    (pumps_no_more middle released error is up may all pumped) =
+    pump middle after (Err (refusals.Conn reasons.Memory))
+    (returning before middle released was may) pumped
 
 module _ {credit : Credit} {before after : EndLog} where
   -- The connection goes on, and nothing of a message has happened;
@@ -161,8 +166,8 @@ module _ {credit : Credit} {before after : EndLog} where
   -- and it ends only when out of memory.
   pub sent_error : {error : LinkError} → HasSentWaiting credit before after (Err error)
       → error ≡ errors.Memory
-  sent_error (returns_none released error is up may) = is
-  sent_error (pumps_no_more middle released sent error is up may pumped) = is
+  sent_error (returns_none error is up may) = is
+  sent_error (pumps_no_more middle released error is up may all pumped) = is
 
 -- It may have happened at a machine.
 pub sends_at : (course : Course) (kept : MessageState) {before after : EndLog}

@@ -1,9 +1,8 @@
 -- What an end sends over a link, whatever has happened at it: credit, what waits of messages, and
 -- its output.
 -- contract: h2_engines::send_waiting
--- contract: h2_engines::write_out
 use Rattle.std.specs.Prelude.{◌≡◌, ◌≢◌, ◌⊎◌, ◌<◌, List, ℕ, length, None, Result, Ok, Err}
-use Rattle.h2_spec_log.specs.declared.refusal.Refusal.TheVariants.{OutputFull}
+use Rattle.h2_spec_log.specs.declared.refusal.Refusal.TheVariants.{Memory, OutputFull}
 use Rattle.h2_spec_log.specs.Acts.{Values, Answer, Done, PutOut, Refused, IsTypedAct, Release}
 use Rattle.h2_spec_log.specs.Log.{owed}
 use Rattle.h2_spec_log.specs.LogCalls.{MayAnswer, with_call}
@@ -54,8 +53,8 @@ ReturnsCredit credit old new result =
     → (after : EndLog) × MayReturnCredit credit end result after × EndRepresents values new after
 
 -- What an end has sent: while the connection is up this credit was returned, and what could be
--- sent was, but for what a full output holds back, or as far as there was memory; once it has
--- failed, nothing.
+-- sent was, but for what a full output holds back; or one of these calls was refused for memory,
+-- and no call was made after it; once it has failed, nothing.
 -- rule: engines (own) Over a link credit is returned and what could be sent is sent
 pub data HasSentWaiting (credit : Credit) (before after : EndLog) : Result (Unit {0}) LinkError
     → Type 0 where
@@ -65,14 +64,14 @@ pub data HasSentWaiting (credit : Credit) (before after : EndLog) : Result (Unit
       → before.log.failed ≡ None → MayReturnCredit credit before released middle
       → (released ≡ Ok tt) ⊎ (released ≡ Err (Conn OutputFull))
       → MayPump middle (Ok sent) after → HasSentWaiting credit before after (Ok tt)
-  returns_none : (released : Result (Unit {0}) EndRefusal) (error : LinkError)
-      → error ≡ errors.Memory → before.log.failed ≡ None
-      → MayReturnCredit credit before released after
+  returns_none : (error : LinkError) → error ≡ errors.Memory → before.log.failed ≡ None
+      → MayReturnCredit credit before (Err (Conn Memory)) after
       → HasSentWaiting credit before after (Err error)
-  pumps_no_more : (middle : EndLog) (released : Result (Unit {0}) EndRefusal)
-      (sent : Result ℕ EndRefusal) (error : LinkError) → error ≡ errors.Memory
-      → before.log.failed ≡ None → MayReturnCredit credit before released middle
-      → MayPump middle sent after → HasSentWaiting credit before after (Err error)
+  pumps_no_more : (middle : EndLog) (released : Result (Unit {0}) EndRefusal) (error : LinkError)
+      → error ≡ errors.Memory → before.log.failed ≡ None
+      → MayReturnCredit credit before released middle
+      → (released ≡ Ok tt) ⊎ (released ≡ Err (Conn OutputFull))
+      → MayPump middle (Err (Conn Memory)) after → HasSentWaiting credit before after (Err error)
 
 abbrev pub SendsWaiting : Credit → (old new : End) → Result (Unit {0}) LinkError → Type 0
 SendsWaiting credit old new result =

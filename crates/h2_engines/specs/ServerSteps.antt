@@ -10,7 +10,7 @@ use Rattle.h2_spec_log.specs.Acts.{Values, Act, Answer, ResetStream, Done, Refus
 use Rattle.h2_spec_log.specs.Log.{Log}
 use Rattle.h2_spec_log.specs.LogCalls.{MayAnswer, with_call}
 use Rattle.h2_spec_log.specs.declared.refusal.Refusal.{Refusal}
-use Rattle.h2_spec_log.specs.declared.refusal.Refusal.TheVariants.{Memory, OutputFull}
+use Rattle.h2_spec_log.specs.declared.refusal.Refusal.TheVariants.{Memory}
 use Rattle.h2_spec_log.specs.declared.refusal.Refusal.TheVariants.{TooManyResets}
 use Rattle.h2_message.specs.Messages.{SentMessage}
 use Rattle.h2_laws_pair.specs.Pairs.{given_out}
@@ -20,7 +20,7 @@ use Rattle.h2_ends.specs.declared.refusal.EndRefusal.TheVariants.{Conn}
 use Rattle.h2_ends.specs.Ends.{EndLog, Handed, EndAnswer, EndTook, EndFailed}
 use Rattle.h2_ends.specs.EndTakes.{EndMayTake, end_with_log}
 use Rattle.h2_ends.specs.EndCalls.{MayRespond}
-use Rattle.h2_ends.specs.Represents.{EndRepresents, EndPumps, EndReleases}
+use Rattle.h2_ends.specs.Represents.{EndRepresents, EndPumps}
 use Rattle.h2_link.specs.declared.error.LinkError.{LinkError}
 use Rattle.h2_link.specs.declared.error.LinkError.TheVariants as errors
 use Rattle.h2_engines.specs.declared.request.Next.TheVariants as nexts
@@ -134,17 +134,7 @@ EndsAfter (Err refusal) (Ok done) = ⊥
 EndsAfter (Ok value) (Err error) = ⊥
 EndsAfter (Err refusal) (Err error) = error ≡ error_after refusal
 
--- What a full output holds back is given back later.
-unfoldable pub EndsRelease : Result (Unit {0}) EndRefusal → Result (Unit {0}) LinkError → Type 0
-EndsRelease (Err (Conn OutputFull)) (Ok done) = Unit {0}
-EndsRelease (Err (Conn OutputFull)) (Err error) = ⊥
-EndsRelease answer result = EndsAfter answer result
-
--- `release_all` and `pump`
-abbrev pub ReleasesSome : (old new : End) → Result (Unit {0}) LinkError → Type 0
-ReleasesSome old new result =
-    (answer : Result (Unit {0}) EndRefusal) × EndReleases old answer new × EndsRelease answer result
-
+-- `pump`
 abbrev pub PumpsSome : (old new : End) → Result (Unit {0}) LinkError → Type 0
 PumpsSome old new result =
     (answer : Result ℕ EndRefusal) × EndPumps old answer new × EndsAfter answer result

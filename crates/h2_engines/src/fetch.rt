@@ -84,9 +84,15 @@ pub fn fetch_link_why<L: Link>(
     let mut fetcher = Fetcher::new(alloc, config, message)?;
     let driven = drive(&mut fetcher, link);
     *why = fetcher.conn().why();
-    let is_whole = driven?;
-    if is_whole {
-        return fetcher.into_fetched();
+    match driven {
+        Ok(true) => fetcher.into_fetched(),
+        Ok(false) => {
+            drop(fetcher);
+            Err(LinkError::CutOff)
+        }
+        Err(error) => {
+            drop(fetcher);
+            Err(error)
+        }
     }
-    Err(LinkError::CutOff)
 }

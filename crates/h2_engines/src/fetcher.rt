@@ -132,9 +132,18 @@ impl Fetcher {
                 },
                 whole: false,
             }),
-            Err((_, EndRefusal::BadMessage(_))) => Err(LinkError::Refused),
-            Err((_, EndRefusal::Conn(Refusal::ListTooLarge))) => Err(LinkError::Refused),
-            Err((_, refusal)) => Err(error_of_refusal(refusal)),
+            Err((_, EndRefusal::BadMessage(_))) => {
+                drop(client);
+                Err(LinkError::Refused)
+            }
+            Err((_, EndRefusal::Conn(Refusal::ListTooLarge))) => {
+                drop(client);
+                Err(LinkError::Refused)
+            }
+            Err((_, refusal)) => {
+                drop(client);
+                Err(error_of_refusal(refusal))
+            }
         }
     }
 
@@ -150,7 +159,15 @@ impl Fetcher {
         ensures none { OnErr result ((self.whole ≡ false) ⊎ (self.coming.head ≡ None)) }
         ensures err { IfErr result (λ error. error ≡ LinkError.NoProgress) }
     {
-        if !self.whole {
+        let Fetcher {
+            client,
+            coming,
+            whole,
+            ..
+        } = self;
+        drop(client);
+        if !whole {
+            drop(coming);
             return Err(LinkError::NoProgress);
         }
         let Coming {
@@ -158,7 +175,7 @@ impl Fetcher {
             head,
             body,
             trailers,
-        } = self.coming;
+        } = coming;
         match head {
             Some(head) => Ok(Fetched {
                 interims,

@@ -33,9 +33,7 @@ pub enum Credit {
 ///
 /// # Errors
 ///
-/// - [`LinkError::Memory`] (N3) where an allocation was refused.
-/// - [`LinkError::NoProgress`] (N5) where a call was refused for another reason, which is not
-///   expected.
+/// [`LinkError::Memory`] (N3), and no other error, where an allocation was refused.
 pub fn send_waiting<R>(end: &mut EndAs<R>, credit: Credit) -> Result<(), LinkError>
     ensures sends { SendsWaiting credit end.old.end end.new.end result }
     ensures err { IfErr result IsOfCall }
@@ -78,7 +76,7 @@ fn pump<R>(end: &mut EndAs<R>) -> Result<(), LinkError>
     Ok(())
 }
 
-// rule: engines (own) Over a link input is used in order and all output is written
+// contract: engines (own) Over a link input is used in order and all output is written
 /// Writes all output that waits, in order, from where it lies. Output that was not written when a
 /// write fails is lost.
 ///

@@ -80,6 +80,8 @@ pub fn serve_link_why<L: Link>(
     let mut responder = Responder::new(alloc, config)?;
     let driven = drive(&mut responder, link);
     *why = responder.conn().why();
+    let finished = responder.finish();
+    drop(responder);
     driven?;
-    responder.finish()
+    finished
 }

@@ -94,9 +94,18 @@ impl PartFetch {
                 filled: 0,
                 used: 0,
             }),
-            Err((_, EndRefusal::BadMessage(_))) => Err(LinkError::Refused),
-            Err((_, EndRefusal::Conn(Refusal::ListTooLarge))) => Err(LinkError::Refused),
-            Err((_, refusal)) => Err(error_of_refusal(refusal)),
+            Err((_, EndRefusal::BadMessage(_))) => {
+                drop(client);
+                Err(LinkError::Refused)
+            }
+            Err((_, EndRefusal::Conn(Refusal::ListTooLarge))) => {
+                drop(client);
+                Err(LinkError::Refused)
+            }
+            Err((_, refusal)) => {
+                drop(client);
+                Err(error_of_refusal(refusal))
+            }
         }
     }
 

@@ -1,9 +1,11 @@
 //! Fetches that begin with a window.
 
 ghost use Rattle.std.specs.Prelude.{◌≡◌, ◌⊎◌, Err, IfErr, IfOk, OnOk, length, map};
+ghost use Rattle.h2_spec_log.specs.Acts.{Values};
 ghost use Rattle.h2_message.specs.Values.{message_value};
 ghost use Rattle.h2_args.specs.Words.{asked_by};
 ghost use Rattle.h2_engines.specs.Fetches.{IsNotAccepted};
+ghost use Rattle.h2_fetch.specs.Several.{BeginsConnection};
 ghost use Rattle.h2_flow.specs.ConfigValues.{values_of};
 ghost use Rattle.h2_get.specs.Asking.{BeginsSeveral, MakesNext, RefusesOne, error_of_request};
 ghost use Rattle.h2_get.specs.Windows.{BeginsSeveralWithWindow, BeginsWithWindow, WidensSeveralTo};
@@ -60,7 +62,10 @@ pub(crate) fn begin_fetch(
     };
     match widen_fetch(&mut fetch, window) {
         Ok(()) => Ok(fetch),
-        Err(error) => Err(error),
+        Err(error) => {
+            drop(fetch);
+            Err(error)
+        }
     }
 }
 
@@ -98,7 +103,10 @@ pub(crate) fn begin_several(
     };
     match widen_several(&mut begun.fetch, window) {
         Ok(()) => Ok(begun),
-        Err(error) => Err(error),
+        Err(error) => {
+            drop(begun);
+            Err(error)
+        }
     }
 }
 
@@ -124,14 +132,35 @@ fn request_all(
     let Ok(mut fetch) = ClientConnection::new(alloc, config) else {
         return Err(LinkError::Memory);
     };
+    match request_each(alloc, &mut fetch, messages) {
+        Ok(ids) => Ok(BegunRequests { fetch, ids }),
+        Err(error) => {
+            drop(fetch);
+            Err(error)
+        }
+    }
+}
+
+/// Makes requests on a connection, in their order, and returns their streams; or returns how the
+/// fetch ends, if one was refused.
+fn request_each(
+    alloc: Global,
+    fetch: &mut ClientConnection,
+    messages: Vec<Message>,
+) -> Result<Vec<u32>, LinkError>
+    ensures ok { IfOk result (λ ids. (values : Values) → BeginsConnection values fetch.old
+        → BeginsSeveral values (map message_value messages.items) ids.items fetch.new) }
+    ensures err { IfErr result (λ error. (values : Values) → BeginsConnection values fetch.old
+        → RefusesOne values (map message_value messages.items) error) }
+{
     let mut ids = Vec::new(alloc);
     for message in messages {
-        let id = request_next(&mut fetch, message)?;
+        let id = request_next(fetch, message)?;
         if ids.push(id).is_err() {
             return Err(LinkError::Memory);
         }
     }
-    Ok(BegunRequests { fetch, ids })
+    Ok(ids)
 }
 
 /// Makes a request, and returns its stream; or returns how the fetch ends, if it was refused.

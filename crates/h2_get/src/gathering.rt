@@ -57,7 +57,10 @@ where
         Ok(fetch) => fetch,
         Err(error) => return Err(Ending::from(error)),
     };
-    gather_with_hint(alloc, &mut fetch, &mut link)
+    let gathered = gather_with_hint(alloc, &mut fetch, &mut link);
+    drop(fetch);
+    drop(link);
+    gathered
 }
 
 /// Gathers a response, and flushes the link. If the fetch ends early, the result has the likely

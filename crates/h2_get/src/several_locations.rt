@@ -59,10 +59,13 @@ where
         Ok(begun) => begun,
         Err(error) => return Err(StreamEnding::of_error(StreamError::Link(error))),
     };
-    match several_over(alloc, options, &mut begun, &mut link, out, err) {
+    let streamed = match several_over(alloc, options, &mut begun, &mut link, out, err) {
         Ok(results) => Ok(end_several(&begun.fetch, &mut link, results)),
         Err(_) => Err(StreamEnding::of_error(StreamError::Link(LinkError::Memory))),
-    }
+    };
+    drop(begun);
+    drop(link);
+    streamed
 }
 
 // rule: engines (own) get -v shows the frames of both sides as they come
@@ -86,7 +89,9 @@ fn several_over<S: Read + WriteParts + OpenStream, W: Write, E: Write>(
         return stream_several(alloc, options, fetch, ids, link, out);
     }
     let mut watched = WatchedLink::new(alloc, link, err);
-    stream_several(alloc, options, fetch, ids, &mut watched, out)
+    let streamed = stream_several(alloc, options, fetch, ids, &mut watched, out);
+    drop(watched);
+    streamed
 }
 
 /// Returns the results of several requests, and flushes the link. If the fetch ended early, they

@@ -60,7 +60,7 @@ where
         Ok(fetch) => fetch,
         Err(error) => return Err(StreamEnding::of_error(StreamError::Link(error))),
     };
-    stream_with_hint(
+    let streamed = stream_with_hint(
         files,
         alloc,
         options,
@@ -69,7 +69,10 @@ where
         has_progress,
         out,
         err,
-    )
+    );
+    drop(fetch);
+    drop(link);
+    streamed
 }
 
 /// Prints the response of a fetch as it arrives, and flushes the link. If it ends early, the
@@ -125,7 +128,7 @@ fn stream_over<F: Files + Clock, S: Read + WriteParts + OpenStream, W: Write, E:
     }
     let mut watched = WatchedLink::new(alloc, link, err);
     let mut unused = io::sink();
-    stream_response(
+    let streamed = stream_response(
         files,
         alloc,
         options,
@@ -134,5 +137,7 @@ fn stream_over<F: Files + Clock, S: Read + WriteParts + OpenStream, W: Write, E:
         false,
         out,
         &mut unused,
-    )
+    );
+    drop(watched);
+    streamed
 }

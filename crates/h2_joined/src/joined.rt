@@ -38,9 +38,16 @@ impl Joined {
             joined [] (new_joint_end roles.Client (values_of client))
             (new_joint_end roles.Server (values_of server))) }
     {
-        let (Ok(client), Ok(server)) = (Client::new(alloc, client), Server::new(alloc, server))
-        else {
-            return Err(AllocError);
+        let client = match Client::new(alloc, client) {
+            Ok(client) => client,
+            Err(_) => return Err(AllocError),
+        };
+        let server = match Server::new(alloc, server) {
+            Ok(server) => server,
+            Err(_) => {
+                drop(client);
+                return Err(AllocError);
+            }
         };
         Ok(Joined {
             alloc,

@@ -52,8 +52,13 @@ pub fn run(
     ensures { IfOk result (λ joined. Runs (values_of client) (values_of server) acts.now joined) }
 {
     let mut joined = Joined::new(alloc, client, server)?;
-    joined.act_all(acts)?;
-    Ok(joined)
+    match joined.act_all(acts) {
+        Ok(()) => Ok(joined),
+        Err(error) => {
+            drop(joined);
+            Err(error)
+        }
+    }
 }
 
 impl Joined {

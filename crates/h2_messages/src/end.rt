@@ -111,6 +111,3 @@ impl MessageEnd {
         }
     }
 }
-
-/// Drops an endpoint. Proofs of functions that own one are large, so the others call this one.
-pub(crate) fn drop_end(_end: MessageEnd) {}

@@ -13,7 +13,7 @@ ghost use Rattle.h2_messages.specs.Messages.{MessagesOfText, fault_lines, output
 ghost use Rattle.h2_messages.specs.Taking.{MessageEndRepresents, TakesGivenPiece};
 ghost use Rattle.h2_messages.specs.Taking.{TakeErrorReports};
 
-use crate::end::{MessageEnd, drop_end};
+use crate::end::MessageEnd;
 use crate::output::write_output;
 use crate::taking::{TakeError, take_piece};
 use h2_cli::{Failure, PIECE, Status, new_buffer, read_hex, read_next};
@@ -156,7 +156,7 @@ fn replay_octets<R: Read, W: Write + Drop>(
     let mut buffer = new_buffer(alloc)?;
     let mut end = MessageEnd::new(alloc, role)?;
     let replayed = hand_pieces(alloc, role, &mut end, input, &mut buffer, lines);
-    drop_end(end);
+    drop(end);
     replayed
 }
 
@@ -274,7 +274,7 @@ fn replay_all<W: Write>(
 {
     let mut end = MessageEnd::new(alloc, role)?;
     let replayed = hand_all(alloc, role, &mut end, octets, out);
-    drop_end(end);
+    drop(end);
     replayed
 }
 

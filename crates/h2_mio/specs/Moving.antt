@@ -3,7 +3,7 @@ use Rattle.std.specs.Prelude.{◌≤◌, ℕ}
 use Rattle.std.specs.declared.io.ErrorKind.{ErrorKind}
 use Rattle.std.specs.declared.io.ErrorKind.TheVariants as kinds
 use Rattle.h2_mio.specs.declared.moved.Moved.{Moved}
-use Rattle.h2_mio.specs.declared.moved.Moved.TheVariants.{Octets, Nothing, Broken}
+use Rattle.h2_mio.specs.declared.moved.Moved.TheVariants.{Octets, Nothing, Interrupted, Broken}
 
 -- So many octets were moved, one at least, and no more than there was room for.
 abbrev pub MovesWithin : (room : ℕ) → Moved → Type 0
@@ -15,10 +15,11 @@ abbrev pub count_moved : Moved → ℕ
 count_moved (Octets count) = count
 count_moved other = 0
 
--- What a read or a write came to that has failed: it may go on later where the socket would have
--- waited, or a signal came in between; every other error is its end.
+-- What a read or a write came to that has failed. Where the socket would have waited it may be made
+-- again once the socket has an event; where a signal interrupted it, at once, since no event will
+-- follow; every other error is the socket's end.
 -- rule: hosts (own) A socket that would wait is asked again; one that fails is closed
 abbrev pub moved_at : ErrorKind → Moved
 moved_at kinds.WouldBlock = Nothing
-moved_at kinds.Interrupted = Nothing
+moved_at kinds.Interrupted = Interrupted
 moved_at kind = Broken

@@ -12,8 +12,10 @@ use std::io::ErrorKind;
 pub(crate) enum Moved {
     /// This many octets were moved, at least one.
     Octets(usize),
-    /// No octet can be moved now.
+    /// No octet can be moved now: the socket says when some can.
     Nothing,
+    /// A signal interrupted it: no octet was moved, and no event will follow.
+    Interrupted,
     /// The peer has ended its side.
     Ended,
     /// No octet can be moved any more.
@@ -58,7 +60,8 @@ fn moved_at(kind: ErrorKind) -> Moved
     ensures { result ≡ moved_at kind }
 {
     match kind {
-        ErrorKind::WouldBlock | ErrorKind::Interrupted => Moved::Nothing,
+        ErrorKind::WouldBlock => Moved::Nothing,
+        ErrorKind::Interrupted => Moved::Interrupted,
         _ => Moved::Broken,
     }
 }

@@ -8,14 +8,24 @@ mod memory;
 use crate::sockets::{Socket, Sockets};
 use crate::turn::{Fate, give_turn};
 use counter::Counter;
-use h2_host::{Host, Limits, Reply, Step, Token};
+use h2_host::{Host, Limits, MOST_TAKEN, Reply, Step, Token};
 use memory::Memory;
 use std::alloc::Global;
 use std::io::ErrorKind;
 
-/// Opens a connection that has this output.
+/// Opens a connection that has this output, and takes as many octets in a read as there are.
 fn open<'a>(alloc: Global, host: &mut Host<Counter<'a>>, put: &'a [u8]) -> Option<Token> {
-    let party = Counter::new(alloc, put);
+    open_taking(alloc, host, put, MOST_TAKEN)
+}
+
+/// Opens a connection that has this output, and takes so many octets in a read.
+fn open_taking<'a>(
+    alloc: Global,
+    host: &mut Host<Counter<'a>>,
+    put: &'a [u8],
+    takes: usize,
+) -> Option<Token> {
+    let party = Counter::new(alloc, put, takes);
     match host.step(Step::Opened { party }, &[]) {
         Reply::Opened(token) => Some(token),
         _ => None,
@@ -64,6 +74,22 @@ fn a_connection_gets_what_was_read(rt: HostRuntime) {
     assert!(rt; gets_what_was_read(rt.alloc()) == Some(true));
 }
 
+fn reads_what_is_taken(alloc: Global) -> Option<bool> {
+    let mut host = Host::new(alloc, Limits::default()).ok()?;
+    let token = open_taking(alloc, &mut host, b"", 5)?;
+    let stream = Memory::new(alloc, b"12345678", 8, ErrorKind::WouldBlock);
+    let mut socket = socket_over(token, stream);
+    socket.stream.reads = 1;
+    let goes = turn(&mut host, token, &mut socket)? == Fate::Goes;
+    Some(goes && host.party(token)?.has(b"12345"))
+}
+
+// rule: hosts (own) The frames of a long body are read whole
+#[test]
+fn a_read_asks_for_what_its_connection_takes(rt: HostRuntime) {
+    assert!(rt; reads_what_is_taken(rt.alloc()) == Some(true));
+}
+
 fn counts_what_was_taken(alloc: Global) -> Option<bool> {
     let mut host = Host::new(alloc, Limits::default()).ok()?;
     let token = open(alloc, &mut host, b"abcdefgh")?;
@@ -102,13 +128,16 @@ fn the_end_comes_after_the_octets(rt: HostRuntime) {
     assert!(rt; learns_of_the_end(rt.alloc()) == Some(true));
 }
 
-fn waits_and_goes_on(alloc: Global) -> Option<bool> {
+/// A read and a write of a connection fail so, and it goes on; it is told so often that its socket
+/// would wait.
+fn goes_on_after(alloc: Global, kind: ErrorKind, waits: usize) -> Option<bool> {
     let mut host = Host::new(alloc, Limits::default()).ok()?;
     let token = open(alloc, &mut host, b"abc")?;
-    let mut socket = socket_over(token, Memory::new(alloc, b"123", 8, ErrorKind::WouldBlock));
+    let mut socket = socket_over(token, Memory::new(alloc, b"123", 8, kind));
     let goes = turn(&mut host, token, &mut socket)? == Fate::Goes;
     let party = host.party(token)?;
-    let none = party.has(b"") && party.went == 0 && socket.stream.has_taken(b"");
+    let moved = !party.has(b"") || party.went > 0 || !socket.stream.has_taken(b"");
+    let none = !moved && party.waits == waits;
     socket.stream.reads = 1;
     socket.stream.writes = 1;
     let still = turn(&mut host, token, &mut socket)? == Fate::Goes;
@@ -120,7 +149,14 @@ fn waits_and_goes_on(alloc: Global) -> Option<bool> {
 // rule (best): hosts (own) A socket that would wait is asked again; one that fails is closed
 #[test]
 fn a_socket_that_would_wait_is_asked_again(rt: HostRuntime) {
-    assert!(rt; waits_and_goes_on(rt.alloc()) == Some(true));
+    assert!(rt; goes_on_after(rt.alloc(), ErrorKind::WouldBlock, 2) == Some(true));
+}
+
+// The socket says nothing more of what it has then: a connection that waited would sleep.
+// rule: hosts (own) A socket that would wait is asked again; one that fails is closed
+#[test]
+fn a_connection_stays_ready_where_a_signal_interrupts(rt: HostRuntime) {
+    assert!(rt; goes_on_after(rt.alloc(), ErrorKind::Interrupted, 0) == Some(true));
 }
 
 fn is_over_where_it_fails(alloc: Global) -> Option<bool> {

@@ -47,7 +47,8 @@ pub(crate) fn give_turn<P: Party, S: Transport>(
 }
 
 /// Reads once, if the connection takes input. A read of few octets tells the connection that the
-/// socket has no more, unless the peer has ended its side: then the socket stays readable.
+/// socket has no more, unless the peer has ended its side: then the socket stays readable. A read
+/// that a signal interrupts tells it nothing: it stays ready, and reads in its next turn.
 fn take_input<P: Party, S: Transport>(
     host: &mut Host<P>,
     token: Token,
@@ -81,13 +82,14 @@ fn take_input<P: Party, S: Transport>(
             own_step(host, token, ready)
         }
         Moved::Nothing => own_step(host, token, Own::NoneCame),
+        Moved::Interrupted => Fate::Goes,
         Moved::Ended => own_step(host, token, Own::Ended),
         Moved::Broken => Fate::Over,
     }
 }
 
 /// Writes the output of a connection from where it lies, two parts at a time, until none is
-/// queued, the socket takes no more, or the turn is used up.
+/// queued, the socket takes no more, a signal interrupts a write, or the turn is used up.
 fn write_output<P: Party, S: Transport>(host: &mut Host<P>, token: Token, stream: &mut S) -> Fate
     ensures run { MakesTurn P.steps P.held_of P.output_of token
         (S.given stream.old) (S.given stream.new) (S.taken stream.old)
@@ -109,6 +111,7 @@ fn write_output<P: Party, S: Transport>(host: &mut Host<P>, token: Token, stream
                 }
             }
             Moved::Nothing => return own_step(host, token, Own::NoneWent),
+            Moved::Interrupted => return Fate::Goes,
             Moved::Ended | Moved::Broken => return Fate::Over,
         }
     }

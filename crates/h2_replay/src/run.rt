@@ -2,6 +2,8 @@
 
 ghost use Rattle.std.specs.Prelude.{◌≡◌, ◌++◌, ◌∷◌, [], IfOk, OnOk};
 ghost use Rattle.h2_flow.specs.ConfigValues.{values_of};
+ghost use Rattle.h2_spec_log.specs.declared.role.Role.{Role};
+ghost use Rattle.h2_spec_log.specs.Acts.{Values};
 ghost use Rattle.h2_spec_log.specs.LogCalls.{opened};
 ghost use Rattle.h2_conn.specs.Conn.{ConnRepresents};
 ghost use Rattle.h2_replay.specs.Calls.{IsCall};
@@ -32,10 +34,20 @@ pub fn replay(alloc: Global, role: Role, config: Config, acts: Vec<Act>) -> Resu
     ensures { IfOk result (λ log. Replays role (values_of config) acts.items log.turns.items) }
 {
     let mut conn = new_conn(alloc, role, config)?;
+    let log = make_acts(alloc, &mut conn, acts);
+    drop(conn);
+    log
+}
+
+/// Makes the acts, in order, on an end that is new, and returns what has happened.
+fn make_acts(alloc: Global, conn: &mut Conn, acts: Vec<Act>) -> Result<Log, AllocError>
+    ensures { (role : Role) (values : Values) → ConnRepresents values conn.old (opened role values)
+        → IfOk result (λ log. Replays role values acts.items log.turns.items) }
+{
     let mut turns = Vec::new(alloc);
-    turns.push(Turn::Out(joined_output(alloc, &conn, 0, &[])?))?;
+    turns.push(Turn::Out(joined_output(alloc, conn, 0, &[])?))?;
     for act in acts {
-        make_act(alloc, &mut conn, act, &mut turns)?;
+        make_act(alloc, conn, act, &mut turns)?;
     }
     Ok(Log { turns })
 }

@@ -268,7 +268,7 @@ queue_split one two count gone waits (Ok given) some answers size is values end 
     ∙ ap (λ (o : List ℕ). take count queue ++ o) (sym rest)
 
 -- A call that is done is not refused.
-never_err : {A P : Type 0} (result : Result A Refusal) → is_err result ≡ true → IsOk result → P
+pub never_err : {A P : Type 0} (result : Result A Refusal) → is_err result ≡ true → IsOk result → P
 never_err (Ok value) is ok = absurd (cc)
 never_err (Err refusal) is ok = absurd (false≢true ok)
 

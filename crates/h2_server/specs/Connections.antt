@@ -40,7 +40,8 @@ use Rattle.h2_server.specs.Deferring.{IsPending}
 use Rattle.h2_server.specs.Exchanges.{IsEmptied, Relations, awake, exchange_at}
 use Rattle.h2_server.specs.Exchanges.{handling_of}
 use Rattle.h2_server.specs.Failing.{FailsServerWith, HasNotFailed, IsSameOrStopped, IsUpSo}
-use Rattle.h2_server.specs.Failing.{KeepsUpSo, LateFails, NotesCode, NotesFailed, StoppedBy}
+use Rattle.h2_server.specs.Failing.{KeepsUpSo, LateFails, NotesCode, NotesFailed, StaysReady}
+use Rattle.h2_server.specs.Failing.{StoppedBy}
 use Rattle.h2_server.specs.Floods.{flood_of}
 use Rattle.h2_server.specs.Phases.{is_phase_down, is_phase_failing, is_phase_open, is_phase_over}
 use Rattle.h2_server.specs.Sending.{HasNothing, SendsAgain}
@@ -207,7 +208,7 @@ MakesPhase (owns.Refused bound) old new = new ≡ Over (reasons.Refused bound)
 MakesPhase owns.Lost old new = new ≡ Over reasons.Lost
 MakesPhase owns.Came old new = IsSameOrStopped old.phase old.watch.time new
 MakesPhase owns.Turn old new = IsSameOrStopped old.phase old.watch.time new
-MakesPhase (owns.Went count) old new = IsSameOrRefused old.phase new
+MakesPhase (owns.Went count) old new = IsSameOrRefused old.phase new × StaysReady old new
 MakesPhase own old new = new ≡ old.phase
 
 -- This is what the client has sent that asks for work and brings nothing, and so many streams were

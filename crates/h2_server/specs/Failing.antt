@@ -1,9 +1,12 @@
--- When the server of a connection has failed, and with which code a connection fails.
+-- When the server of a connection has failed, with which code a connection fails, and when a write
+-- does not close it.
 use Rattle.std.specs.Prelude.{◌≡◌, ◌≢◌, ◌⊎◌, ℕ, true, false, max, Option, Some, None}
 use Rattle.h2_frame.specs.declared.code.Code.{Code}
 use Rattle.h2_frame.specs.declared.code.Code.TheVariants.{EnhanceYourCalm, SettingsTimeout}
 use Rattle.h2_spec_log.specs.Acts.{Answer, Fail, Values}
+use Rattle.h2_spec_log.specs.CallRules.{returns_before_put_out}
 use Rattle.h2_spec_log.specs.Log.{Log}
+use Rattle.h2_spec_log.specs.LogView.{log_view}
 use Rattle.h2_conn.specs.Conn.{ConnRepresents}
 use Rattle.h2_ends.specs.Ends.{EndLog}
 use Rattle.h2_ends.specs.Represents.{EndAnswers, EndRepresents}
@@ -58,6 +61,18 @@ KeepsUpSo old new =
 abbrev pub FailsServerWith : {H W : Type 0} → Code → (old new : Connection H W) → Type 0
 FailsServerWith code old new =
     (answer : Answer) × EndAnswers old.server.end (Fail code) answer new.server.end
+
+-- Its output was made ready: no credit of the connection's window has to be returned before more
+-- of it is given out (RFC 9113, section 6.9).
+abbrev pub IsOutputReady : {H W : Type 0} → Connection H W → Type 0
+IsOutputReady connection =
+    (values : Values) × (log : Log) × ConnRepresents values connection.server.end.conn log
+    × (returns_before_put_out (log_view log) ≡ false)
+
+-- One whose output was ready is where it was once some was written.
+-- rule: hosts (own) A connection gives out what has gone of its output, and nothing else
+abbrev pub StaysReady : {H W : Type 0} → (old : Connection H W) → (new : Phase) → Type 0
+StaysReady old new = IsOutputReady old → new ≡ old.phase
 
 -- the code with which one fails for what has taken too long
 -- rule: hosts (own) A connection ends for what has taken too long

@@ -39,8 +39,9 @@ pub record LosesSo {H W : Type 0} (rel : Relations H W) (old new : Connection H 
 -- What was made in a turn of a connection that is up after it. First octets of those that were kept
 -- were used, and the others are kept; steps of the server with its handler were made; and where the
 -- transport has no more input for now, credit was returned for all that handlers have used. Last
--- the output was made ready: so what waits can be written without an allocation, and no credit of
--- the connection's window waits to be returned (RFC 9113, section 6.9) where little output does.
+-- the output was made ready: so what is written first can be given out without an allocation, and
+-- no credit of the connection's window waits to be returned (RFC 9113, section 6.9) where little
+-- output does.
 -- rule: 6.9 (own) Before a read that may wait credit is returned for all that is used
 pub record TurnedSo {H W : Type 0} (rel : Relations H W) (values : Values) (end : EndLog)
     (old new : Connection H W) : Type 0 where

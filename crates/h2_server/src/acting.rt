@@ -97,7 +97,9 @@ impl<H: Handler> Connection<H> {
 
     // contract: hosts (own) A connection gives out what has gone of its output, and nothing else
     /// Removes `count` octets of the output, which were written; at most as many as are queued. A
-    /// closed connection keeps its output.
+    /// closed connection keeps its output. If credit has to be queued first, and memory for it is
+    /// refused, the connection is closed; after a turn that can be only if 65,536 octets or more of
+    /// output waited.
     pub fn written(&mut self, count: usize)
         ensures calls { Calls H.Handler (owns.Went count) [] self.old self.new }
         ensures wrote { Wrote H.Handler count self.old self.new }

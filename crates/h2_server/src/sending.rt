@@ -395,7 +395,7 @@ impl<H: Handler> Exchanges<H> {
     }
 
     /// Whether an exchange has a response.
-    fn has_answer(&self, id: u32) -> bool
+    pub(crate) fn has_answer(&self, id: u32) -> bool
         ensures { result ≡ has_answer_at (exchange_at id self.now.kept.entries) }
     {
         match self.kept.get(id) {

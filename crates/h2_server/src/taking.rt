@@ -101,12 +101,15 @@ impl<H: Handler> Exchanges<H> {
 
     /// Hands the response of an exchange to the server, as far as it can go now, and ends the
     /// exchange once its stream is over. In place of a response that breaks a rule, status 500 or
-    /// a reset follows at once.
+    /// a reset follows at once. There is nothing to hand on while the handler has not responded.
     pub(crate) fn answer(&mut self, server: &mut Server, id: u32) -> Result<(), Stop>
         ensures { Handles H.Handler [] server.old.end (handling_of self.old)
             server.new.end (handling_of self.new) }
     {
         self.more = true;
+        if !self.has_answer(id) {
+            return Ok(());
+        }
         self.give_next(server, id)?;
         self.give_instead(server, id)?;
         self.end_if_over(server, id);

@@ -6,7 +6,7 @@ ghost use Rattle.h2_host.specs.declared.party.Own.TheVariants as owns;
 ghost use Rattle.h2_server.specs.Connections.{GivesGone, IsSameOrRefused, KeepsTold, Makes};
 ghost use Rattle.h2_server.specs.Connections.{MakesOwn, TakesOfKept, WakesEach, WatchesBy};
 ghost use Rattle.h2_server.specs.Connections.{input_kept, keeps_none};
-ghost use Rattle.h2_server.specs.Failing.{IsSameOrStopped, Stopped};
+ghost use Rattle.h2_server.specs.Failing.{IsSameOrStopped, StaysReady, Stopped};
 ghost use Rattle.h2_server.specs.Watching.{readiness_after};
 ghost use Rattle.h2_server.specs.Exchanges.{handling_of};
 ghost use Rattle.h2_server.specs.Steps.{HandlesPiece};
@@ -195,6 +195,7 @@ impl<H: Handler> Connection<H> {
         ensures up { WroteUp count self.old self.new }
         ensures told { KeepsTold self.old self.new }
         ensures phase { IsSameOrRefused self.old.phase self.new.phase }
+        ensures stays { StaysReady self.old self.new.phase }
         ensures readiness { self.new.readiness ≡ self.old.readiness }
     {
         let gone = self.remove(count);
@@ -211,6 +212,7 @@ impl<H: Handler> Connection<H> {
         ensures up { WroteUp count self.old self.new }
         ensures told { KeepsTold self.old self.new }
         ensures phase { IsSameOrRefused self.old.phase self.new.phase }
+        ensures stays { StaysReady self.old self.new.phase }
         ensures readiness { self.new.readiness ≡ self.old.readiness }
         ensures watch { self.new.watch ≡ self.old.watch }
     {

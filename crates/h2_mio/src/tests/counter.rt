@@ -14,18 +14,24 @@ pub(crate) struct Counter<'a> {
     pub(crate) acted: usize,
     /// How many octets of its output have gone.
     pub(crate) went: usize,
+    /// How often it was told that its socket would wait.
+    pub(crate) waits: usize,
+    /// How many octets it takes in a read, at most.
+    takes: usize,
     /// Its output.
     put: &'a [u8],
 }
 
 impl<'a> Counter<'a> {
-    /// A party that has this output.
-    pub(crate) fn new(alloc: Global, put: &'a [u8]) -> Counter<'a> {
+    /// A party that has this output, and takes so many octets in a read.
+    pub(crate) fn new(alloc: Global, put: &'a [u8], takes: usize) -> Counter<'a> {
         Counter {
             came: Vec::new(alloc),
             ended: false,
             acted: 0,
             went: 0,
+            waits: 0,
+            takes,
             put,
         }
     }
@@ -37,7 +43,7 @@ impl<'a> Counter<'a> {
 }
 
 impl Party for Counter<'_> {
-    ghost use Rattle.std.specs.Prelude.{⊤, ◌≡◌, drop, true};
+    ghost use Rattle.std.specs.Prelude.{⊤, ◌≡◌, drop, min, true};
     ghost use Rattle.h2_host.specs.Turns.{most_taken};
 
     ghost steps = { λ _ _ _ _ _. ⊤ };
@@ -46,7 +52,7 @@ impl Party for Counter<'_> {
 
     ghost ready_of = { λ _. true };
 
-    ghost takes = { λ _ size. size ≡ most_taken };
+    ghost takes = { λ counter size. size ≡ min counter.takes most_taken };
 
     ghost output_of = { λ counter. drop counter.went counter.put.now };
 
@@ -57,6 +63,7 @@ impl Party for Counter<'_> {
             Own::Ended => self.ended = true,
             Own::Turn => self.acted = self.acted.saturating_add(1),
             Own::Went { count } => self.went = self.went.saturating_add(count),
+            Own::NoneCame | Own::NoneWent => self.waits = self.waits.saturating_add(1),
             _ => {}
         }
         Answer::Goes
@@ -71,7 +78,7 @@ impl Party for Counter<'_> {
     }
 
     fn read_size(&self) -> usize {
-        MOST_TAKEN
+        self.takes.min(MOST_TAKEN)
     }
 
     /// Two octets, and the others.

@@ -13,42 +13,35 @@ returns-in_err-fetcher-clause-fetches g c =
     rw (answer.1, answer.2) (ends_at_once (message_value c.args.message) _
     c.in_err-fetcher.field-0.0 c.args.config.in_range c.in_err-fetcher.ensures.refused)
 
-pub returns-in_err-is_whole : goal.returns-in_err-is_whole
-returns-in_err-is_whole g c =
-    let answer = err_from_is_err_and c.from_residual-in_err-is_whole.result
-    c.from_residual-in_err-is_whole.ensures.1 in
-    rw (answer.1, answer.2) (record {
-      fetches = drive_fetches _ _ c.drive-driven.new.machine c.args.config.in_range
-          c.in_ok-fetcher.ensures.unfinished c.in_ok-fetcher.ensures.ok c.in_err-is_whole.field-0.0
-          _ (rw c.conn.ensures at c.why.ensures.why) c.in_err-is_whole.ensures.drives;
-      cut_off = drive_not_cut _ _ c.drive-driven.new.machine c.args.config.in_range
-          c.in_ok-fetcher.ensures.unfinished c.in_ok-fetcher.ensures.ok c.in_err-is_whole.field-0.0
-          _ c.in_err-is_whole.ensures.drives;
-      failures = c.in_err-is_whole.ensures.failures
-          ∙ failures_same Bool Fetched _ c.in_err-is_whole.field-0.0;
-    })
+pub returns-in-Err : goal.returns-in-Err
+returns-in-Err g c = record {
+  fetches = drive_fetches _ _ c.drive-driven.new.machine c.args.config.in_range
+      c.in_ok-fetcher.ensures.unfinished c.in_ok-fetcher.ensures.ok c.in-Err.error _
+      (rw c.conn.ensures at c.why.ensures.why) c.in-Err.ensures.drives;
+  cut_off = drive_not_cut _ _ c.drive-driven.new.machine c.args.config.in_range
+      c.in_ok-fetcher.ensures.unfinished c.in_ok-fetcher.ensures.ok c.in-Err.error _
+      c.in-Err.ensures.drives;
+  failures = c.in-Err.ensures.failures ∙ failures_same Bool Fetched _ c.in-Err.error;
+}
 
-pub returns-then-is_whole : goal.returns-then-is_whole
-returns-then-is_whole g c =
-    record {
-      fetches = drive_whole _ _ c.drive-driven.new.machine c.args.config.in_range
-          c.in_ok-fetcher.ensures.unfinished c.in_ok-fetcher.ensures.ok c.in_ok-is_whole.is_whole
-          c.into_fetched.result _ (rw c.conn.ensures at c.why.ensures.why) c.if-is_whole.true
-          c.in_ok-is_whole.ensures.drives
-          c.into_fetched.ensures.ok c.into_fetched.ensures.none;
-      cut_off = fetched_not_cut c.into_fetched.result _ c.into_fetched.ensures.err;
-      failures = c.in_ok-is_whole.ensures.failures ∙ fails_none Fetched _ errors.NoProgress
-          c.into_fetched.result refl c.into_fetched.ensures.err;
-    }
+pub returns-in-Ok-true : goal.returns-in-Ok-true
+returns-in-Ok-true g c = record {
+  fetches = drive_whole _ _ c.drive-driven.new.machine c.args.config.in_range
+      c.in_ok-fetcher.ensures.unfinished c.in_ok-fetcher.ensures.ok c.in-Ok-true.field-0
+      c.into_fetched.result _ (rw c.conn.ensures at c.why.ensures.why) c.in-Ok-true.field-0-test
+      c.in-Ok-true.ensures.drives c.into_fetched.ensures.ok c.into_fetched.ensures.none;
+  cut_off = fetched_not_cut c.into_fetched.result _ c.into_fetched.ensures.err;
+  failures = c.in-Ok-true.ensures.failures ∙ fails_none Fetched _ errors.NoProgress
+      c.into_fetched.result refl c.into_fetched.ensures.err;
+}
 
-pub returns-clause-fetches : goal.returns-clause-fetches
-returns-clause-fetches g c =
+pub returns-in-Ok-false-clause-fetches : goal.returns-in-Ok-false-clause-fetches
+returns-in-Ok-false-clause-fetches g c =
     drive_cut_off _ _ c.drive-driven.new.machine c.args.config.in_range
-    c.in_ok-fetcher.ensures.unfinished
-    c.in_ok-fetcher.ensures.ok c.in_ok-is_whole.is_whole _
-    (rw c.conn.ensures at c.why.ensures.why) c.if-is_whole.false
-    c.in_ok-is_whole.ensures.drives
+    c.in_ok-fetcher.ensures.unfinished c.in_ok-fetcher.ensures.ok c.in-Ok-false.field-0 _
+    (rw c.conn.ensures at c.why.ensures.why) c.in-Ok-false.field-0-test
+    c.in-Ok-false.ensures.drives
 
-pub returns-clause-cut_off : goal.returns-clause-cut_off
-returns-clause-cut_off g c =
-    met c.in_ok-is_whole.is_whole _ c.if-is_whole.false c.in_ok-is_whole.ensures.ended
+pub returns-in-Ok-false-clause-cut_off : goal.returns-in-Ok-false-clause-cut_off
+returns-in-Ok-false-clause-cut_off g c =
+    met c.in-Ok-false.field-0 _ c.in-Ok-false.field-0-test c.in-Ok-false.ensures.ended

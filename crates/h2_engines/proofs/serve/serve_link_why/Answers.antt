@@ -35,12 +35,12 @@ returns g c =
     c.in_ok-driven.ensures.ended in
     record {
       serves = finish_serves _ _ c.drive-driven.new.machine c.in_ok-responder.ensures.alone
-          c.in_ok-driven.field-0 c.finish.result _
+          c.in_ok-driven.field-0 c.finish-finished.result _
           (rw c.conn.ensures at c.why.ensures.why) c.in_ok-driven.ensures.drives
-          c.finish.ensures.finishes;
-      ended = ends_at_end c.finish.result ended;
-      cut_off = cuts_at_end c.finish.result ended;
+          c.finish-finished.ensures.finishes;
+      ended = ends_at_end c.finish-finished.result ended;
+      cut_off = cuts_at_end c.finish-finished.result ended;
       failures = c.in_ok-driven.ensures.failures
-          ∙ fails_none ℕ _ errors.CutOff c.finish.result refl c.finish.ensures.err;
-      err = errs_cut c.finish.result c.finish.ensures.err;
+          ∙ fails_none ℕ _ errors.CutOff c.finish-finished.result refl c.finish-finished.ensures.err;
+      err = errs_cut c.finish-finished.result c.finish-finished.ensures.err;
     }

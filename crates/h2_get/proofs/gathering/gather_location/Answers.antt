@@ -19,4 +19,4 @@ returns-in-Err-begin_fetch-clause-gathers g c =
 pub returns-clause-gathers : goal.returns-clause-gathers
 returns-clause-gathers g c =
     is_gathered c.in-Ok-begin_fetch.fetch _ _
-    (rw c.window_of.ensures at c.in-Ok-begin_fetch.ensures.ok) c.gather_with_hint.ensures.gathers
+    (rw c.window_of.ensures at c.in-Ok-begin_fetch.ensures.ok) c.gather_with_hint-gathered.ensures.gathers

@@ -12,5 +12,5 @@ returns-then-not-options g c =
 pub returns : goal.returns
 returns g c =
     over_some_link (asked_by c.args.options.now) c.args.begun.now.ids.items _ _
-    c.args.begun.now.fetch _ _ _ c.stream_several-2.result
-    (rw c.deref-2.ensures.value at c.stream_several-2.ensures)
+    c.args.begun.now.fetch _ _ _ c.stream_several-streamed.result
+    (rw c.deref-2.ensures.value at c.stream_several-streamed.ensures)

@@ -6,6 +6,8 @@ use Rattle.h2_get.specs.Asking.{RefusesOne}
 use Rattle.h2_get.specs.Several.{are_streamed, none_connected, one_refused, results_lost}
 use Rattle.h2_args.specs.Words.{asked_by}
 use Rattle.h2_get.specs.Windows.{IsNotWidened, several_values, window_of}
+use Rattle.h2_get.proofs.several_locations.stream_locations.Goals.{in-Ok-several_over}
+use Rattle.h2_get.proofs.several_locations.stream_locations.Goals.{in-Err-several_over}
 use Rattle.h2_get.proofs.several_locations.stream_locations.Goals as goal
 
 pub returns-in-Err : goal.returns-in-Err
@@ -22,11 +24,11 @@ returns-in-Err-begin_several g c =
     (sym (length-map c.args.messages.items message_value))
     (rw c.window_of.ensures at c.in-Err-begin_several.ensures.refused)) refl)
 
-pub returns-in-Ok-several_over : goal.returns-in-Ok-several_over
-returns-in-Ok-several_over g c =
-    rw c.end_several.ensures.results
-    (are_streamed c.in-Ok-begin_several.begun.ids.items c.in-Ok-begin_several.begun.fetch _ _
-    (rw c.window_of.ensures at c.in-Ok-begin_several.ensures.ok) c.in-Ok-several_over.ensures)
-
 pub returns : goal.returns
-returns g c = rw c.of_error-in-Err-several_over.ensures.error results_lost
+returns g c = elim c.match-several_over.branch [
+  | in-Ok-several_over w ↦ rw (w.streamed-is, w.end_several.ensures.results)
+      (are_streamed c.in-Ok-begin_several.begun.ids.items c.in-Ok-begin_several.begun.fetch _ _
+      (rw c.window_of.ensures at c.in-Ok-begin_several.ensures.ok) w.in-Ok-several_over.ensures)
+  | in-Err-several_over w ↦ rw (w.streamed-is, w.of_error-in-Err-several_over.ensures.error)
+      results_lost
+]

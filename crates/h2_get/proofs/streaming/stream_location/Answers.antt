@@ -19,4 +19,4 @@ returns-in-Err-begin_fetch g c =
 pub returns : goal.returns
 returns g c =
     is_streamed c.in-Ok-begin_fetch.fetch _ _
-    (rw c.window_of.ensures at c.in-Ok-begin_fetch.ensures.ok) c.stream_with_hint.ensures.streams
+    (rw c.window_of.ensures at c.in-Ok-begin_fetch.ensures.ok) c.stream_with_hint-streamed.ensures.streams

@@ -26,6 +26,10 @@ returns-in-Nothing-clause-run g c =
     other_turn _ _ _ _ _ _ _ _ _ _ _ _ tt c.own_step-in-Nothing.ensures.answers.1
     c.in-Nothing.ensures.gives c.in-Nothing.ensures.takes_none
 
+pub returns-in-Interrupted-clause-run : goal.returns-in-Interrupted-clause-run
+returns-in-Interrupted-clause-run g c =
+    no_turn _ _ _ _ _ _ _ _ _ c.in-Interrupted.ensures.gives c.in-Interrupted.ensures.takes_none
+
 pub returns-in-Ended-clause-run : goal.returns-in-Ended-clause-run
 returns-in-Ended-clause-run g c =
     other_turn _ _ _ _ _ _ _ _ _ _ _ _ tt c.own_step-in-Ended.ensures.answers.1

@@ -7,8 +7,8 @@ pub returns : goal.returns
 returns c =
     record {
       joint = begins c.args.client.in_range c.args.server.in_range;
-      client_represents = c.in-Ok-Ok.ensures.ok;
-      server_represents = c.in-Ok-Ok.ensures'.ok;
+      client_represents = c.in-Ok.ensures.ok;
+      server_represents = c.in-Ok-new.ensures.ok;
       client_kept = c.new-3.ensures roles.Client (values_of c.args.client);
       server_kept = c.new-4.ensures roles.Server (values_of c.args.server);
     }

@@ -6,7 +6,7 @@ use Rattle.h2_server.specs.Phases.{is_phase_down, is_phase_over}
 use Rattle.h2_server.proofs.FailingPhase.{call_failing}
 use Rattle.h2_server.proofs.ConnectionSteps.{own_gives, own_same, own_then}
 use Rattle.h2_server.proofs.GoneOutput.{gone_size, removed_gives, unremoved_gives}
-use Rattle.h2_server.proofs.TurnsMade.{removed_up, wrote_none, wrote_refused, wrote_some}
+use Rattle.h2_server.proofs.TurnsMade.{never_err, removed_up, wrote_none, wrote_refused, wrote_some}
 use Rattle.h2_server.proofs.connection.Connection.remove.Goals as goal
 
 pub returns-then-is_over-clause-makes : goal.returns-then-is_over-clause-makes
@@ -80,6 +80,11 @@ returns-clause-wrote g c =
     c.consume.result (sym c.is_err.ensures.value ∙ c.if-is_err.false)
     c.consume.ensures.answers queued c.min-gone.ensures) refl refl
     (call_failing _ _ _ _ c.consume.ensures.answers (λ is. is)))
+
+pub returns-then-is_err-clause-stays : goal.returns-then-is_err-clause-stays
+returns-then-is_err-clause-stays g c (values, log, is, ready) =
+    never_err c.consume.result (sym c.is_err.ensures.value ∙ c.if-is_err.true)
+    (c.consume.ensures.room values log is ready)
 
 pub returns-clause-up : goal.returns-clause-up
 returns-clause-up g c =

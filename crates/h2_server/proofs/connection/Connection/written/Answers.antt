@@ -9,7 +9,7 @@ returns-clause-calls g c = let (gone, makes, gives, watch) = c.take_away.ensures
   makes = own_makes _ _ makes;
   gives = gives;
   over = λ is. refused_over _ _ is c.take_away.ensures.phase;
-  made = λ is. c.take_away.ensures.phase;
+  made = λ is. (c.take_away.ensures.phase, c.take_away.ensures.stays);
   refused = λ is. tt;
   idle = tt;
   late = tt;

@@ -1,5 +1,10 @@
-use Rattle.h2_server.proofs.StepsMade.{then_handles}
+use Rattle.h2_server.specs.Exchanges.{handling_of}
+use Rattle.h2_server.proofs.StepsMade.{nothing_handles, then_handles}
 use Rattle.h2_server.proofs.exchanges.Exchanges.answer.Goals as goal
+
+pub returns-then-not-has_answer : goal.returns-then-not-has_answer
+returns-then-not-has_answer g c =
+    nothing_handles c.args.server.now.end (handling_of c.args.self.now)
 
 pub returns-in_err-give_instead : goal.returns-in_err-give_instead
 returns-in_err-give_instead g c = then_handles c.give_next.ensures c.give_instead.ensures
